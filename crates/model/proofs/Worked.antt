@@ -1,0 +1,33 @@
+-- The worked programs of document 01, proved together: one theorem over the table of examples, and the circuit of PAIRS byte for byte.
+use Prim.Native.Nat.{ℕ}
+use mathlib.Core.Path.{_≡_, refl}
+use mathlib.Core.List.{List, [], _∷_, map}
+use Rattle.model.specs.Examples.{Example, examples, pairs, pairsCircuit}
+use Rattle.model.specs.Reading.{andThen, provided, byteOf, signed16, numberOf, numbers, removals, procedure, statementKind, conditionKind, optional, fields, known, opening, contents, two, conditionOf, condition, statementOf, statement, statements, trees, readTable}
+use Rattle.model.specs.Reading as reading
+use Rattle.model.specs.Lists.{range, delete, remove, removeAll, holds, member}
+use Rattle.model.specs.Faults.{callFaults, faults, callFaultsWithin, programFaults}
+use Rattle.model.specs.Meaning.{update, flipped, stateOf, digit, wordFrom, callDoes, does, callDoesWithin, endState, endWord}
+use Rattle.model.specs.Reach.{calls, reachesBelow, isEmpty, lacksRemoval, width, anyBody, anyLacksRemoval, anyTooWide}
+use Rattle.model.specs.Gates.{insert, asking, swapOf, exchange}
+use Rattle.model.specs.Emission.{startChain, whole, invoked, invocations, invokes, returns, left, right, swaps, entryGates, samePair, allEntryGates, around, bodies, bodiesFrom, chainsWithin, emission, gates, below, inUse, peak}
+use Rattle.model.specs.Circuit.{listBit, listBytes, encode, encodeAll, fourBytes, write}
+use Rattle.model.specs.Answers.{Outcome, gives, after, require, outcome, number, valueOr, accepted, run, fit, fitted, circuit, compile}
+
+pub record Result : Type 0 where
+  pub number : ℕ
+  pub endWord : ℕ
+
+abbrev pub said : Example → Result
+said e = record { number = e .number; endWord = e .endWord }
+
+abbrev pub computed : Example → Result
+computed e = record { number = number (run (e .table) (e .n) (e .word) 32768); endWord = valueOr 0 (run (e .table) (e .n) (e .word) 32768) }
+
+pub worked : map computed examples ≡ map said examples
+unfolding andThen provided byteOf signed16 numberOf reading.number numbers removals procedure statementKind conditionKind optional fields known opening contents two conditionOf condition statementOf statement statements trees readTable range delete remove removeAll holds member callFaults faults callFaultsWithin programFaults update flipped stateOf digit wordFrom callDoes does callDoesWithin endState endWord calls reachesBelow isEmpty lacksRemoval width anyBody anyLacksRemoval anyTooWide after require outcome number valueOr accepted run
+worked = refl
+
+pub pairs-circuit : compile pairs 3 65536 32768 ≡ gives pairsCircuit
+unfolding andThen provided byteOf signed16 numberOf reading.number numbers removals procedure statementKind conditionKind optional fields known opening contents two conditionOf condition statementOf statement statements trees readTable range delete remove removeAll holds member callFaults faults callFaultsWithin programFaults calls reachesBelow isEmpty lacksRemoval width anyBody anyLacksRemoval anyTooWide insert asking swapOf exchange startChain whole invoked invocations invokes returns left right swaps entryGates samePair allEntryGates around bodies bodiesFrom chainsWithin emission gates below inUse peak listBit listBytes encode encodeAll fourBytes write after require outcome accepted fit fitted circuit compile
+pairs-circuit = refl

@@ -1,0 +1,14 @@
+pub mod Limits
+pub mod Syntax
+pub mod Reading
+pub mod Lists
+pub mod Faults
+pub mod Meaning
+pub mod Reach
+pub mod Rules
+pub mod Gates
+pub mod Emission
+pub mod Circuit
+pub mod Bound
+pub mod Answers
+pub mod Examples
