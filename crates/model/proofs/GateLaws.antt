@@ -1,0 +1,269 @@
+-- What a gate does: it fires or changes nothing, it undoes itself, and it leaves every wire but its targets alone.
+use mathlib.Core.Path.{_≡_, refl, sym, ap, _∙_, fun-ext}
+use mathlib.Core.Logic.{_≢_}
+use mathlib.Core.Bool.{Bool, true, false, not, _&&_, _||_, true≢false}
+use mathlib.Core.List.{List, [], _∷_, _++_, reverse, reverse-cons}
+use Prim.Native.Nat.{ℕ, zero, suc, min, max}
+use native.Mathlib.Omega.{arith}
+use borrow.Author.Tests.{ne-eqb, eqb-true}
+use lib.Dec.{eqb, ltb}
+use Rattle.model.specs.Lists.{member}
+use Rattle.model.specs.Meaning.{State, update, flipped}
+use Rattle.model.specs.Gates.{Controls, noControls, insert, asking, Gate, flip, swap, swapOf, exchange, renamed, allOne, allZero, fires, act, acts}
+use Rattle.model.proofs.Tests.{byBool, byEq, byLt, eqb-same, not-not, and-left, and-right, or-cases, or-left, or-right, or-false, or-false-left, or-false-right}
+use Rattle.model.proofs.ListLaws.{member-head, member-tail, member-nil, member-cases, member-skip, member-differs, not-head, not-tail, not-in-nil}
+
+-- one bit of a state
+update-same : (s : State) (w : ℕ) (b : Bool) → update s w b w ≡ b
+unfolding update
+update-same s w b = rw (eqb-same w, update)
+
+update-other : (s : State) (w : ℕ) (b : Bool) (v : ℕ) → v ≢ w → update s w b v ≡ s v
+unfolding update
+update-other s w b v h = rw (ne-eqb v w h, update)
+
+pub flipped-same : (s : State) (w : ℕ) → flipped w s w ≡ not (s w)
+unfolding flipped
+flipped-same s w = update-same s w (not (s w))
+
+pub flipped-other : (s : State) (w v : ℕ) → v ≢ w → flipped w s v ≡ s v
+unfolding flipped
+flipped-other s w v h = update-other s w (not (s w)) v h
+
+pub flipped-twice : (s : State) (w : ℕ) → flipped w (flipped w s) ≡ s
+flipped-twice s w = fun-ext (λ v. byEq v w
+    (λ e. rw e (rw (flipped-same (flipped w s) w, flipped-same s w) (not-not (s w))))
+    (λ n. flipped-other (flipped w s) w v n ∙ flipped-other s w v n))
+
+-- two wires exchanged
+pub exchange-left : (u v : ℕ) → exchange u v u ≡ v
+unfolding exchange
+exchange-left u v = rw (eqb-same u, exchange)
+
+pub exchange-right : (u v : ℕ) → exchange u v v ≡ u
+unfolding exchange
+exchange-right u v = byEq v u (λ e. rw e (exchange-left u u)) (λ n. rw (ne-eqb v u n, exchange) (rw (eqb-same v)))
+
+pub exchange-other : (u v w : ℕ) → w ≢ u → w ≢ v → exchange u v w ≡ w
+unfolding exchange
+exchange-other u v w hu hv = rw (ne-eqb w u hu, exchange) (rw (ne-eqb w v hv))
+
+pub exchange-twice : (u v w : ℕ) → exchange u v (exchange u v w) ≡ w
+exchange-twice u v w = byEq w u
+    (λ e. rw (e, exchange-left u v) (exchange-right u v))
+    (λ nu. byEq w v
+        (λ e. rw (e, exchange-right u v) (exchange-left u v))
+        (λ nv. rw (exchange-other u v w nu nv) (exchange-other u v w nu nv)))
+
+pub exchange-sym : (u v w : ℕ) → exchange u v w ≡ exchange v u w
+exchange-sym u v w = byEq w u
+    (λ e. rw (e, exchange-left u v) (sym (exchange-right v u)))
+    (λ nu. byEq w v
+        (λ e. rw (e, exchange-right u v) (sym (exchange-left v u)))
+        (λ nv. rw (exchange-other u v w nu nv) (sym (exchange-other v u w nv nu))))
+
+pub renamed-at : (π : ℕ → ℕ) (s : State) (w : ℕ) → renamed π s w ≡ s (π w)
+unfolding renamed
+renamed-at π s w = refl
+
+pub renamed-twice : (u v : ℕ) (s : State) → renamed (exchange u v) (renamed (exchange u v) s) ≡ s
+unfolding renamed
+renamed-twice u v s = fun-ext (λ w. ap s (exchange-twice u v w))
+
+-- the wires that controls ask
+unfoldable pub asks : Controls → ℕ → Bool
+asks cs w = member w (cs .ones) || member w (cs .zeros)
+
+pub asks-none : (w : ℕ) → asks noControls w ≡ false
+unfolding asks
+asks-none w = rw (member-nil w)
+
+insert-cases {ℓ} : {A : Type ℓ} (w v : ℕ) (l : List ℕ) → member v (insert w l) ≡ true → (v ≡ w → A) → (member v l ≡ true → A) → A
+unfolding insert
+insert-cases w v [] h f g = member-cases v w [] h f g
+insert-cases {A = A} w v (x ∷ l) h f g = byBool (ltb w x)
+    (λ e. member-cases v w (x ∷ l) (rw (e, insert) at h) f g)
+    (λ e. member-cases v x (insert w l) (rw (e, insert) at h)
+      (λ q. g (rw q (member-head x l)))
+      (λ m. insert-cases w v l m f (λ i. g (member-tail v x l i))))
+
+pub asks-cases {ℓ} : {A : Type ℓ} (w : ℕ) (b : Bool) (cs : Controls) (v : ℕ) → asks (asking w b cs) v ≡ true → (v ≡ w → A) → (asks cs v ≡ true → A) → A
+unfolding asks asking
+asks-cases w true cs v h f g = or-cases (member v (insert w (cs .ones))) (member v (cs .zeros)) h
+    (λ m. insert-cases w v (cs .ones) m f (λ i. g (or-left (member v (cs .ones)) (member v (cs .zeros)) i)))
+    (λ m. g (or-right (member v (cs .ones)) (member v (cs .zeros)) m))
+asks-cases w false cs v h f g = or-cases (member v (cs .ones)) (member v (insert w (cs .zeros))) h
+    (λ m. g (or-left (member v (cs .ones)) (member v (cs .zeros)) m))
+    (λ m. insert-cases w v (cs .zeros) m f (λ i. g (or-right (member v (cs .ones)) (member v (cs .zeros)) i)))
+
+-- whether controls fire goes by the wires that they ask
+allOne-same : (l : List ℕ) (s t : State) → ((w : ℕ) → member w l ≡ true → s w ≡ t w) → allOne l s ≡ allOne l t
+unfolding allOne
+allOne-same [] s t h = refl
+allOne-same (x ∷ l) s t h = rw (h x (member-head x l), allOne-same l s t (λ w m. h w (member-tail w x l m)))
+
+allZero-same : (l : List ℕ) (s t : State) → ((w : ℕ) → member w l ≡ true → s w ≡ t w) → allZero l s ≡ allZero l t
+unfolding allZero
+allZero-same [] s t h = refl
+allZero-same (x ∷ l) s t h = rw (h x (member-head x l), allZero-same l s t (λ w m. h w (member-tail w x l m)))
+
+pub fires-same : (cs : Controls) (s t : State) → ((w : ℕ) → asks cs w ≡ true → s w ≡ t w) → fires cs s ≡ fires cs t
+unfolding fires asks
+fires-same cs s t h = rw (
+    allOne-same (cs .ones) s t (λ w m. h w (or-left (member w (cs .ones)) (member w (cs .zeros)) m)),
+    allZero-same (cs .zeros) s t (λ w m. h w (or-right (member w (cs .ones)) (member w (cs .zeros)) m)))
+
+asked-differs : (cs : Controls) (w v : ℕ) → asks cs w ≡ true → asks cs v ≡ false → w ≢ v
+asked-differs cs w v h n e = true≢false (sym h ∙ ap (asks cs) e ∙ n)
+
+pub fires-flipped : (cs : Controls) (s : State) (t : ℕ) → asks cs t ≡ false → fires cs (flipped t s) ≡ fires cs s
+fires-flipped cs s t n = fires-same cs (flipped t s) s (λ w m. flipped-other s t w (asked-differs cs w t m n))
+
+pub fires-renamed : (cs : Controls) (s : State) (u v : ℕ) → asks cs u ≡ false → asks cs v ≡ false → fires cs (renamed (exchange u v) s) ≡ fires cs s
+unfolding renamed
+fires-renamed cs s u v nu nv = fires-same cs (renamed (exchange u v) s) s
+    (λ w m. ap s (exchange-other u v w (asked-differs cs w u m nu) (asked-differs cs w v m nv)))
+
+-- one control more
+allOne-insert : (w : ℕ) (l : List ℕ) (s : State) → allOne (insert w l) s ≡ s w && allOne l s
+unfolding insert allOne
+allOne-insert w [] s = refl
+allOne-insert w (x ∷ l) s = byBool (ltb w x)
+    (λ e. rw (e, insert) refl)
+    (λ e. rw (e, insert) (rw (allOne-insert w l s) (exchanged (s w) (s x) (allOne l s))))
+  where
+    exchanged : (a b c : Bool) → b && (a && c) ≡ a && (b && c)
+    exchanged true true c = refl
+    exchanged true false c = refl
+    exchanged false true c = refl
+    exchanged false false c = refl
+
+allZero-insert : (w : ℕ) (l : List ℕ) (s : State) → allZero (insert w l) s ≡ not (s w) && allZero l s
+unfolding insert allZero
+allZero-insert w [] s = refl
+allZero-insert w (x ∷ l) s = byBool (ltb w x)
+    (λ e. rw (e, insert) refl)
+    (λ e. rw (e, insert) (rw (allZero-insert w l s) (exchanged (not (s w)) (not (s x)) (allZero l s))))
+  where
+    exchanged : (a b c : Bool) → b && (a && c) ≡ a && (b && c)
+    exchanged true true c = refl
+    exchanged true false c = refl
+    exchanged false true c = refl
+    exchanged false false c = refl
+
+pub fires-none : (s : State) → fires noControls s ≡ true
+unfolding fires allOne allZero
+fires-none s = refl
+
+-- it fires where the wire holds the bit asked for and the others fire
+pub fires-hit : (w : ℕ) (b : Bool) (cs : Controls) (s : State) → s w ≡ b → fires (asking w b cs) s ≡ fires cs s
+unfolding fires asking
+fires-hit w true cs s e = rw (allOne-insert w (cs .ones) s, e)
+fires-hit w false cs s e = rw (allZero-insert w (cs .zeros) s, e)
+
+pub fires-miss : (w : ℕ) (b : Bool) (cs : Controls) (s : State) → s w ≡ not b → fires (asking w b cs) s ≡ false
+unfolding fires asking
+fires-miss w true cs s e = rw (allOne-insert w (cs .ones) s, e)
+fires-miss w false cs s e = rw (allZero-insert w (cs .zeros) s, e) (last (allOne (cs .ones) s))
+  where
+    last : (a : Bool) → a && false ≡ false
+    last true = refl
+    last false = refl
+
+-- controls that do not fire do not with one more
+pub fires-fewer : (w : ℕ) (b : Bool) (cs : Controls) (s : State) → fires cs s ≡ false → fires (asking w b cs) s ≡ false
+fires-fewer w b cs s h = byBool (s w)
+    (λ e. go b e)
+    (λ e. back b e)
+  where
+    go : (b : Bool) → s w ≡ true → fires (asking w b cs) s ≡ false
+    go true e = fires-hit w true cs s e ∙ h
+    go false e = fires-miss w false cs s e
+    back : (b : Bool) → s w ≡ false → fires (asking w b cs) s ≡ false
+    back true e = fires-miss w true cs s e
+    back false e = fires-hit w false cs s e ∙ h
+
+-- a gate that fires, and one that does not
+pub flip-fires : (cs : Controls) (t : ℕ) (s : State) → fires cs s ≡ true → act (flip cs t) s ≡ flipped t s
+unfolding act
+flip-fires cs t s h = rw (h, act)
+
+pub flip-rests : (cs : Controls) (t : ℕ) (s : State) → fires cs s ≡ false → act (flip cs t) s ≡ s
+unfolding act
+flip-rests cs t s h = rw (h, act)
+
+swap-fires : (cs : Controls) (u v : ℕ) (s : State) → fires cs s ≡ true → act (swap cs u v) s ≡ renamed (exchange u v) s
+unfolding act
+swap-fires cs u v s h = rw (h, act)
+
+swap-rests : (cs : Controls) (u v : ℕ) (s : State) → fires cs s ≡ false → act (swap cs u v) s ≡ s
+unfolding act
+swap-rests cs u v s h = rw (h, act)
+
+-- a swap of two wires in either order
+exchange-ordered : (u v : ℕ) (s : State) → renamed (exchange (min u v) (max u v)) s ≡ renamed (exchange u v) s
+unfolding renamed
+exchange-ordered u v s = byLt v u
+    (λ h. let p : min u v ≡ v = omega arith in let q : max u v ≡ u = omega arith in rw (p, q) (fun-ext (λ w. ap s (exchange-sym v u w))))
+    (λ h. let p : min u v ≡ u = omega arith in let q : max u v ≡ v = omega arith in rw (p, q))
+
+pub swapOf-fires : (cs : Controls) (u v : ℕ) (s : State) → fires cs s ≡ true → act (swapOf cs u v) s ≡ renamed (exchange u v) s
+unfolding swapOf
+swapOf-fires cs u v s h = swap-fires cs (min u v) (max u v) s h ∙ exchange-ordered u v s
+
+pub swapOf-rests : (cs : Controls) (u v : ℕ) (s : State) → fires cs s ≡ false → act (swapOf cs u v) s ≡ s
+unfolding swapOf
+swapOf-rests cs u v s h = swap-rests cs (min u v) (max u v) s h
+
+-- the wires that a gate can change
+unfoldable pub targets : Gate → List ℕ
+targets (flip cs t) = t ∷ []
+targets (swap cs u v) = u ∷ v ∷ []
+
+pub act-frame : (g : Gate) (s : State) (w : ℕ) → member w (targets g) ≡ false → act g s w ≡ s w
+unfolding targets
+act-frame (flip cs t) s w n = byBool (fires cs s)
+    (λ h. rw (flip-fires cs t s h) (flipped-other s t w (not-head w t [] n)))
+    (λ h. rw (flip-rests cs t s h))
+act-frame (swap cs u v) s w n = byBool (fires cs s)
+    (λ h. rw (swap-fires cs u v s h, renamed-at)
+      (ap s (exchange-other u v w (not-head w u (v ∷ []) n) (not-head w v [] (not-tail w u (v ∷ []) n)))))
+    (λ h. rw (swap-rests cs u v s h))
+
+-- a gate that asks none of its targets
+abbrev pub Clear : Gate → Type 0
+Clear (flip cs t) = asks cs t ≡ false
+Clear (swap cs u v) = (asks cs u ≡ false) × (asks cs v ≡ false)
+
+pub act-twice : (g : Gate) (s : State) → Clear g → act g (act g s) ≡ s
+act-twice (flip cs t) s n = byBool (fires cs s)
+    (λ h. rw (flip-fires cs t s h, flip-fires cs t (flipped t s) (fires-flipped cs s t n ∙ h)) (flipped-twice s t))
+    (λ h. rw (flip-rests cs t s h) (flip-rests cs t s h))
+act-twice (swap cs u v) s n = byBool (fires cs s)
+    (λ h. rw (swap-fires cs u v s h, swap-fires cs u v (renamed (exchange u v) s) (fires-renamed cs s u v (n .0) (n .1) ∙ h)) (renamed-twice u v s))
+    (λ h. rw (swap-rests cs u v s h) (swap-rests cs u v s h))
+
+-- gates in order
+pub acts-nil : (s : State) → acts [] s ≡ s
+unfolding acts
+acts-nil s = refl
+
+pub acts-cons : (g : Gate) (gs : List Gate) (s : State) → acts (g ∷ gs) s ≡ acts gs (act g s)
+unfolding acts
+acts-cons g gs s = refl
+
+pub acts-append : (xs ys : List Gate) (s : State) → acts (xs ++ ys) s ≡ acts ys (acts xs s)
+unfolding acts
+acts-append [] ys s = refl
+acts-append (x ∷ xs) ys s = acts-append xs ys (act x s)
+
+abbrev pub AllClear : List Gate → Type 0
+AllClear [] = Unit {0}
+AllClear (g ∷ gs) = Clear g × AllClear gs
+
+-- gates in reverse undo the gates
+pub acts-reverse : (gs : List Gate) (s : State) → AllClear gs → acts (reverse gs) (acts gs s) ≡ s
+unfolding acts
+acts-reverse [] s c = refl
+acts-reverse (g ∷ gs) s c =
+    rw (reverse-cons g gs, acts-append (reverse gs) (g ∷ []) (acts gs (act g s)), acts-reverse gs (act g s) (c .1)) (act-twice g s (c .0))

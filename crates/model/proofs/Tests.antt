@@ -1,0 +1,85 @@
+-- Splitting on computed tests, and the few facts of Bool that the proofs need beside those of borrow.Author.Tests.
+use Prim.Native.Nat.{ℕ, _≤_, _<_}
+use mathlib.Core.Path.{_≡_, refl, sym}
+use mathlib.Core.Logic.{_≢_}
+use mathlib.Core.Bool.{Bool, true, false, not, _&&_, _||_, true≢false, false≢true}
+use lib.Dec.{eqb, ltb}
+use borrow.Author.Tests.{eqb-true, eqb-false, eq-eqb, ltb-true, ltb-false}
+
+-- split on a test, and keep what it says
+pub byBool {ℓ} : {A : Type ℓ} (b : Bool) → (b ≡ true → A) → (b ≡ false → A) → A
+byBool true f g = f refl
+byBool false f g = g refl
+
+-- split on two numbers being equal
+pub byEq {ℓ} : {A : Type ℓ} (m n : ℕ) → (m ≡ n → A) → (m ≢ n → A) → A
+byEq m n f g = byBool (eqb m n) (λ e. f (eqb-true m n e)) (λ e. g (eqb-false m n e))
+
+-- split on one number being less than another
+pub byLt {ℓ} : {A : Type ℓ} (m n : ℕ) → (m < n → A) → (n ≤ m → A) → A
+byLt m n f g = byBool (ltb m n) (λ e. f (ltb-true m n e)) (λ e. g (ltb-false m n e))
+
+pub eqb-same : (n : ℕ) → eqb n n ≡ true
+eqb-same n = eq-eqb n n refl
+
+-- a test cannot say both
+pub clash {ℓ} : {A : Type ℓ} {b : Bool} → b ≡ true → b ≡ false → A
+clash {b = true} p q = absurd (true≢false q)
+clash {b = false} p q = absurd (false≢true p)
+
+-- what is not true is false
+pub not-true-false : (b : Bool) → (b ≡ true → ⊥) → b ≡ false
+not-true-false b h = byBool b (λ e. absurd (h e)) (λ e. e)
+
+pub and-left : (a b : Bool) → a && b ≡ true → a ≡ true
+and-left true b e = refl
+and-left false b e = e
+
+pub and-right : (a b : Bool) → a && b ≡ true → b ≡ true
+and-right true b e = e
+and-right false b e = absurd (false≢true e)
+
+pub and-both : (a b : Bool) → a ≡ true → b ≡ true → a && b ≡ true
+and-both true b e f = f
+and-both false b e f = e
+
+pub and-false-left : (a b : Bool) → a ≡ false → a && b ≡ false
+and-false-left true b e = absurd (true≢false e)
+and-false-left false b e = refl
+
+pub and-false-right : (a b : Bool) → b ≡ false → a && b ≡ false
+and-false-right true b e = e
+and-false-right false b e = refl
+
+-- which half of a conjunction failed
+pub and-cases {ℓ} : {A : Type ℓ} (a b : Bool) → a && b ≡ false → (a ≡ false → A) → (a ≡ true → b ≡ false → A) → A
+and-cases true b e f g = g refl e
+and-cases false b e f g = f refl
+
+pub or-left : (a b : Bool) → a ≡ true → a || b ≡ true
+or-left true b e = refl
+or-left false b e = absurd (false≢true e)
+
+pub or-right : (a b : Bool) → b ≡ true → a || b ≡ true
+or-right true b e = refl
+or-right false b e = e
+
+pub or-cases {ℓ} : {A : Type ℓ} (a b : Bool) → a || b ≡ true → (a ≡ true → A) → (b ≡ true → A) → A
+or-cases true b e f g = f refl
+or-cases false b e f g = g e
+
+pub or-false : (a b : Bool) → a ≡ false → b ≡ false → a || b ≡ false
+or-false true b e f = e
+or-false false b e f = f
+
+pub or-false-left : (a b : Bool) → a || b ≡ false → a ≡ false
+or-false-left true b e = e
+or-false-left false b e = refl
+
+pub or-false-right : (a b : Bool) → a || b ≡ false → b ≡ false
+or-false-right true b e = absurd (true≢false e)
+or-false-right false b e = e
+
+pub not-not : (a : Bool) → not (not a) ≡ a
+not-not true = refl
+not-not false = refl
