@@ -1,0 +1,23 @@
+//! Seeded random FOQ programs, circuits and damage, for comparing one
+//! implementation of document 01 with another.
+//!
+//! Nothing here judges a program: the trees are written to bytes and handed
+//! on as bytes. One seed always gives the same row of programs.
+//!
+//! - [`Random`] is the source of chance.
+//! - [`tree`] holds the trees and [`tree::encode`].
+//! - [`programs`] makes programs that are mostly accepted and wild ones that
+//!   mostly are not.
+//! - [`circuits`] makes well-formed circuits.
+//! - [`damage`] spoils bytes.
+
+#![deny(clippy::unwrap_used, clippy::expect_used, clippy::panic)]
+
+pub mod circuits;
+pub mod damage;
+pub mod programs;
+pub mod tree;
+
+mod random;
+
+pub use random::Random;

@@ -1,0 +1,30 @@
+//! A second interpreter of FOQ tables, written from document 01 alone.
+//!
+//! It is slow and plain on purpose. Its modules follow the order of the
+//! document: the program table, its meaning, access faults, calls and width,
+//! the emission, the circuit, the refusals with their order, and the listing.
+//! Words in quotation marks in the comments are the document's own.
+
+#![deny(clippy::unwrap_used, clippy::expect_used, clippy::panic)]
+
+mod table;
+
+mod calls;
+mod circuit;
+mod emission;
+mod fault;
+mod listing;
+mod meaning;
+mod operations;
+
+pub mod refusal;
+
+pub use calls::gate_bound;
+pub use circuit::{
+    circuit_bytes, circuit_run, read_circuit, Action, Block, Circuit, Control, Gate,
+    LONGEST_CIRCUIT,
+};
+pub use emission::{emission, Emission, Tally};
+pub use listing::listing;
+pub use operations::{compile, plain_verdict, run, verdict, SHORTEST_WORKSPACE};
+pub use table::{read_table, Condition, Number, Program, Statement};

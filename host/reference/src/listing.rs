@@ -1,0 +1,47 @@
+//! Document 01, "Worked programs": what the listing program prints.
+
+use crate::circuit::{read_circuit, Action, Circuit, Control, Gate, LONGEST_CIRCUIT};
+use crate::operations::{compile, SHORTEST_WORKSPACE};
+
+/// "The listing program reads the byte n and then a table on standard input,
+/// and lends compile a room of 65,536 bytes. Empty input counts as n = 0. A
+/// refusal prints its number alone." Every line ends with a newline.
+#[must_use]
+pub fn listing(input: &[u8]) -> Vec<u8> {
+    let (n, table) = match input.split_first() {
+        Some((&n, table)) => (n, table),
+        None => (0, input),
+    };
+    let bytes = compile(table, u32::from(n), LONGEST_CIRCUIT, SHORTEST_WORKSPACE);
+    let lines = match bytes.and_then(|bytes| read_circuit(&bytes)) {
+        Ok(circuit) => circuit_lines(&circuit),
+        Err(refusal) => format!("{refusal}\n"),
+    };
+    lines.into_bytes()
+}
+
+/// "Otherwise the first line is n, ancillas, size"; then the gates, numbered
+/// from 1.
+fn circuit_lines(circuit: &Circuit) -> String {
+    let Circuit { n, ancillas, gates } = circuit;
+    let mut lines = format!("{n} {ancillas} {}\n", gates.len());
+    for (number, gate) in (1..).zip(gates) {
+        lines.push_str(&gate_line(number, gate));
+    }
+    lines
+}
+
+/// "then gate number, X or S, target (for a swap both, lower first), controls
+/// ascending (+ on 1, − on 0, printed as a hyphen)."
+fn gate_line(number: usize, gate: &Gate) -> String {
+    let mut line = match gate.action {
+        Action::Not { target } => format!("{number} X {target}"),
+        Action::Swap { lower, upper } => format!("{number} S {lower} {upper}"),
+    };
+    for Control { wire, asks } in &gate.controls {
+        let sign = if *asks { '+' } else { '-' };
+        line.push_str(&format!(" {sign}{wire}"));
+    }
+    line.push('\n');
+    line
+}

@@ -1,0 +1,110 @@
+//! Document 01, "Meaning": numbers, lists, conditions and the end word.
+
+use crate::table::{Condition, Number, Program, Statement};
+
+/// "Main's list is qubits 1 to n."
+pub(crate) fn main_list(n: u8) -> Vec<u8> {
+    (1..=n).collect()
+}
+
+/// The value of a number where the procedure's whole list has this size.
+pub(crate) fn value(number: Number, size: usize) -> i64 {
+    match number {
+        Number::Constant(constant) => i64::from(constant),
+        Number::SizePlus(constant) => size as i64 + i64::from(constant),
+    }
+}
+
+/// The index of a position, or none where it is "at or below zero, or past
+/// the end".
+fn index(position: i64, length: usize) -> Option<usize> {
+    let index = usize::try_from(position).ok()?.checked_sub(1)?;
+    (index < length).then_some(index)
+}
+
+/// "Removals go left to right, each from what the last one left. A position
+/// outside 1 to the length empties the list". `list` is the whole list, whose
+/// size the numbers use throughout.
+pub(crate) fn remaining(list: &[u8], removals: &[Number]) -> Vec<u8> {
+    let mut left = list.to_vec();
+    for &removal in removals {
+        match index(value(removal, list.len()), left.len()) {
+            Some(index) => {
+                left.remove(index);
+            }
+            None => left.clear(),
+        }
+    }
+    left
+}
+
+/// "NOT and qcase touch the entry at position a of the remaining list. A
+/// position at or below zero, or past the end, touches nothing".
+pub(crate) fn touched(list: &[u8], removals: &[Number], position: Number) -> Option<u8> {
+    let left = remaining(list, removals);
+    index(value(position, list.len()), left.len()).map(|index| left[index])
+}
+
+/// Whether a condition "holds for its numbers" with a whole list of this size.
+pub(crate) fn holds(condition: &Condition, size: usize) -> bool {
+    match condition {
+        Condition::Greater(a, b) => value(*a, size) > value(*b, size),
+        Condition::AtLeast(a, b) => value(*a, size) >= value(*b, size),
+        Condition::Equal(a, b) => value(*a, size) == value(*b, size),
+        Condition::And(first, second) => holds(first, size) && holds(second, size),
+        Condition::Or(first, second) => holds(first, size) || holds(second, size),
+        Condition::Not(inner) => !holds(inner, size),
+    }
+}
+
+/// "In a word, qubit i is bit i − 1, lowest bit 0."
+pub(crate) fn bit(qubit: u8) -> u64 {
+    1 << (qubit - 1)
+}
+
+/// "A run's end word is what main gives from its list and the start word."
+/// For an accepted program; its calls come to an end.
+pub(crate) fn end_word(program: &Program, n: u8, word: u64) -> u64 {
+    given(program, &program.main, &main_list(n), word)
+}
+
+/// "Each statement takes the whole list of its procedure (or of main) and a
+/// word, and gives a word."
+fn given(program: &Program, statement: &Statement, list: &[u8], word: u64) -> u64 {
+    match statement {
+        Statement::Skip => word,
+        Statement::Not { removals, position } => match touched(list, removals, *position) {
+            Some(qubit) => word ^ bit(qubit),
+            None => word,
+        },
+        Statement::Sequence(first, second) => {
+            let between = given(program, first, list, word);
+            given(program, second, list, between)
+        }
+        Statement::If { condition, yes, no } => {
+            let chosen = if holds(condition, list.len()) {
+                yes
+            } else {
+                no
+            };
+            given(program, chosen, list, word)
+        }
+        Statement::Qcase {
+            removals,
+            position,
+            zero,
+            one,
+        } => match touched(list, removals, *position) {
+            Some(qubit) if word & bit(qubit) == 0 => given(program, zero, list, word),
+            Some(_) => given(program, one, list, word),
+            None => word,
+        },
+        Statement::Call {
+            removals,
+            procedure,
+        } => match remaining(list, removals) {
+            left if left.is_empty() => word,
+            left => given(program, program.body(*procedure), &left, word),
+        },
+    }
+}
