@@ -1,8 +1,10 @@
--- The worked programs of document 01, proved together: one theorem over the table of examples, and the circuit of PAIRS byte for byte.
+-- The worked programs of document 01, proved together: one theorem over the table of examples, one over the order of refusals, and two circuits
+-- byte for byte.
 use Prim.Native.Nat.{ℕ}
 use mathlib.Core.Path.{_≡_, refl}
-use mathlib.Core.List.{List, [], _∷_, map}
-use Rattle.model.specs.Examples.{Example, examples, pairs, pairsCircuit}
+use mathlib.Core.List.{List, [], _∷_, _++_, map}
+use Rattle.model.specs.Limits.{mostCircuit, leastWorkspace}
+use Rattle.model.specs.Examples.{Example, examples, orders, pairs, pairsCircuit, needsSwap, swapCircuit}
 use Rattle.model.specs.Reading.{andThen, provided, byteOf, signed16, numberOf, numbers, removals, procedure, statementKind, conditionKind, optional, fields, known, opening, contents, two, conditionOf, condition, statementOf, statement, statements, trees, readTable}
 use Rattle.model.specs.Reading as reading
 use Rattle.model.specs.Lists.{range, delete, remove, removeAll, holds, member}
@@ -22,12 +24,13 @@ abbrev pub said : Example → Result
 said e = record { number = e .number; endWord = e .endWord }
 
 abbrev pub computed : Example → Result
-computed e = record { number = number (run (e .table) (e .n) (e .word) 32768); endWord = valueOr 0 (run (e .table) (e .n) (e .word) 32768) }
+computed e = record { number = number (run (e .table) (e .n) (e .word) (e .workspace)); endWord = valueOr 0 (run (e .table) (e .n) (e .word) (e .workspace)) }
 
-pub worked : map computed examples ≡ map said examples
+pub worked : map computed (examples ++ orders) ≡ map said (examples ++ orders)
 unfolding andThen provided byteOf signed16 numberOf reading.number numbers removals procedure statementKind conditionKind optional fields known opening contents two conditionOf condition statementOf statement statements trees readTable range delete remove removeAll holds member callFaults faults callFaultsWithin programFaults update flipped stateOf digit wordFrom callDoes does callDoesWithin endState endWord calls reachesBelow isEmpty lacksRemoval width anyBody anyLacksRemoval anyTooWide after require outcome number valueOr accepted run
 worked = refl
 
-pub pairs-circuit : compile pairs 3 65536 32768 ≡ gives pairsCircuit
+-- the circuit of PAIRS, and the circuit of a body that needs a swap
+pub circuits : map (λ (e : List ℕ × ℕ). compile (e .0) (e .1) mostCircuit leastWorkspace) ((pairs, 3) ∷ (needsSwap, 4) ∷ []) ≡ gives pairsCircuit ∷ gives swapCircuit ∷ []
 unfolding andThen provided byteOf signed16 numberOf reading.number numbers removals procedure statementKind conditionKind optional fields known opening contents two conditionOf condition statementOf statement statements trees readTable range delete remove removeAll holds member callFaults faults callFaultsWithin programFaults calls reachesBelow isEmpty lacksRemoval width anyBody anyLacksRemoval anyTooWide insert asking swapOf exchange startChain whole invoked invocations invokes returns left right swaps entryGates samePair allEntryGates around bodies bodiesFrom chainsWithin emission gates below inUse peak listBit listBytes encode encodeAll fourBytes write after require outcome accepted fit fitted circuit compile
-pairs-circuit = refl
+circuits = refl

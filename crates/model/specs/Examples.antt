@@ -1,6 +1,7 @@
 -- "Worked programs": the tables, and what document 01 says of them.
 use Prim.Native.Nat.{ℕ}
 use mathlib.Core.List.{List, [], _∷_}
+use Rattle.model.specs.Limits.{leastWorkspace}
 
 -- PAIRS (source 002, figure 2), 59 bytes
 abbrev pub pairs : List ℕ
@@ -50,16 +51,38 @@ needsSwap =
     ∷ 0x09 ∷ 0x05 ∷ 0x02 ∷ 0x00 ∷ 0x01 ∷ 0x00 ∷ 0x00 ∷ 0x02 ∷ 0x00 ∷ 0x01
     ∷ 0x02 ∷ 0x01 ∷ 0x00 ∷ 0x01 ∷ 0x00 ∷ []
 
--- a run of a table with a workspace of 32,768 bytes: the number and the end word that document 01 gives
+-- its circuit at n = 4: gates 5 and 7 are the swap of wires 2 and 3, just inside the shared body
+abbrev pub swapCircuit : List ℕ
+swapCircuit =
+    0x01 ∷ 0x04 ∷ 0x03 ∷ 0x0b ∷ 0x00 ∷ 0x00 ∷ 0x00
+    ∷ 0x00 ∷ 0x05
+    ∷ 0x03 ∷ 0x06 ∷ 0x01 ∷ 0x05 ∷ 0x01 ∷ 0x01
+    ∷ 0x01 ∷ 0x07 ∷ 0x02 ∷ 0x01 ∷ 0x05
+    ∷ 0x01 ∷ 0x06 ∷ 0x01 ∷ 0x07
+    ∷ 0x05 ∷ 0x02 ∷ 0x01 ∷ 0x07 ∷ 0x03
+    ∷ 0x01 ∷ 0x03 ∷ 0x01 ∷ 0x06
+    ∷ 0x05 ∷ 0x02 ∷ 0x01 ∷ 0x07 ∷ 0x03
+    ∷ 0x01 ∷ 0x06 ∷ 0x01 ∷ 0x07
+    ∷ 0x01 ∷ 0x07 ∷ 0x02 ∷ 0x01 ∷ 0x05
+    ∷ 0x03 ∷ 0x06 ∷ 0x01 ∷ 0x05 ∷ 0x01 ∷ 0x01
+    ∷ 0x00 ∷ 0x05 ∷ []
+
+-- a run of a table: the number and the end word that document 01 gives
 pub record Example : Type 0 where
   pub table : List ℕ
   pub n : ℕ
   pub word : ℕ
+  pub workspace : ℕ
   pub number : ℕ
   pub endWord : ℕ
 
 abbrev pub example : List ℕ → ℕ → ℕ → ℕ → ℕ → Example
-example table n word number endWord = record { table = table; n = n; word = word; number = number; endWord = endWord }
+example table n word number endWord =
+    record { table = table; n = n; word = word; workspace = leastWorkspace; number = number; endWord = endWord }
+
+-- a run that is refused, with no workspace at all
+abbrev pub refusal : List ℕ → ℕ → ℕ → ℕ → Example
+refusal table n word number = record { table = table; n = n; word = word; workspace = 0; number = number; endWord = 0 }
 
 -- "Proved together as one table of the definitions"; examples that document 01 gives without n stand at several
 abbrev pub examples : List Example
@@ -79,4 +102,17 @@ examples =
     ∷ example oneInEachBranch 3 5 0 5
     ∷ example noRemovalThere 1 0 10 0
     ∷ example noRemovalThere 3 0 10 0
+    ∷ []
+
+-- "Order: 9; header 1 ..; 10 ..; 13; 21", seen where several refusals apply
+abbrev pub orders : List Example
+orders =
+    refusal [] 0 1 9
+    ∷ refusal [] 33 0 9
+    ∷ refusal [] 1 2 1
+    ∷ refusal noRemovalThere 1 2 10
+    ∷ refusal twoInSequence 1 2 11
+    ∷ refusal oneInEachBranch 1 2 13
+    ∷ refusal pairs 3 8 13
+    ∷ refusal pairs 3 7 21
     ∷ []
