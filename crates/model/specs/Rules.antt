@@ -73,6 +73,7 @@ pub data Derives (P : Program) : Statement → State → List ℕ → List ℕ �
     Derives P (NOT rs a) s A l top (flipped q s)
   seq : {t u : Statement} {s s′ s″ : State} {A l : List ℕ} {e : Ending} → Derives P t s A l top s′ → Derives P u s′ A l e s″ →
     Derives P (sequence t u) s A l e s″
+  -- the source writes the start state here; a statement that ends in ⊥ may have changed it before, so the rule is for any state that was reached
   seqBottom : {t u : Statement} {s s′ : State} {A l : List ℕ} → Derives P t s A l bottom s′ → Derives P (sequence t u) s A l bottom s′
   ifYes : {c : Condition} {t u : Statement} {s s′ : State} {A l : List ℕ} {e : Ending} → ConditionIs l c true → Derives P t s A l e s′ →
     Derives P (if c t u) s A l e s′
