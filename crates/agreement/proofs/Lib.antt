@@ -1,2 +1,15 @@
 pub mod Events
 pub mod Clauses
+pub mod World
+pub mod Invocations
+pub mod Frame
+pub mod Whole
+pub mod Halves
+pub mod Split
+pub mod Track
+pub mod Entry
+pub mod Onion
+pub mod Agreement
+pub mod Instances
+pub mod Depth
+pub mod Bound
