@@ -1,9 +1,9 @@
 -- The agreement theorem: for every accepted program and every start state with zero ancillas, the gates of the emission do what the run does,
 -- and all ancillas are zero again.
 use mathlib.Core.Path.{_≡_, refl, sym, ap, _∙_}
-use mathlib.Core.Bool.{Bool, true, false}
-use mathlib.Core.List.{List, [], _∷_}
-use Prim.Native.Nat.{ℕ, zero, suc, _+_, _≤_, _<_}
+use mathlib.Core.Bool.{Bool, false}
+use mathlib.Core.List.{List, []}
+use Prim.Native.Nat.{ℕ, zero, suc, _+_, _<_}
 use native.Mathlib.Omega.{arith}
 use lib.ListN.{length, length-map}
 use Rattle.model.specs.Syntax.{Statement, skip, NOT, sequence, if, qcase, call, Program, count, body}
@@ -51,6 +51,7 @@ never-low rank r k (qcase rs a s t) h q = (never-low rank r k s h (q .0), never-
 never-low rank r k (call rs f) h q = q .1 (h f)
 
 module _ (P : Program) (N : Named P) (passes10 : anyLacksRemoval P ≡ false) where
+  -- its bodies' calls are ranked
   abbrev R : (f : ℕ) → Ranked (rank P) (recursive P f) (rank P f) (body P f)
   R = all-ranked P N passes10
 
@@ -59,6 +60,7 @@ module _ (P : Program) (N : Named P) (passes10 : anyLacksRemoval P ≡ false) wh
   main-low = never-low (rank P) (recursive P 0) (suc (count P)) (P .main) (main-unreached P N)
     (ranked-up (rank P) (recursive P 0) (rank P 0) (suc (count P)) (P .main) (rank-all P 0) (R 0))
 
+  -- a call does what its body does, with the same account of calls
   runs-unfold : (f : ℕ) (l : List ℕ) (s : State) → 0 < length l → callRuns P f l s ≡ does (callRuns P) (body P f) l s
   unfolding callDoesWithin
   runs-unfold f l s some =
@@ -67,6 +69,7 @@ module _ (P : Program) (N : Named P) (passes10 : anyLacksRemoval P ≡ false) wh
     does-agree (rank P) (recursive P f) (rank P f) l some (callDoesWithin P m) (callRuns P)
       (λ g l′ s′ some′ h. fuel-does P (rank P) R m (rank P g + length l′) g l′ s′ some′ (omega arith) (omega arith)) (body P f) s (R f)
 
+  -- and faults where its body does
   fails-unfold : (f : ℕ) (l C : List ℕ) → 0 < length l → callFails P f l C ≡ faults (callFails P) (body P f) l C
   unfolding callFaultsWithin
   fails-unfold f l C some =
@@ -110,6 +113,7 @@ module _ (P : Program) (N : Named P) (passes10 : anyLacksRemoval P ≡ false) wh
           (λ f l C some′ h. fuel-faults P (rank P) R (rank P f + length l) (enough P n) f l C some′ (omega arith) (omega arith)) (P .main) [] (R 0)
         ∙ passes12)
 
+    -- with fuel for all calls main does what a run does
     main-runs : (s : State) → does (callRuns P) (P .main) (qubits n) s ≡ endState P n s
     unfolding endState
     main-runs s =
@@ -118,6 +122,7 @@ module _ (P : Program) (N : Named P) (passes10 : anyLacksRemoval P ≡ false) wh
       does-agree (rank P) (recursive P 0) (rank P 0) (qubits n) length-some (callRuns P) (callDoesWithin P (enough P n))
         (λ f l s′ some′ h. fuel-does P (rank P) R (rank P f + length l) (enough P n) f l s′ some′ (omega arith) (omega arith)) (P .main) s (R 0)
 
+    -- the events of the emission do it too
     emission-runs : anyTooWide P ≡ false → programFaults P n ≡ false → (s : State) → Zero (suc n) s → effect (emission P n) s ≡ endState P n s
     unfolding emission
     emission-runs passes11 passes12 s z =
@@ -141,4 +146,5 @@ pub ancillas-zero : (P : Program) → Named P → anyLacksRemoval P ≡ false �
 unfolding endState
 ancillas-zero P N passes10 passes11 n some passes12 s z w h =
     ap (λ (t : State). t w) (agreement P N passes10 passes11 n some passes12 s z) ∙
-      (does-stays (callDoesWithin P (enough P n)) (stays-within P (enough P n)) (P .main) (qubits n) s w (data-off n (qubits n) (qubits-data n) w h) ∙ z w h)
+      (does-stays (callDoesWithin P (enough P n)) (stays-within P (enough P n)) (P .main) (qubits n) s w
+        (data-off n (qubits n) (qubits-data n) w h) ∙ z w h)

@@ -1,7 +1,8 @@
--- The entry gates of a shared body: under the ancilla of one later call they set the body's ancilla and bring that call's list onto the body's.
+-- The entry gates of a shared body: under the ancilla of one later invocation they set the body's ancilla and bring that invocation's list
+-- onto the body's.
 use mathlib.Core.Path.{_≡_, refl, sym, ap, _∙_, subst}
 use mathlib.Core.Logic.{_≢_, inl, inr}
-use mathlib.Core.Bool.{Bool, true, false}
+use mathlib.Core.Bool.{true, false}
 use mathlib.Core.List.{List, [], _∷_, _++_, map, reverse}
 use Prim.Native.Nat.{ℕ, _<_}
 use borrow.Author.Tests.{eqb-true}
@@ -10,32 +11,36 @@ use lib.Dec.{eqb}
 use Rattle.model.specs.Lists.{member}
 use Rattle.model.specs.Meaning.{State, flipped}
 use Rattle.model.specs.Gates.{renamed}
-use Rattle.model.specs.Emission.{Event, takes, places, frees, Invocation, under, swaps, entryGates, samePair, allEntryGates}
-use Rattle.model.proofs.Tests.{byBool, eqb-same, not-true-false, and-left, and-right, and-both}
+use Rattle.model.specs.Emission.{Event, takes, places, frees, Invocation, under, entryGates, samePair, allEntryGates}
+use Rattle.model.proofs.Tests.{byBool, eqb-same, not-true-false, and-left, and-right}
 use Rattle.model.proofs.ListLaws.{Data, Distinct, data-off, data-zero, not-tail}
-use Rattle.model.proofs.GateLaws.{flipped-other, renamed-at, flip-fires, flip-rests, fires-flipped}
+use Rattle.model.proofs.GateLaws.{flipped-other, renamed-at, flip-fires, flip-rests}
 use Rattle.agreement.proofs.Events.{effect, effect-nil, effect-places, effect-append, effect-reverse, AllClear}
 use Rattle.agreement.proofs.World.{Renames}
 use Rattle.agreement.proofs.Invocations.{Mem, DistinctAncillas}
-use Rattle.agreement.proofs.Track.{fires-under, asks-under, route, route-stays, route-one-to-one, route-list, swaps-rest, swaps-fire, swaps-clear}
+use Rattle.agreement.proofs.Track.{fires-under, asks-under, route, route-stays, route-one-to-one, route-list, swaps-rest, swaps-fire}
+use Rattle.agreement.proofs.Track.{swaps-clear}
 
--- what it means to be of the same pair
+-- two invocations of the same pair call the same procedure
 pub same-procedure : (d e : Invocation) → samePair d e ≡ true → e .procedure ≡ d .procedure
 unfolding samePair
 same-procedure d e h =
     eqb-true (e .procedure) (d .procedure) (and-left (eqb (e .procedure) (d .procedure)) (eqb (length (e .list)) (length (d .list))) h)
 
+-- with lists of the same length
 pub same-length : (d e : Invocation) → samePair d e ≡ true → length (e .list) ≡ length (d .list)
 unfolding samePair
 same-length d e h =
     eqb-true (length (e .list)) (length (d .list)) (and-right (eqb (e .procedure) (d .procedure)) (eqb (length (e .list)) (length (d .list))) h)
 
+-- and the other way round
 pub same-pair : (d e : Invocation) → e .procedure ≡ d .procedure → length (e .list) ≡ length (d .list) → samePair d e ≡ true
 unfolding samePair
 same-pair d e p q = rw (p, q, eqb-same (d .procedure)) (eqb-same (length (d .list)))
 
--- the clauses of the entry gates: a later call of the pair, and one of another
-entries-same : (d e : Invocation) (later : List Invocation) → samePair d e ≡ true → allEntryGates d (e ∷ later) ≡ entryGates d e ++ allEntryGates d later
+-- the clauses of the entry gates: a later invocation of the pair, and one of another
+entries-same : (d e : Invocation) (later : List Invocation) → samePair d e ≡ true →
+    allEntryGates d (e ∷ later) ≡ entryGates d e ++ allEntryGates d later
 unfolding allEntryGates
 entries-same d e later h = rw (h, allEntryGates)
 
@@ -43,6 +48,7 @@ entries-other : (d e : Invocation) (later : List Invocation) → samePair d e �
 unfolding allEntryGates
 entries-other d e later h = rw (h, allEntryGates)
 
+-- events one after another ask none of their targets
 clear-append : (xs ys : List Event) → AllClear xs → AllClear ys → AllClear (xs ++ ys)
 clear-append [] ys a b = b
 clear-append (takes w ∷ xs) ys a b = clear-append xs ys a b
@@ -53,7 +59,7 @@ clear-append (frees w ∷ xs) ys a b = clear-append xs ys a b
 pub effect-back : (es : List Event) (s t : State) → AllClear es → effect es s ≡ t → effect (reverse es) t ≡ s
 effect-back es s t c h = subst (λ (u : State). effect (reverse es) u ≡ s) h (effect-reverse es s c)
 
--- a later call e to the pair of d: both lists are of data wires, both ancillas lie above
+-- a later invocation e of d's pair: another ancilla, above the data wires, and a list of data wires as long as d's
 pub record Entrant (n : ℕ) (d e : Invocation) : Type 0 where
   pub above : n < e .ancilla
   pub apart : d .ancilla ≢ e .ancilla
@@ -61,7 +67,7 @@ pub record Entrant (n : ℕ) (d e : Invocation) : Type 0 where
   pub distinct : Distinct (e .list)
   pub sameLength : length (d .list) ≡ length (e .list)
 
--- all of the pair among the later calls
+-- all of the pair among the later invocations
 abbrev pub Entrants : ℕ → Invocation → List Invocation → Type 0
 Entrants n d later = (e : Invocation) → Mem e later → samePair d e ≡ true → Entrant n d e
 
@@ -74,6 +80,7 @@ abbrev pub entered : Invocation → Invocation → State → State
 entered d e s = renamed (moves d e) (flipped (d .ancilla) s)
 
 module _ (n : ℕ) (d : Invocation) (dat : Data n (d .list)) where
+  -- an ancilla is not in a list of data wires
   not-in : (l : List ℕ) → Data n l → (w : ℕ) → n < w → member w l ≡ false
   not-in l x w h = not-tail w 0 l (data-off n l x w h)
 
@@ -96,12 +103,13 @@ module _ (n : ℕ) (d : Invocation) (dat : Data n (d .list)) where
   entered-above e s x w h q =
     renamed-at (moves d e) (flipped (d .ancilla) s) w ∙ (ap (flipped (d .ancilla) s) (moves-above e x w h) ∙ flipped-other s (d .ancilla) w q)
 
-  -- the gates of one entry: nothing where the later call's ancilla is 0
+  -- the gates of one entry: nothing where the later invocation's ancilla is 0
   entry-rests : (e : Invocation) (s : State) → s (e .ancilla) ≡ false → effect (entryGates d e) s ≡ s
   unfolding entryGates
   entry-rests e s h = rw (effect-places, flip-rests (under (e .ancilla)) (d .ancilla) s (fires-under (e .ancilla) s ∙ h))
     (swaps-rest (e .ancilla) (d .list) (e .list) s h)
 
+  -- where it is 1 they enter
   entry-fires : (e : Invocation) (s : State) → Entrant n d e → s (e .ancilla) ≡ true → effect (entryGates d e) s ≡ entered d e s
   unfolding entryGates
   entry-fires e s x h = rw (effect-places, flip-fires (under (e .ancilla)) (d .ancilla) s (fires-under (e .ancilla) s ∙ h))
@@ -109,12 +117,13 @@ module _ (n : ℕ) (d : Invocation) (dat : Data n (d .list)) where
       (not-in (d .list) dat (e .ancilla) (x .above)) (not-in (e .list) (x .wires) (e .ancilla) (x .above))
       (flipped-other s (d .ancilla) (e .ancilla) (λ q. x .apart (sym q)) ∙ h))
 
+  -- none of them asks one of its targets
   entry-clear : (e : Invocation) → Entrant n d e → AllClear (entryGates d e)
   unfolding entryGates
   entry-clear e x = (asks-under (e .ancilla) (d .ancilla) (x .apart),
     swaps-clear (e .ancilla) (d .list) (e .list) (not-in (d .list) dat (e .ancilla) (x .above)) (not-in (e .list) (x .wires) (e .ancilla) (x .above)))
 
-  -- none of the entry gates asks one of its targets
+  -- nor does any of the entry gates
   pub entries-clear : (later : List Invocation) → Entrants n d later → AllClear (allEntryGates d later)
   unfolding allEntryGates
   entries-clear [] X = tt
@@ -123,7 +132,7 @@ module _ (n : ℕ) (d : Invocation) (dat : Data n (d .list)) where
       (clear-append (entryGates d e) (allEntryGates d later) (entry-clear e (X e (inl refl) h)) (entries-clear later (λ y m. X y (inr m)))))
     (λ h. rw (entries-other d e later h) (entries-clear later (λ y m. X y (inr m))))
 
-  -- where no later call of the pair is active, the entry gates do nothing
+  -- where no later invocation of the pair is active, the entry gates do nothing
   pub entries-rest : (later : List Invocation) (s : State) →
       ((e : Invocation) → Mem e later → samePair d e ≡ true → s (e .ancilla) ≡ false) → effect (allEntryGates d later) s ≡ s
   unfolding allEntryGates

@@ -13,3 +13,6 @@ pub mod Agreement
 pub mod Instances
 pub mod Depth
 pub mod Bound
+pub mod Peak
+pub mod Fits
+pub mod Tidy

@@ -12,22 +12,44 @@ use lib.Dec.{eqb}
 use Rattle.model.specs.Syntax.{Statement, Program, body}
 use Rattle.model.specs.Lists.{member}
 use Rattle.model.specs.Meaning.{State, flipped, CallDoes, does}
-use Rattle.model.specs.Reach.{recursive, width}
+use Rattle.model.specs.Reach.{recursive}
 use Rattle.model.specs.Gates.{renamed}
-use Rattle.model.specs.Emission.{Event, Chains, Invocation, invocation, invocations, left, right, under, samePair, allEntryGates, Emitted, bodyInvocations, around, bodies, bodiesFrom, chainsWithin}
+use Rattle.model.specs.Emission.{Event, Chains, Invocation, invocation, left, right, under, samePair, allEntryGates, Emitted, bodyInvocations, around}
+use Rattle.model.specs.Emission.{bodies, bodiesFrom, chainsWithin}
 use Rattle.model.proofs.Tests.{byBool, byEq, eqb-same, clash, not-true-false, not-not, and-left, and-right, and-both}
-use Rattle.model.proofs.ListLaws.{Data, data-off, member-cases, member-skip, member-nil, not-in-nil, not-head, not-tail}
+use Rattle.model.proofs.ListLaws.{Data, data-off, member-cases, member-skip, member-nil, not-head, not-tail}
 use Rattle.model.proofs.GateLaws.{flipped-same, flipped-other, renamed-at}
 use Rattle.model.proofs.Calls.{Ranked}
 use Rattle.agreement.proofs.Events.{effect, effect-nil, effect-append}
 use Rattle.agreement.proofs.World.{Safely, Safe, World, Zero, zero-up, zero-flip, asked-in-under, below-under, Fine, Served, ranked-up}
-use Rattle.agreement.proofs.Invocations.{Mem, mem-left, mem-right, onMem, invocations-range, DistinctAncillas, distinct-append, invocations-distinct, New, invocations-new}
+use Rattle.agreement.proofs.Invocations.{Mem, mem-left, mem-right, onMem, invocations-range, DistinctAncillas, distinct-append}
+use Rattle.agreement.proofs.Invocations.{invocations-distinct, New, invocations-new}
 use Rattle.agreement.proofs.Frame.{safe-weaken}
 use Rattle.agreement.proofs.Whole.{zero-call}
 use Rattle.agreement.proofs.Halves.{left-rests, right-rests}
-use Rattle.agreement.proofs.Split.{Near, Through, Taken, Split, split}
+use Rattle.agreement.proofs.Split.{Split, split}
 use Rattle.agreement.proofs.Track.{fires-under}
-use Rattle.agreement.proofs.Entry.{same-procedure, same-length, same-pair, effect-back, Entrant, Entrants, moves, entered, moves-above, moves-renames, moves-list, entered-above, entries-clear, entries-rest, entries-fire}
+use Rattle.agreement.proofs.Entry.{same-procedure, same-length, same-pair, effect-back, Entrant, Entrants, moves, entered, moves-above}
+use Rattle.agreement.proofs.Entry.{moves-renames, moves-list, entered-above, entries-clear, entries-rest, entries-fire}
+
+-- is d the first of its pair, with a list of length m?
+abbrev pub opens : ℕ → List ℕ → Invocation → Bool
+opens m seen d = eqb (length (d .list)) m && not (member (d .procedure) seen)
+
+module _ (P : Program) (chains : Chains) (m : ℕ) (shorter : List Invocation → ℕ → Emitted) (seen : List ℕ) (d : Invocation)
+         (calls all : List Invocation) (next : ℕ) where
+  -- the clause of `bodies` at an invocation whose body comes now
+  pub bodies-here : opens m seen d ≡ true → bodies P chains m shorter seen (d ∷ calls) all next ≡
+      around P chains d calls next
+        (bodies P chains m shorter (d .procedure ∷ seen) calls (all ++ bodyInvocations P chains d next)
+          (next + length (bodyInvocations P chains d next)))
+  unfolding bodies
+  bodies-here e = rw (e, bodies)
+
+  -- and at one whose body does not
+  pub bodies-past : opens m seen d ≡ false → bodies P chains m shorter seen (d ∷ calls) all next ≡ bodies P chains m shorter seen calls all next
+  unfolding bodies
+  bodies-past e = rw (e, bodies)
 
 -- an invocation that waits in a chain whose next wire is `next`, at a rank of at most k
 pub record Good (rank : ℕ → ℕ) (G : Safely) (n k next : ℕ) (d : Invocation) : Type 0 where
@@ -49,6 +71,7 @@ pub record Serves (E : CallDoes) (R : Invocation → Type 0) (next : ℕ) (es : 
   pub rests : (s : State) → Zero next s → Still R s → effect es s ≡ s
   pub runs : (s : State) (d : Invocation) → Zero next s → R d → s (d .ancilla) ≡ true → Sole R s d → effect es s ≡ E (d .procedure) (d .list) s
 
+-- what serves the invocations of R serves those of any R′ that are the same
 serves-iff : (E : CallDoes) (R R′ : Invocation → Type 0) (next : ℕ) (es : List Event) →
     ((x : Invocation) → R x → R′ x) → ((x : Invocation) → R′ x → R x) → Serves E R next es → Serves E R′ next es
 serves-iff E R R′ next es f g S = record {
@@ -71,9 +94,11 @@ Shorter m D x = Mem x D × (length (x .list) < m)
 abbrev pub Waiting : ℕ → List ℕ → List Invocation → Invocation → Type 0
 Waiting m seen T x = Mem x T × (length (x .list) ≡ m) × (member (x .procedure) seen ≡ false)
 
+-- both together
 abbrev pub Unserved : ℕ → List ℕ → List Invocation → List Invocation → Invocation → Type 0
 Unserved m seen T D x = Shorter m D x ⊎ Waiting m seen T x
 
+-- an invocation with a shorter list is none of length m
 shorter-differs : (m : ℕ) (D : List Invocation) (y z : Invocation) → Shorter m D y → y ≡ z → length (z .list) ≡ m → ⊥
 shorter-differs m D y z h e l =
     let q : length (y .list) ≡ length (z .list) = ap (λ (v : Invocation). length (v .list)) e in
@@ -82,24 +107,25 @@ shorter-differs m D y z h e l =
 
 module _ (P : Program) (rank : ℕ → ℕ) (E : CallDoes) (G : Safely) (n : ℕ) (W : World P rank E G)
          (chains : Chains) (k : ℕ) (served : Served rank E G n chains k) where
+  -- the recursive calls of d's body, and the next wire behind their ancillas
+  abbrev pub own : Invocation → ℕ → List Invocation
+  own d next = bodyInvocations P chains d next
+
+  abbrev pub behind : Invocation → ℕ → ℕ
+  behind d next = next + length (own d next)
+
   -- a call leaves the wires above the data wires alone
   call-stays : (x : Invocation) (s : State) (w : ℕ) → Data n (x .list) → n < w → E (x .procedure) (x .list) s w ≡ s w
   call-stays x s w dt h = W .stays (x .procedure) (x .list) s w (data-off n (x .list) dt w h)
 
   -- the body of one invocation d
   module _ (d : Invocation) (next : ℕ) (gd : Good rank G n k next d) where
+    -- its statement, and which of its calls are recursive
     abbrev code : Statement
     code = body P (d .procedure)
 
     abbrev again : ℕ → Bool
     again = recursive P (d .procedure)
-
-    -- its recursive calls, and the next wire behind their ancillas
-    unfoldable pub own : List Invocation
-    own = bodyInvocations P chains d next
-
-    unfoldable pub behind : ℕ
-    behind = next + length own
 
     leftPart : List Event
     leftPart = left chains again code (d .list) (under (d .ancilla)) next
@@ -120,60 +146,54 @@ module _ (P : Program) (rank : ℕ → ℕ) (E : CallDoes) (G : Safely) (n : ℕ
     pub ranked-body : Ranked rank again k code
     ranked-body = ranked-up rank again (rank (d .procedure)) k code (gd .low) (W .ranked (d .procedure))
 
+    -- where its ancilla is 0 its left part does nothing
     left-still : (s : State) → Zero next s → s (d .ancilla) ≡ false → effect leftPart s ≡ s
     unfolding leftPart
     left-still s z h = left-rests P rank E G n W chains k served again code (d .list) (d .ancilla ∷ []) (under (d .ancilla)) next s
       ranked-body (W .narrow (d .procedure)) safe-body (gd .fine .wires) (gd .fine .distinct) next-above z (fires-under (d .ancilla) s ∙ h)
 
-    own-range : (x : Invocation) → Mem x own → (next ≤ x .ancilla) × (x .ancilla < behind)
-    unfolding own behind
+    -- its recursive calls: their ancillas, and that they are fit for bodies of their own
+    own-range : (x : Invocation) → Mem x (own d next) → (next ≤ x .ancilla) × (x .ancilla < behind d next)
     own-range x m = invocations-range again code (d .list) next x m
 
-    own-new : (x : Invocation) → Mem x own → New rank G n k (length (d .list)) x
-    unfolding own
+    own-new : (x : Invocation) → Mem x (own d next) → New rank G n k (length (d .list)) x
     own-new x m = invocations-new rank G n (W .weakens) again k code (d .list) (d .ancilla ∷ []) next ranked-body safe-body
       (gd .fine .wires) (gd .fine .distinct) (gd .fine .some) x m
 
-    own-distinct : DistinctAncillas own
-    unfolding own
+    own-distinct : DistinctAncillas (own d next)
     own-distinct = invocations-distinct again code (d .list) next
-
-    next-behind : next ≤ behind
-    unfolding behind
-    next-behind = omega arith
 
     -- the body around the events `inner`, which serve the invocations of Old and its own; chains in its right part take wires from `top` on
     module _ (top : ℕ) (inner : List Event) (Old : Invocation → Type 0)
              (old : (x : Invocation) → Old x → Good rank G n k next x)
-             (room : next + length (bodyInvocations P chains d next) ≤ top)
-             (S : Serves E (λ x. Old x ⊎ Mem x (bodyInvocations P chains d next)) (next + length (bodyInvocations P chains d next)) inner) where
+             (room : behind d next ≤ top)
+             (S : Serves E (λ x. Old x ⊎ Mem x (own d next)) (behind d next) inner) where
       rightPart : List Event
       rightPart = right chains again code (d .list) (under (d .ancilla)) next top
 
+      -- where its ancilla is 0 its right part does nothing
       right-still : (s : State) → Zero top s → s (d .ancilla) ≡ false → effect rightPart s ≡ s
       unfolding rightPart
       right-still s z h = right-rests P rank E G n W chains k served again code (d .list) (d .ancilla ∷ []) (under (d .ancilla)) next top s
         ranked-body (W .narrow (d .procedure)) safe-body (gd .fine .wires) (gd .fine .distinct) (let a = next-above in omega arith) z
         (fires-under (d .ancilla) s ∙ h)
 
-      serve : Serves E (λ x. Old x ⊎ Mem x own) behind inner
-      unfolding own behind
-      serve = S
-
-      parts : (s : State) → Zero next s → s (d .ancilla) ≡ true → Split E n (d .ancilla ∷ []) leftPart rightPart own s (does E code (d .list) s)
-      unfolding leftPart rightPart own
+      -- where its ancilla is 1 the two parts split what the body does
+      parts : (s : State) → Zero next s → s (d .ancilla) ≡ true →
+          Split E n (d .ancilla ∷ []) leftPart rightPart (own d next) s (does E code (d .list) s)
+      unfolding leftPart rightPart
       parts s z h = split P rank E G n W chains k served again code (d .list) (d .ancilla ∷ []) (under (d .ancilla)) next top s
         ranked-body (W .narrow (d .procedure)) safe-body (gd .fine .wires) (gd .fine .distinct) (gd .fine .some) next-above room z
         (asked-in-under (d .ancilla)) (below-under next (d .ancilla) (gd .taken)) (fires-under (d .ancilla) s ∙ h)
 
       -- left part, inner events and right part do what the body does: either no recursive call is taken, or one, which the inner events serve
-      core : (s : State) → Zero next s → Still Old s → Split E n (d .ancilla ∷ []) leftPart rightPart own s (does E code (d .list) s) →
+      core : (s : State) → Zero next s → Still Old s → Split E n (d .ancilla ∷ []) leftPart rightPart (own d next) s (does E code (d .list) s) →
           effect rightPart (effect inner (effect leftPart s)) ≡ does E code (d .list) s
       core s z st (inl t) =
         let zm : Zero next (t .mid) = λ w h. t .near .same w (let a = next-above in omega arith) ∙ z w h in
-        rw (t .before, serve .rests (t .mid) (zero-up next behind (t .mid) next-behind zm) (λ x r. calm x r)) (t .after)
+        rw (t .before, S .rests (t .mid) (zero-up next (behind d next) (t .mid) (omega arith) zm) (λ x r. calm x r)) (t .after)
         where
-          calm : (x : Invocation) → Old x ⊎ Mem x own → t .mid (x .ancilla) ≡ false
+          calm : (x : Invocation) → Old x ⊎ Mem x (own d next) → t .mid (x .ancilla) ≡ false
           calm x (inl o) = t .near .same (x .ancilla) (old x o .above) ∙ st x o
           calm x (inr m) = let rg = own-range x m in let a = next-above in t .near .same (x .ancilla) (omega arith) ∙ z (x .ancilla) (rg .0)
       core s z st (inr t) =
@@ -183,14 +203,14 @@ module _ (P : Program) (rank : ℕ → ℕ) (E : CallDoes) (G : Safely) (n : ℕ
         let nw = own-new g (t .among) in
         let set : flipped a (t .mid) a ≡ true = flipped-same (t .mid) a ∙ ap not (zm a (rg .0)) in
         rw (t .before,
-            serve .runs (flipped a (t .mid)) g (zero-flip a behind (t .mid) (rg .1) (zero-up next behind (t .mid) next-behind zm)) (inr (t .among)) set
-              (λ x r on. alone x r on),
+            S .runs (flipped a (t .mid)) g (zero-flip a (behind d next) (t .mid) (rg .1) (zero-up next (behind d next) (t .mid) (omega arith) zm))
+              (inr (t .among)) set (λ x r on. alone x r on),
             W .outside (g .procedure) (g .list) (t .mid) a (data-off n (g .list) (nw .fine .wires) a (let b = next-above in omega arith)))
           (t .after)
         where
           zm : Zero next (t .mid)
           zm w h = t .near .same w (let a = next-above in omega arith) ∙ z w h
-          alone : (x : Invocation) → Old x ⊎ Mem x own → flipped (t .taken .ancilla) (t .mid) (x .ancilla) ≡ true → x ≡ t .taken
+          alone : (x : Invocation) → Old x ⊎ Mem x (own d next) → flipped (t .taken .ancilla) (t .mid) (x .ancilla) ≡ true → x ≡ t .taken
           alone x (inl o) on =
             let rg = own-range (t .taken) (t .among) in
             let ux = old x o .taken in
@@ -200,9 +220,10 @@ module _ (P : Program) (rank : ℕ → ℕ) (E : CallDoes) (G : Safely) (n : ℕ
               apart : x .ancilla ≡ t .taken .ancilla → x .ancilla < next → next ≤ t .taken .ancilla → ⊥
               apart e h i = omega arith
           alone x (inr m) on = byEq (x .ancilla) (t .taken .ancilla)
-            (λ e. ancilla-tells own own-distinct x (t .taken) m (t .among) e)
+            (λ e. ancilla-tells (own d next) own-distinct x (t .taken) m (t .among) e)
             (λ ne. clash on (flipped-other (t .mid) (t .taken .ancilla) (x .ancilla) ne ∙ zm (x .ancilla) (own-range x m .0)))
 
+      -- so they do what the call does
       core-runs : (s : State) → Zero next s → s (d .ancilla) ≡ true → Still Old s →
           effect rightPart (effect inner (effect leftPart s)) ≡ E (d .procedure) (d .list) s
       core-runs s z h st = core s z st (parts s z h) ∙ sym (W .unfolds (d .procedure) (d .list) s (gd .fine .some))
@@ -215,6 +236,7 @@ module _ (P : Program) (rank : ℕ → ℕ) (E : CallDoes) (G : Safely) (n : ℕ
         shell : List Event
         shell = allEntryGates d later ++ (leftPart ++ (inner ++ (rightPart ++ reverse (allEntryGates d later))))
 
+        -- its events in their order
         shell-effect : (s : State) → effect shell s ≡
             effect (reverse (allEntryGates d later)) (effect rightPart (effect inner (effect leftPart (effect (allEntryGates d later) s))))
         unfolding shell
@@ -224,23 +246,26 @@ module _ (P : Program) (rank : ℕ → ℕ) (E : CallDoes) (G : Safely) (n : ℕ
         abbrev Calm : State → Type 0
         Calm s = (e : Invocation) → Mem e later → samePair d e ≡ true → s (e .ancilla) ≡ false
 
+        -- then the entry gates do nothing
         entry-still : (s : State) → Calm s → effect (allEntryGates d later) s ≡ s
         entry-still s c = entries-rest n d (gd .fine .wires) later s c
 
+        -- in reverse they lead back
         back : (s t : State) → effect (allEntryGates d later) s ≡ t → effect (reverse (allEntryGates d later)) t ≡ s
         back s t h = effect-back (allEntryGates d later) s t (entries-clear n d (gd .fine .wires) later X) h
 
+        -- a call wakes none
         call-calm : (x : Invocation) (s : State) → Data n (x .list) → Calm s → Calm (E (x .procedure) (x .list) s)
         call-calm x s dt c e m q = call-stays x s (e .ancilla) dt (X e m q .above) ∙ c e m q
 
         -- nothing is active
         shell-rests : (s : State) → Zero next s → s (d .ancilla) ≡ false → Calm s → Still Old s → effect shell s ≡ s
         shell-rests s z h c st = shell-effect s ∙
-            rw (entry-still s c, left-still s z h, serve .rests s (zero-up next behind s next-behind z) (λ x r. calm x r),
+            rw (entry-still s c, left-still s z h, S .rests s (zero-up next (behind d next) s (omega arith) z) (λ x r. calm x r),
                 right-still s (zero-up next top s next-top z) h)
               (back s s (entry-still s c))
           where
-            calm : (x : Invocation) → Old x ⊎ Mem x own → s (x .ancilla) ≡ false
+            calm : (x : Invocation) → Old x ⊎ Mem x (own d next) → s (x .ancilla) ≡ false
             calm x (inl o) = st x o
             calm x (inr m) = z (x .ancilla) (own-range x m .0)
 
@@ -252,11 +277,11 @@ module _ (P : Program) (rank : ℕ → ℕ) (E : CallDoes) (G : Safely) (n : ℕ
             let u = E (x .procedure) (x .list) s in
             let zu : Zero next u = zero-call P rank E G n W (x .procedure) (x .list) next s dt next-above z in
             shell-effect s ∙
-            rw (entry-still s c, left-still s z h, serve .runs s x (zero-up next behind s next-behind z) (inl o) on (λ y r q. alone y r q),
+            rw (entry-still s c, left-still s z h, S .runs s x (zero-up next (behind d next) s (omega arith) z) (inl o) on (λ y r q. alone y r q),
                 right-still u (zero-up next top u next-top zu) (call-stays x s (d .ancilla) dt (gd .above) ∙ h))
               (back u u (entry-still u (call-calm x s dt c)))
           where
-            alone : (y : Invocation) → Old y ⊎ Mem y own → s (y .ancilla) ≡ true → y ≡ x
+            alone : (y : Invocation) → Old y ⊎ Mem y (own d next) → s (y .ancilla) ≡ true → y ≡ x
             alone y (inl r) q = so y r q
             alone y (inr m) q = clash q (z (y .ancilla) (own-range y m .0))
 
@@ -303,11 +328,12 @@ module _ (P : Program) (rank : ℕ → ℕ) (E : CallDoes) (G : Safely) (n : ℕ
   module _ (m : ℕ) (seen : List ℕ) (d : Invocation) (T D : List Invocation) (next : ℕ) (inner : Emitted)
            (gs : Goods next D) (dd : DistinctAncillas D) (dt : DistinctAncillas (d ∷ T)) (sub : (x : Invocation) → Mem x (d ∷ T) → Mem x D)
            (len : length (d .list) ≡ m) (unseen : member (d .procedure) seen ≡ false)
-           (ih : Serves E (Unserved m (d .procedure ∷ seen) T (D ++ bodyInvocations P chains d next)) (next + length (bodyInvocations P chains d next)) (inner .events))
-           (room : next + length (bodyInvocations P chains d next) ≤ inner .next) where
+           (ih : Serves E (Unserved m (d .procedure ∷ seen) T (D ++ own d next)) (behind d next) (inner .events))
+           (room : behind d next ≤ inner .next) where
     gd : Good rank G n k next d
     gd = gs d (sub d (inl refl))
 
+    -- what is served further in, and all that is to be served
     abbrev Old : Invocation → Type 0
     Old x = Unserved m (d .procedure ∷ seen) T D x
 
@@ -318,20 +344,21 @@ module _ (P : Program) (rank : ℕ → ℕ) (E : CallDoes) (G : Safely) (n : ℕ
     old x (inl h) = gs x (h .0)
     old x (inr h) = gs x (sub x (inr (h .0)))
 
-    apart-own : (x : Invocation) → Unserved m (d .procedure ∷ seen) T (D ++ bodyInvocations P chains d next) x → Old x ⊎ Mem x (bodyInvocations P chains d next)
-    apart-own x (inl h) = onMem x D (bodyInvocations P chains d next) (h .0) (λ y. inl (inl (y, h .1))) (λ y. inr y)
+    -- the inner events serve what is served further in and the recursive calls of d's body
+    apart-own : (x : Invocation) → Unserved m (d .procedure ∷ seen) T (D ++ own d next) x → Old x ⊎ Mem x (own d next)
+    apart-own x (inl h) = onMem x D (own d next) (h .0) (λ y. inl (inl (y, h .1))) (λ y. inr y)
     apart-own x (inr h) = inl (inr h)
 
-    with-own : (x : Invocation) → Old x ⊎ Mem x (bodyInvocations P chains d next) → Unserved m (d .procedure ∷ seen) T (D ++ bodyInvocations P chains d next) x
-    unfolding own
-    with-own x (inl (inl h)) = inl (mem-left x D (bodyInvocations P chains d next) (h .0), h .1)
+    with-own : (x : Invocation) → Old x ⊎ Mem x (own d next) → Unserved m (d .procedure ∷ seen) T (D ++ own d next) x
+    with-own x (inl (inl h)) = inl (mem-left x D (own d next) (h .0), h .1)
     with-own x (inl (inr h)) = inr h
-    with-own x (inr h) = inl (mem-right x D (bodyInvocations P chains d next) h, subst (λ (v : ℕ). length (x .list) < v) len (own-new d next gd x h .short))
+    with-own x (inr h) = inl (mem-right x D (own d next) h, subst (λ (v : ℕ). length (x .list) < v) len (own-new d next gd x h .short))
 
-    S : Serves E (λ x. Old x ⊎ Mem x (bodyInvocations P chains d next)) (next + length (bodyInvocations P chains d next)) (inner .events)
-    S = serves-iff E (Unserved m (d .procedure ∷ seen) T (D ++ bodyInvocations P chains d next)) (λ x. Old x ⊎ Mem x (bodyInvocations P chains d next))
-      (next + length (bodyInvocations P chains d next)) (inner .events) apart-own with-own ih
+    S : Serves E (λ x. Old x ⊎ Mem x (own d next)) (behind d next) (inner .events)
+    S = serves-iff E (Unserved m (d .procedure ∷ seen) T (D ++ own d next)) (λ x. Old x ⊎ Mem x (own d next))
+      (behind d next) (inner .events) apart-own with-own ih
 
+    -- the later invocations of d's pair may enter
     X : Entrants n d T
     X e me q = let g = gs e (sub e (inr me)) in
       record { above = g .above; apart = dt .0 e me; wires = g .fine .wires; distinct = g .fine .distinct; sameLength = sym (same-length d e q) }
@@ -339,6 +366,7 @@ module _ (P : Program) (rank : ℕ → ℕ) (E : CallDoes) (G : Safely) (n : ℕ
     events : List Event
     events = shell d next gd (inner .next) (inner .events) Old old room S T X
 
+    -- d, the later ones of its pair and those served further in are all that is to be served
     first-unserved : All d
     first-unserved = inr (inl refl, len, unseen)
 
@@ -355,6 +383,7 @@ module _ (P : Program) (rank : ℕ → ℕ) (E : CallDoes) (G : Safely) (n : ℕ
     old-differs x y (inl h) e p l = shorter-differs m D x y h e l
     old-differs x y (inr h) e p l = not-head (x .procedure) (d .procedure) seen (h .2) (ap (λ (v : Invocation). v .procedure) e ∙ p)
 
+    -- none is active
     rests : (s : State) → Zero next s → Still All s → effect events s ≡ s
     unfolding events
     rests s z st = shell-rests d next gd (inner .next) (inner .events) Old old room S T X s z
@@ -393,6 +422,7 @@ module _ (P : Program) (rank : ℕ → ℕ) (E : CallDoes) (G : Safely) (n : ℕ
         in-D y (inl h) = h .0
         in-D y (inr h) = sub y (inr (h .0))
 
+    -- it has a list of length m
     runs-waiting : (s : State) (x : Invocation) → Zero next s → Mem x (d ∷ T) → length (x .list) ≡ m → member (x .procedure) seen ≡ false →
         s (x .ancilla) ≡ true → Sole All s x → effect events s ≡ E (x .procedure) (x .list) s
     runs-waiting s x z (inl e) l u on so = subst (λ (y : Invocation). effect events s ≡ E (y .procedure) (y .list) s) (sym e)
@@ -402,10 +432,12 @@ module _ (P : Program) (rank : ℕ → ℕ) (E : CallDoes) (G : Safely) (n : ℕ
       (λ np. runs-inner s x z (inr (mx, l, member-skip (x .procedure) (d .procedure) seen np u)) on so
         (λ y e p l′. np (sym (ap (λ (v : Invocation). v .procedure) e) ∙ p)))
 
+    -- it is any
     runs : (s : State) (x : Invocation) → Zero next s → All x → s (x .ancilla) ≡ true → Sole All s x → effect events s ≡ E (x .procedure) (x .list) s
     runs s x z (inl h) on so = runs-inner s x z (inl h) on so (λ y e p l. shorter-differs m D x y h (sym e) l)
     runs s x z (inr h) on so = runs-waiting s x z (h .0) (h .1) (h .2) on so
 
+    -- the body of d around all that is behind serves all that is to be served
     around-serves : Serves E (Unserved m seen (d ∷ T) D) next (around P chains d T next inner .events)
     unfolding around events shell leftPart rightPart
     around-serves = record { rests = rests; runs = runs }
@@ -415,42 +447,24 @@ module _ (P : Program) (rank : ℕ → ℕ) (E : CallDoes) (G : Safely) (n : ℕ
   ServesShorter m shorter = (D : List Invocation) (next : ℕ) → Goods next D → DistinctAncillas D →
     Serves E (Shorter m D) next (shorter D next .events) × (next ≤ shorter D next .next)
 
-  -- the invocations are good and distinct with those of one more body
-  pub goods-more : (d : Invocation) (D : List Invocation) (next : ℕ) → Goods next D → Mem d D →
-      Goods (next + length (bodyInvocations P chains d next)) (D ++ bodyInvocations P chains d next)
-  unfolding own behind
-  goods-more d D next g md x mx = onMem x D (bodyInvocations P chains d next) mx
+  -- the invocations are good with those of one body more
+  pub goods-more : (d : Invocation) (D : List Invocation) (next : ℕ) → Goods next D → Mem d D → Goods (behind d next) (D ++ own d next)
+  goods-more d D next g md x mx = onMem x D (own d next) mx
     (λ h. let a = g x h in let b = a .taken in record { fine = a .fine; low = a .low; above = a .above; taken = omega arith })
     (λ h. let nw = own-new d next (g d md) x h in
           let rg = own-range d next (g d md) x h in
           record { fine = nw .fine; low = nw .low; above = (let a = next-above d next (g d md) in omega arith); taken = rg .1 })
 
+  -- and their ancillas distinct
   pub distinct-more : (d : Invocation) (D : List Invocation) (next : ℕ) → Goods next D → Mem d D → DistinctAncillas D →
-      DistinctAncillas (D ++ bodyInvocations P chains d next)
-  unfolding own behind
-  distinct-more d D next g md dd = distinct-append D (bodyInvocations P chains d next) dd (own-distinct d next (g d md))
+      DistinctAncillas (D ++ own d next)
+  distinct-more d D next g md dd = distinct-append D (own d next) dd (own-distinct d next (g d md))
     (λ x y mx my e. apart (x .ancilla) (y .ancilla) e (g x mx .taken) (own-range d next (g d md) y my .0))
     where
       apart : (u v : ℕ) → u ≡ v → u < next → next ≤ v → ⊥
       apart u v e h i = omega arith
 
-  -- is d the first of its pair, with a list of length m?
-  abbrev pub opens : ℕ → List ℕ → Invocation → Bool
-  opens m seen d = eqb (length (d .list)) m && not (member (d .procedure) seen)
-
   module _ (m : ℕ) (shorter : List Invocation → ℕ → Emitted) where
-    -- the clauses of `bodies`: d opens a body, or d is passed over
-    pub bodies-open : (seen : List ℕ) (d : Invocation) (T D : List Invocation) (next : ℕ) → opens m seen d ≡ true →
-        bodies P chains m shorter seen (d ∷ T) D next ≡ around P chains d T next
-          (bodies P chains m shorter (d .procedure ∷ seen) T (D ++ bodyInvocations P chains d next) (next + length (bodyInvocations P chains d next)))
-    unfolding bodies
-    bodies-open seen d T D next e = rw (e, bodies)
-
-    pub bodies-pass : (seen : List ℕ) (d : Invocation) (T D : List Invocation) (next : ℕ) → opens m seen d ≡ false →
-        bodies P chains m shorter seen (d ∷ T) D next ≡ bodies P chains m shorter seen T D next
-    unfolding bodies
-    bodies-pass seen d T D next e = rw (e, bodies)
-
     -- the bodies of length m serve what is not yet served
     pub bodies-serve : ServesShorter m shorter → (seen : List ℕ) (T D : List Invocation) (next : ℕ) →
         Goods next D → DistinctAncillas D → DistinctAncillas T → ((x : Invocation) → Mem x T → Mem x D) →
@@ -466,16 +480,15 @@ module _ (P : Program) (rank : ℕ → ℕ) (E : CallDoes) (G : Safely) (n : ℕ
     bodies-serve RO seen (d ∷ T) D next g dd dt sub = byBool (opens m seen d)
       (λ e.
         let md = sub d (inl refl) in
-        let own = bodyInvocations P chains d next in
         let l : length (d .list) ≡ m = eqb-true (length (d .list)) m (and-left (eqb (length (d .list)) m) (not (member (d .procedure) seen)) e) in
         let u : member (d .procedure) seen ≡ false =
               sym (not-not (member (d .procedure) seen)) ∙ ap not (and-right (eqb (length (d .list)) m) (not (member (d .procedure) seen)) e) in
-        let ih = bodies-serve RO (d .procedure ∷ seen) T (D ++ own) (next + length own) (goods-more d D next g md) (distinct-more d D next g md dd) (dt .1)
-              (λ x mx. mem-left x D own (sub x (inr mx))) in
-        let inner = bodies P chains m shorter (d .procedure ∷ seen) T (D ++ own) (next + length own) in
-        let room : next + length own ≤ inner .next = ih .1 in
-        rw (bodies-open seen d T D next e) (around-serves m seen d T D next inner g dd dt sub l u (ih .0) room, omega arith))
-      (λ e. rw (bodies-pass seen d T D next e)
+        let ih = bodies-serve RO (d .procedure ∷ seen) T (D ++ own d next) (behind d next)
+              (goods-more d D next g md) (distinct-more d D next g md dd) (dt .1) (λ x mx. mem-left x D (own d next) (sub x (inr mx))) in
+        let inner = bodies P chains m shorter (d .procedure ∷ seen) T (D ++ own d next) (behind d next) in
+        let room : behind d next ≤ inner .next = ih .1 in
+        rw (bodies-here P chains m shorter seen d T D next e) (around-serves m seen d T D next inner g dd dt sub l u (ih .0) room, omega arith))
+      (λ e. rw (bodies-past P chains m shorter seen d T D next e)
         (let ih = bodies-serve RO seen T D next g dd (dt .1) (λ x mx. sub x (inr mx)) in
          (serves-iff E (Unserved m seen T D) (Unserved m seen (d ∷ T) D) next (bodies P chains m shorter seen T D next .events)
            widen (λ x h. shrink e x h) (ih .0), ih .1)))
@@ -487,7 +500,8 @@ module _ (P : Program) (rank : ℕ → ℕ) (E : CallDoes) (G : Safely) (n : ℕ
         passed e x q l u = clash (and-both (eqb (length (d .list)) m) (not (member (d .procedure) seen))
           (subst (λ (y : Invocation). eqb (length (y .list)) m ≡ true) q (rw l (eqb-same m)))
           (ap not (subst (λ (y : Invocation). member (y .procedure) seen ≡ false) q u))) e
-        drop : opens m seen d ≡ false → (x : Invocation) → Mem x (d ∷ T) → length (x .list) ≡ m → member (x .procedure) seen ≡ false → Unserved m seen T D x
+        drop : opens m seen d ≡ false → (x : Invocation) → Mem x (d ∷ T) → length (x .list) ≡ m → member (x .procedure) seen ≡ false →
+            Unserved m seen T D x
         drop e x (inl q) l u = absurd (passed e x q l u)
         drop e x (inr mx) l u = inr (mx, l, u)
         shrink : opens m seen d ≡ false → (x : Invocation) → Unserved m seen (d ∷ T) D x → Unserved m seen T D x
@@ -503,7 +517,8 @@ module _ (P : Program) (rank : ℕ → ℕ) (E : CallDoes) (G : Safely) (n : ℕ
       empty d h = let a : 0 < length (d .list) = g d (h .0) .fine .some in let b : length (d .list) < 1 = h .1 in omega arith
   bodiesFrom-serves (suc m) D next g dd =
     let r = bodies-serve (suc m) (bodiesFrom P chains m) (bodiesFrom-serves m) [] D D next g dd dd (λ x mx. mx) in
-    (serves-iff E (Unserved (suc m) [] D D) (Shorter (suc (suc m)) D) next (bodiesFrom P chains (suc m) D next .events) to-short from-short (r .0), r .1)
+    (serves-iff E (Unserved (suc m) [] D D) (Shorter (suc (suc m)) D) next (bodiesFrom P chains (suc m) D next .events) to-short from-short (r .0),
+     r .1)
     where
       to-short : (x : Invocation) → Unserved (suc m) [] D D x → Shorter (suc (suc m)) D x
       to-short x (inl h) = let a : length (x .list) < suc m = h .1 in (h .0, omega arith)

@@ -1,9 +1,9 @@
 -- Tracked swaps carry a later list onto the first: what stands on the first list's wires afterwards stood on the later's.
 use mathlib.Core.Path.{_≡_, refl, sym, ap, _∙_, subst}
 use mathlib.Core.Logic.{_≢_}
-use mathlib.Core.Bool.{Bool, true, false}
+use mathlib.Core.Bool.{true, false}
 use mathlib.Core.List.{List, [], _∷_, map}
-use Prim.Native.Nat.{ℕ, zero, suc, min, max}
+use Prim.Native.Nat.{ℕ, suc, min, max}
 use native.Mathlib.Nat.{suc-inj}
 use native.Mathlib.Omega.{arith}
 use borrow.Author.Tests.{eqb-true}
@@ -11,11 +11,12 @@ use lib.ListN.{length, length-map}
 use lib.Dec.{eqb}
 use Rattle.model.specs.Lists.{member}
 use Rattle.model.specs.Meaning.{State}
-use Rattle.model.specs.Gates.{noControls, asking, swap, swapOf, exchange, renamed, fires, act}
-use Rattle.model.specs.Emission.{Event, places, under, swaps}
+use Rattle.model.specs.Gates.{noControls, swapOf, exchange, renamed, fires}
+use Rattle.model.specs.Emission.{places, under, swaps}
 use Rattle.model.proofs.Tests.{byBool, byLt, not-true-false, clash}
 use Rattle.model.proofs.ListLaws.{Distinct, member-nil, member-skip, not-head, not-tail}
-use Rattle.model.proofs.GateLaws.{asks, asks-none, asks-cases, fires-hit, fires-miss, fires-none, fires-renamed, exchange-twice, exchange-right, exchange-other, swapOf-fires, swapOf-rests, Clear}
+use Rattle.model.proofs.GateLaws.{asks, asks-none, asks-cases, fires-hit, fires-miss, fires-none, exchange-twice, exchange-right, exchange-other}
+use Rattle.model.proofs.GateLaws.{swapOf-fires, swapOf-rests, Clear}
 use Rattle.agreement.proofs.Events.{effect, effect-nil, effect-places, AllClear}
 
 -- gates under one ancilla fire where it is 1
@@ -53,7 +54,7 @@ module _ (k w : ℕ) (ks ws : List ℕ) where
   unfolding swaps
   swaps-swap h e = rw (h, swaps)
 
--- lists under an exchange
+-- a wire is outside an exchanged list where the exchange takes it outside the list
 member-exchanged : (u v w : ℕ) (l : List ℕ) → member (exchange u v w) l ≡ false → member w (map (exchange u v) l) ≡ false
 member-exchanged u v w [] h = member-nil w
 member-exchanged u v w (x ∷ l) h = member-skip w (exchange u v x) (map (exchange u v) l)
@@ -64,10 +65,12 @@ member-exchanged u v w (x ∷ l) h = member-skip w (exchange u v x) (map (exchan
 member-moved : (u v w : ℕ) (l : List ℕ) → w ≢ u → w ≢ v → member w l ≡ false → member w (map (exchange u v) l) ≡ false
 member-moved u v w l nu nv h = member-exchanged u v w l (rw (exchange-other u v w nu nv) h)
 
+-- an exchange keeps a list distinct
 distinct-exchanged : (u v : ℕ) (l : List ℕ) → Distinct l → Distinct (map (exchange u v) l)
 distinct-exchanged u v [] d = tt
 distinct-exchanged u v (x ∷ l) d = (member-exchanged u v (exchange u v x) l (rw (exchange-twice u v x) (d .0)), distinct-exchanged u v l (d .1))
 
+-- and undoes itself
 exchanged-twice : (u v : ℕ) (l : List ℕ) → map (exchange u v) (map (exchange u v) l) ≡ l
 exchanged-twice u v [] = refl
 exchanged-twice u v (x ∷ l) = rw (exchange-twice u v x, exchanged-twice u v l)
@@ -100,6 +103,7 @@ route-one-to-one (k ∷ ks) (w ∷ ws) a b e = byBool (eqb w k)
     exchange-one-to-one : (x y : ℕ) → exchange w k x ≡ exchange w k y → x ≡ y
     exchange-one-to-one x y e = sym (exchange-twice w k x) ∙ (ap (exchange w k) e ∙ exchange-twice w k y)
 
+-- the same clauses over a list
 map-there : (k w : ℕ) (ks ws l : List ℕ) → eqb w k ≡ true → map (route (k ∷ ks) (w ∷ ws)) l ≡ map (route ks ws) l
 map-there k w ks ws [] h = refl
 map-there k w ks ws (x ∷ l) h = rw (route-there k w ks ws h x, map-there k w ks ws l h)
@@ -141,7 +145,8 @@ swaps-rest e [] ws s h = effect-nil s
 swaps-rest e (k ∷ ks) [] s h = effect-nil s
 swaps-rest e (k ∷ ks) (w ∷ ws) s h = byBool (eqb w k)
     (λ q. rw (swaps-there k w ks ws q e) (swaps-rest e ks ws s h))
-    (λ q. rw (swaps-swap k w ks ws q e, effect-places, swapOf-rests (under e) w k s (fires-under e s ∙ h)) (swaps-rest e ks (map (exchange w k) ws) s h))
+    (λ q. rw (swaps-swap k w ks ws q e, effect-places, swapOf-rests (under e) w k s (fires-under e s ∙ h))
+      (swaps-rest e ks (map (exchange w k) ws) s h))
 
 -- where it is 1 they rename the wires by the route
 pub swaps-fire : (e : ℕ) (ks ws : List ℕ) (s : State) → member e ks ≡ false → member e ws ≡ false → s e ≡ true →
@@ -160,6 +165,7 @@ swaps-fire e (k ∷ ks) (w ∷ ws) s hk hw h =
         rw (swaps-swap k w ks ws q e, effect-places, swapOf-fires (under e) w k s (fires-under e s ∙ h), q, route)
           (swaps-fire e ks moved t (not-tail e k ks hk) (member-moved w k e ws nw nk (not-tail e w ws hw)) (ap s (exchange-other w k e nw nk) ∙ h)))
 
+-- a swap of two wires other than its ancilla does not ask its targets
 swapOf-clear : (e u v : ℕ) → e ≢ u → e ≢ v → Clear (swapOf (under e) u v)
 unfolding swapOf
 swapOf-clear e u v nu nv = byLt u v

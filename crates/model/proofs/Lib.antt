@@ -1,8 +1,11 @@
 pub mod Tests
 pub mod ListLaws
 pub mod GateLaws
+pub mod Words
 pub mod Calls
 pub mod Fuel
 pub mod Figure2
 pub mod Figure3
+pub mod Inversion
+pub mod RoundTrip
 pub mod Worked

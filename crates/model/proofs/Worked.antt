@@ -1,20 +1,20 @@
 -- The worked programs of document 01, proved together: one theorem over the table of examples, one over the order of refusals, and two circuits
 -- byte for byte.
-use Prim.Native.Nat.{ℕ}
+use Prim.Native.Nat.{ℕ, _^_}
 use mathlib.Core.Path.{_≡_, refl}
 use mathlib.Core.List.{List, [], _∷_, _++_, map}
 use Rattle.model.specs.Limits.{mostCircuit, leastWorkspace}
-use Rattle.model.specs.Examples.{Example, examples, orders, pairs, pairsCircuit, needsSwap, swapCircuit}
+use Rattle.model.specs.Examples.{Example, examples, orders, Compared, compared, pairs, pairsCircuit, needsSwap, swapCircuit}
 use Rattle.model.specs.Reading.{andThen, provided, byteOf, signed16, numberOf, numbers, removals, procedure, statementKind, conditionKind, optional, fields, known, opening, contents, two, conditionOf, condition, statementOf, statement, statements, trees, readTable}
 use Rattle.model.specs.Reading as reading
 use Rattle.model.specs.Lists.{range, delete, remove, removeAll, holds, member}
 use Rattle.model.specs.Faults.{callFaults, faults, callFaultsWithin, programFaults}
 use Rattle.model.specs.Meaning.{update, flipped, stateOf, digit, wordFrom, callDoes, does, callDoesWithin, endState, endWord}
 use Rattle.model.specs.Reach.{calls, reachesBelow, isEmpty, lacksRemoval, width, anyBody, anyLacksRemoval, anyTooWide}
-use Rattle.model.specs.Gates.{insert, asking, swapOf, exchange}
+use Rattle.model.specs.Gates.{insert, asking, swapOf, exchange, renamed, allOne, allZero, fires, act, acts}
 use Rattle.model.specs.Emission.{startChain, whole, invoked, invocations, invokes, returns, left, right, swaps, entryGates, samePair, allEntryGates, around, bodies, bodiesFrom, chainsWithin, emission, gates, below, inUse, peak}
-use Rattle.model.specs.Circuit.{listBit, listBytes, encode, encodeAll, fourBytes, write}
-use Rattle.model.specs.Answers.{Outcome, gives, after, require, outcome, number, valueOr, accepted, run, fit, fitted, circuit, compile}
+use Rattle.model.specs.Circuit.{listBit, listBytes, encode, encodeAll, fourBytes, write, wires, controlsOf, ascends, distinct, within, lowerFirst, gateIsWellFormed, bytes, wireList, gateOf, readGate, readGates, fourByteNumber, circuitOf, readCircuit, blockFrom, blockOf, circuitBlock}
+use Rattle.model.specs.Answers.{Outcome, gives, refuses, after, require, outcome, number, valueOr, accepted, run, fit, fitted, circuit, compile, Block, wellFormed, circuitRun}
 
 pub record Result : Type 0 where
   pub number : ℕ
@@ -34,3 +34,19 @@ worked = refl
 pub circuits : map (λ (e : List ℕ × ℕ). compile (e .0) (e .1) mostCircuit leastWorkspace) ((pairs, 3) ∷ (needsSwap, 4) ∷ []) ≡ gives pairsCircuit ∷ gives swapCircuit ∷ []
 unfolding andThen provided byteOf signed16 numberOf reading.number numbers removals procedure statementKind conditionKind optional fields known opening contents two conditionOf condition statementOf statement statements trees readTable range delete remove removeAll holds member callFaults faults callFaultsWithin programFaults calls reachesBelow isEmpty lacksRemoval width anyBody anyLacksRemoval anyTooWide insert asking swapOf exchange startChain whole invoked invocations invokes returns left right swaps entryGates samePair allEntryGates around bodies bodiesFrom chainsWithin emission gates below inUse peak listBit listBytes encode encodeAll fourBytes write after require outcome accepted fit fitted circuit compile
 circuits = refl
+
+-- the bits that the run of a table's circuit ends with, and the block of the table's own end word
+abbrev circuitBits : Compared → ℕ → List ℕ
+circuitBits e word = bitsOf (circuitRun (valueOr [] (compile (e .table) (e .n) mostCircuit leastWorkspace)) word)
+  where
+    bitsOf : Outcome Block → List ℕ
+    bitsOf (gives b) = b .bits
+    bitsOf (refuses k) = []
+
+abbrev runBits : Compared → ℕ → List ℕ
+runBits e word = blockOf (stateOf (valueOr 0 (run (e .table) (e .n) word leastWorkspace)))
+
+-- from every start word, each circuit ends as the run does, with every ancilla at zero
+pub compares : map (λ (e : Compared). map (circuitBits e) (range (2 ^ (e .n)) 0)) compared ≡ map (λ (e : Compared). map (runBits e) (range (2 ^ (e .n)) 0)) compared
+unfolding andThen provided byteOf signed16 numberOf reading.number numbers removals procedure statementKind conditionKind optional fields known opening contents two conditionOf condition statementOf statement statements trees readTable range delete remove removeAll holds member callFaults faults callFaultsWithin programFaults update flipped stateOf digit wordFrom callDoes does callDoesWithin endState endWord calls reachesBelow isEmpty lacksRemoval width anyBody anyLacksRemoval anyTooWide after require outcome number valueOr accepted run insert asking swapOf exchange startChain whole invoked invocations invokes returns left right swaps entryGates samePair allEntryGates around bodies bodiesFrom chainsWithin emission gates below inUse peak listBit listBytes encode encodeAll fourBytes write fit fitted circuit compile renamed allOne allZero fires act acts ascends distinct within lowerFirst gateIsWellFormed bytes wireList gateOf readGate readGates fourByteNumber circuitOf readCircuit blockFrom circuitBlock wires controlsOf wellFormed circuitRun
+compares = refl
