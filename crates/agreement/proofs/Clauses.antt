@@ -1,17 +1,17 @@
 -- The clauses of the emission by the test that decides them, and what width at most 1 says of a statement's parts.
 use mathlib.Core.Path.{_≡_, refl, sym, _∙_}
-use mathlib.Core.Bool.{Bool, true, false, true≢false}
+use mathlib.Core.Bool.{Bool, true, false, not, _&&_, true≢false}
 use mathlib.Core.List.{List, [], _∷_, _++_}
 use Prim.Native.Nat.{ℕ, zero, suc, _+_, _≤_, _<_, max}
 use native.Mathlib.Omega.{arith}
 use borrow.Author.Tests.{ltb-true, ltb-false}
 use lib.ListN.{length}
-use lib.Dec.{ltb}
-use Rattle.model.specs.Syntax.{Number, Condition, Statement, skip, NOT, sequence, if, qcase, call}
-use Rattle.model.specs.Lists.{remaining, holds}
+use lib.Dec.{ltb, eqb}
+use Rattle.model.specs.Syntax.{Number, Condition, Statement, skip, NOT, sequence, if, qcase, call, Program}
+use Rattle.model.specs.Lists.{remaining, holds, member}
 use Rattle.model.specs.Reach.{width}
 use Rattle.model.specs.Gates.{Controls}
-use Rattle.model.specs.Emission.{Event, Chains, startChain, whole, Invocation, invoked, isWide, invocations, invokes, returns, left, right}
+use Rattle.model.specs.Emission.{Event, Chains, startChain, whole, Invocation, invoked, isWide, invocations, invokes, returns, left, right, Emitted, bodyInvocations, around, bodies}
 use Rattle.model.proofs.Tests.{byBool}
 use Rattle.model.proofs.Calls.{Ranked}
 
@@ -139,3 +139,22 @@ thin-low rank r k (call rs f) q h = byBool (r f) (λ e. absurd (one-is-not-zero 
   where
     one-is-not-zero : _≡_ {A = ℕ} 1 0 → ⊥
     one-is-not-zero e = omega arith
+
+-- is d the first of its pair, with a list of length m?
+abbrev pub opens : ℕ → List ℕ → Invocation → Bool
+opens m seen d = eqb (length (d .list)) m && not (member (d .procedure) seen)
+
+module _ (P : Program) (chains : Chains) (m : ℕ) (shorter : List Invocation → ℕ → Emitted) (seen : List ℕ) (d : Invocation)
+         (calls all : List Invocation) (next : ℕ) where
+  -- the clause of `bodies` at an invocation whose body comes now
+  pub bodies-here : opens m seen d ≡ true → bodies P chains m shorter seen (d ∷ calls) all next ≡
+      around P chains d calls next
+        (bodies P chains m shorter (d .procedure ∷ seen) calls (all ++ bodyInvocations P chains d next)
+          (next + length (bodyInvocations P chains d next)))
+  unfolding bodies
+  bodies-here e = rw (e, bodies)
+
+  -- and at one whose body does not
+  pub bodies-past : opens m seen d ≡ false → bodies P chains m shorter seen (d ∷ calls) all next ≡ bodies P chains m shorter seen calls all next
+  unfolding bodies
+  bodies-past e = rw (e, bodies)

@@ -10,9 +10,10 @@ pub mod Track
 pub mod Entry
 pub mod Onion
 pub mod Agreement
-pub mod Instances
 pub mod Depth
 pub mod Bound
 pub mod Peak
 pub mod Fits
 pub mod Tidy
+pub mod Promise
+pub mod Instances

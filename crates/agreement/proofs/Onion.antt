@@ -25,31 +25,13 @@ use Rattle.agreement.proofs.World.{Safely, Safe, World, Zero, zero-up, 
 use Rattle.agreement.proofs.Invocations.{Mem, mem-left, mem-right, onMem, invocations-range, DistinctAncillas, distinct-append}
 use Rattle.agreement.proofs.Invocations.{invocations-distinct, New, invocations-new}
 use Rattle.agreement.proofs.Frame.{safe-weaken}
+use Rattle.agreement.proofs.Clauses.{opens, bodies-here, bodies-past}
 use Rattle.agreement.proofs.Whole.{zero-call}
 use Rattle.agreement.proofs.Halves.{left-rests, right-rests}
 use Rattle.agreement.proofs.Split.{Split, split}
 use Rattle.agreement.proofs.Track.{fires-under}
 use Rattle.agreement.proofs.Entry.{same-procedure, same-length, same-pair, effect-back, Entrant, Entrants, moves, entered, moves-above}
 use Rattle.agreement.proofs.Entry.{moves-renames, moves-list, entered-above, entries-clear, entries-rest, entries-fire}
-
--- is d the first of its pair, with a list of length m?
-abbrev pub opens : ℕ → List ℕ → Invocation → Bool
-opens m seen d = eqb (length (d .list)) m && not (member (d .procedure) seen)
-
-module _ (P : Program) (chains : Chains) (m : ℕ) (shorter : List Invocation → ℕ → Emitted) (seen : List ℕ) (d : Invocation)
-         (calls all : List Invocation) (next : ℕ) where
-  -- the clause of `bodies` at an invocation whose body comes now
-  pub bodies-here : opens m seen d ≡ true → bodies P chains m shorter seen (d ∷ calls) all next ≡
-      around P chains d calls next
-        (bodies P chains m shorter (d .procedure ∷ seen) calls (all ++ bodyInvocations P chains d next)
-          (next + length (bodyInvocations P chains d next)))
-  unfolding bodies
-  bodies-here e = rw (e, bodies)
-
-  -- and at one whose body does not
-  pub bodies-past : opens m seen d ≡ false → bodies P chains m shorter seen (d ∷ calls) all next ≡ bodies P chains m shorter seen calls all next
-  unfolding bodies
-  bodies-past e = rw (e, bodies)
 
 -- an invocation that waits in a chain whose next wire is `next`, at a rank of at most k
 pub record Good (rank : ℕ → ℕ) (G : Safely) (n k next : ℕ) (d : Invocation) : Type 0 where

@@ -16,7 +16,7 @@ use Rattle.model.specs.Reach.{recursive}
 use Rattle.model.specs.Gates.{Controls, noControls, asking, flip, exchange}
 use Rattle.model.specs.Emission.{Event, takes, places, frees, Chains, startChain, whole, Invocation, invocation, invoked, isWide, invocations, invokes, returns, left, right, under, swaps, entryGates, samePair, allEntryGates, Emitted, bodyInvocations, around, bodies, bodiesFrom, chainsWithin, emission, below, inUse, peak}
 use Rattle.model.proofs.Tests.{byBool, byLt}
-use Rattle.agreement.proofs.Clauses.{whole-yes, whole-no, invocations-wide, invocations-thin, invocations-yes, invocations-no, invocations-recursive, invocations-other, left-wide, left-thin, left-yes, left-no, left-recursive, left-other, right-wide, right-thin, right-yes, right-no, right-recursive, right-other}
+use Rattle.agreement.proofs.Clauses.{bodies-here, bodies-past, whole-yes, whole-no, invocations-wide, invocations-thin, invocations-yes, invocations-no, invocations-recursive, invocations-other, left-wide, left-thin, left-yes, left-no, left-recursive, left-other, right-wide, right-thin, right-yes, right-no, right-recursive, right-other}
 
 module _ (n : ℕ) where
   -- the events take and give back ancillas above n like a stack, from next wire a to next wire b
@@ -133,21 +133,6 @@ module _ (n : ℕ) where
     right-stacked r (call rs f) l cs next top h = byBool (r f)
       (λ e. rw (right-recursive chains r l cs next rs f top e) (returns-stacked (remaining rs l) cs next top))
       (λ e. rw (right-other chains r l cs next rs f top e) refl)
-
--- the clauses of `bodies` at an invocation whose body comes now, and at one whose body does not
-module _ (P : Program) (chains : Chains) (m : ℕ) (shorter : List Invocation → ℕ → Emitted) (seen : List ℕ) (d : Invocation)
-         (calls all : List Invocation) (next : ℕ) where
-  pub bodies-here : eqb (length (d .list)) m && not (member (d .procedure) seen) ≡ true →
-      bodies P chains m shorter seen (d ∷ calls) all next ≡
-        around P chains d calls next (bodies P chains m shorter (d .procedure ∷ seen) calls (all ++ bodyInvocations P chains d next)
-          (next + length (bodyInvocations P chains d next)))
-  unfolding bodies
-  bodies-here e = rw (e, bodies)
-
-  pub bodies-past : eqb (length (d .list)) m && not (member (d .procedure) seen) ≡ false →
-      bodies P chains m shorter seen (d ∷ calls) all next ≡ bodies P chains m shorter seen calls all next
-  unfolding bodies
-  bodies-past e = rw (e, bodies)
 
 -- events that only place gates
 abbrev OnlyGates : List Event → Type 0

@@ -20,17 +20,17 @@ use Rattle.model.specs.Answers.{fit, circuit, usable}
 use Rattle.model.specs.Circuit.{write, wires, controlsOf, ascends, distinct, within, lowerFirst, gateIsWellFormed}
 use Rattle.model.proofs.Tests.{byBool, byEq, byLt, clash, not-true-false, and-left, and-right, and-both, or-cases, or-left, or-false, or-false-left, or-false-right}
 use Rattle.model.proofs.ListLaws.{qubits-data, range-distinct, member-head, member-tail, member-cases, member-skip, not-head, not-tail, not-in-nil, Distinct, Data, data-remaining, data-touched, remaining-distinct}
-use Rattle.model.proofs.GateLaws.{asks, asks-none, asks-cases, exchange-left, exchange-right, exchange-other}
+use Rattle.model.proofs.GateLaws.{insert-cases, asks, asks-none, asks-cases, exchange-left, exchange-right, exchange-other}
 use Rattle.model.proofs.Calls.{Named, Ranked, rank}
 use Rattle.model.proofs.RoundTrip.{AllWellFormed, write-length, WellFormed}
-use Rattle.agreement.proofs.Clauses.{whole-yes, whole-no, invocations-wide, invocations-thin, invocations-yes, invocations-no, invocations-recursive, left-wide, left-thin, left-yes, left-no, left-recursive, left-other, right-wide, right-thin, right-yes, right-no, right-recursive, right-other, width-sequence, width-if, width-qcase, thin-width, wide-width, Low, thin-low}
+use Rattle.agreement.proofs.Clauses.{bodies-here, bodies-past, whole-yes, whole-no, invocations-wide, invocations-thin, invocations-yes, invocations-no, invocations-recursive, left-wide, left-thin, left-yes, left-no, left-recursive, left-other, right-wide, right-thin, right-yes, right-no, right-recursive, right-other, width-sequence, width-if, width-qcase, thin-width, wide-width, Low, thin-low}
 use Rattle.agreement.proofs.World.{Safely, SafeCall, Safe, World, AskedIn, asked-in-none, asked-in-asking, asked-in-under, Below, below-none, below-asking, below-under, below-up, below-not, Fine, fine-call, Served}
 use Rattle.agreement.proofs.Invocations.{Mem, mem-left, DistinctAncillas}
 use Rattle.agreement.proofs.Track.{asks-under}
 use Rattle.agreement.proofs.Onion.{Goods, next-above, safe-body, ranked-body, goods-more, distinct-more, start-good, chains-served}
 use Rattle.agreement.proofs.Agreement.{callRuns, callSafe, main-low, world, main-safe}
 use Rattle.agreement.proofs.Fits.{fit-all, fits-length, fits-wires, fits-count}
-use Rattle.agreement.proofs.Peak.{StackedChains, left-stacked, bodies-here, bodies-past, AllRise, bodies-stacked, bodiesFrom-stacked, chains-stacked, taken-left, taken-right, TakenTo, stacked-to, taken-wires}
+use Rattle.agreement.proofs.Peak.{StackedChains, left-stacked, AllRise, bodies-stacked, bodiesFrom-stacked, chains-stacked, taken-left, taken-right, TakenTo, stacked-to, taken-wires}
 
 -- ascending lists: every wire behind the first is larger
 ascends-tail : (x : ℕ) (l : List ℕ) → ascends (x ∷ l) ≡ true → ascends l ≡ true
@@ -51,11 +51,6 @@ ascends-cons : (x : ℕ) (l : List ℕ) → ((v : ℕ) → member v l ≡ true �
 unfolding ascends
 ascends-cons x [] h a = refl
 ascends-cons x (y ∷ l) h a = and-both (ltb x y) (ascends (y ∷ l)) (lt-ltb x y (h y (member-head y l))) a
-
-insert-cases {ℓ} : {A : Type ℓ} (w v : ℕ) (l : List ℕ) → member v (insert w l) ≡ true → (v ≡ w → A) → (member v l ≡ true → A) → A
-unfolding asks asking
-insert-cases w v l m f g = asks-cases w true (record { ones = l; zeros = [] }) v (or-left (member v (insert w l)) (member v []) m) f
-    (λ i. or-cases (member v l) (member v []) i g (λ z. not-in-nil v z))
 
 -- a new wire keeps a list ascending
 insert-ascends : (w : ℕ) (l : List ℕ) → member w l ≡ false → ascends l ≡ true → ascends (insert w l) ≡ true

@@ -78,7 +78,8 @@ pub asks-none : (w : ℕ) → asks noControls w ≡ false
 unfolding asks
 asks-none w = rw (member-nil w)
 
-insert-cases {ℓ} : {A : Type ℓ} (w v : ℕ) (l : List ℕ) → member v (insert w l) ≡ true → (v ≡ w → A) → (member v l ≡ true → A) → A
+-- what stands in a list with a wire put in is that wire, or stood there before
+pub insert-cases {ℓ} : {A : Type ℓ} (w v : ℕ) (l : List ℕ) → member v (insert w l) ≡ true → (v ≡ w → A) → (member v l ≡ true → A) → A
 unfolding insert
 insert-cases w v [] h f g = member-cases v w [] h f g
 insert-cases {A = A} w v (x ∷ l) h f g = byBool (ltb w x)

@@ -1,5 +1,5 @@
 -- Words and states: the bits of a word, and the word of a state's bits.
-use mathlib.Core.Path.{_≡_, refl, ap, sym, _∙_, subst, fun-ext}
+use mathlib.Core.Path.{_≡_, refl, ap, sym, _∙_, subst}
 use mathlib.Core.Bool.{Bool, true, false}
 use Prim.Native.Nat.{ℕ, zero, suc, _+_, _*_, _/_, _%_, _^_, _≤_, _<_}
 use native.Mathlib.Nat.{add-zero, not-suc-le-zero, lt-of-lt-of-le, div-eq-of-lt, div-one, zero-div, pow-succ', div-div-eq-div-mul}
@@ -9,6 +9,7 @@ use borrow.Author.Tests.{eq-eqb, ne-eqb}
 use lib.Dec.{eqb, lit<}
 use lib.Pow.{pow-mono, shr-lt}
 use Rattle.model.specs.Meaning.{State, bit, stateOf, digit, wordFrom, wordOf}
+use Rattle.model.specs.Circuit.{blockFrom}
 use Rattle.model.proofs.Tests.{byLt}
 
 -- zero has no bit
@@ -86,13 +87,21 @@ unfolding stateOf
 word-zero n word h zero l = refl
 word-zero n word h (suc k) l = past-bit n word k h (omega arith)
 
--- a state that is zero past wire n, and at 0, is the state of its word
-pub state-word : (n : ℕ) (s : State) → s 0 ≡ false → ((w : ℕ) → suc n ≤ w → s w ≡ false) → stateOf (wordOf n s) ≡ s
+-- a state that is zero past wire n holds the bits of its word
+pub word-wire : (n : ℕ) (s : State) → ((w : ℕ) → suc n ≤ w → s w ≡ false) → (w : ℕ) → 1 ≤ w → stateOf (wordOf n s) w ≡ s w
 unfolding stateOf
-state-word n s none past = fun-ext same
-  where
-    same : (w : ℕ) → stateOf (wordOf n s) w ≡ s w
-    same zero = sym none
-    same (suc k) = byLt k n
-      (λ l. word-bit n 1 s k l ∙ ap s (omega arith))
-      (λ g. past-bit n (wordOf n s) k (word-below n 1 s) g ∙ sym (past (suc k) (omega arith)))
+word-wire n s past zero h = absurd (not-suc-le-zero h)
+word-wire n s past (suc k) h = byLt k n
+    (λ l. word-bit n 1 s k l ∙ ap s (omega arith))
+    (λ g. past-bit n (wordOf n s) k (word-below n 1 s) g ∙ sym (past (suc k) (omega arith)))
+
+-- words and blocks go by the wires that they take
+pub same-word : (n a : ℕ) (s t : State) → ((w : ℕ) → a ≤ w → s w ≡ t w) → wordFrom n a s ≡ wordFrom n a t
+unfolding wordFrom
+same-word zero a s t h = refl
+same-word (suc n) a s t h = rw (h a (omega arith), same-word n (suc a) s t (λ w l. h w (omega arith)))
+
+pub same-block : (k a : ℕ) (s t : State) → ((w : ℕ) → a ≤ w → s w ≡ t w) → blockFrom k a s ≡ blockFrom k a t
+unfolding blockFrom
+same-block zero a s t h = refl
+same-block (suc k) a s t h = rw (same-word 8 a s t h, same-block k (a + 8) s t (λ w l. h w (omega arith)))

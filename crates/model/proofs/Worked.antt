@@ -31,9 +31,9 @@ unfolding andThen provided byteOf signed16 numberOf reading.number numbers remov
 worked = refl
 
 -- the circuit of PAIRS, and the circuit of a body that needs a swap
-pub circuits : map (λ (e : List ℕ × ℕ). compile (e .0) (e .1) mostCircuit leastWorkspace) ((pairs, 3) ∷ (needsSwap, 4) ∷ []) ≡ gives pairsCircuit ∷ gives swapCircuit ∷ []
+pub circuits : (compile pairs 3 mostCircuit leastWorkspace ≡ gives pairsCircuit) × (compile needsSwap 4 mostCircuit leastWorkspace ≡ gives swapCircuit)
 unfolding andThen provided byteOf signed16 numberOf reading.number numbers removals procedure statementKind conditionKind optional fields known opening contents two conditionOf condition statementOf statement statements trees readTable range delete remove removeAll holds member callFaults faults callFaultsWithin programFaults calls reachesBelow isEmpty lacksRemoval width anyBody anyLacksRemoval anyTooWide insert asking swapOf exchange startChain whole invoked invocations invokes returns left right swaps entryGates samePair allEntryGates around bodies bodiesFrom chainsWithin emission gates below inUse peak listBit listBytes encode encodeAll fourBytes write after require outcome accepted fit fitted circuit compile
-circuits = refl
+circuits = (refl, refl)
 
 -- the bits that the run of a table's circuit ends with, and the block of the table's own end word
 abbrev circuitBits : Compared → ℕ → List ℕ

@@ -1,0 +1,67 @@
+// The wires of a running circuit, passed by value through each gate.
+ghost use mathlib.Core.Path.{_≡_};
+ghost use Rattle.model.specs.Meaning.{flipped, stateOf};
+ghost use Rattle.model.specs.Gates.{exchange, renamed};
+ghost use Rattle.wires.specs.States.{stateIn, inState, wiresOf};
+
+// Wire w is bit (w - 1) mod 8 of byte (w - 1) div 8, counted from 0 and from the lowest bit.
+pub struct Wires {
+    pub bits: [u8; 32],
+    pub data: u8,
+    pub ancillas: u8,
+}
+
+// The wires at the start of a run: the data word in wires 1 to 64, every other wire 0.
+pub fn start(data: u8, ancillas: u8, word: u64) -> Wires
+    ensures { λ r. ⌜ r ≡ wiresOf «data» ancillas (stateOf word) ⌝ }
+{
+    let mut bits = [0u8; 32];
+    for i in 0..8 {
+        bits[i] = ((word >> (8 * i)) & 255) as u8;
+    }
+    Wires {
+        bits,
+        data,
+        ancillas,
+    }
+}
+
+// Whether a wire holds 1. Number 0 is no wire and holds 0.
+pub fn holds(wires: Wires, wire: u8) -> bool
+    ensures { λ r. ⌜ r ≡ stateIn (wires .bits) wire ⌝ }
+{
+    if wire == 0 {
+        return false;
+    }
+    let place = wire - 1;
+    let byte = wires.bits[(place / 8) as usize];
+    (byte >> (place % 8)) & 1 == 1
+}
+
+// One wire flipped. Number 0 is no wire and changes nothing.
+pub fn flip(wires: Wires, wire: u8) -> Wires
+    ensures { λ r. ⌜ r ≡ inState (flipped wire (stateIn (wires .bits))) wires ⌝ }
+{
+    if wire == 0 {
+        return wires;
+    }
+    let place = wire - 1;
+    let i = (place / 8) as usize;
+    let mut bits = wires.bits;
+    bits[i] = bits[i] ^ (1u8 << (place % 8));
+    Wires {
+        bits,
+        data: wires.data,
+        ancillas: wires.ancillas,
+    }
+}
+
+// Two wires exchanged: where they differ, both are flipped.
+pub fn swap(wires: Wires, u: u8, v: u8) -> Wires
+    ensures { λ r. ⌜ r ≡ inState (renamed (exchange u v) (stateIn (wires .bits))) wires ⌝ }
+{
+    if holds(wires, u) == holds(wires, v) {
+        return wires;
+    }
+    flip(flip(wires, u), v)
+}
