@@ -1,0 +1,195 @@
+-- The ways out of the circuit reader.
+use mathlib.Core.Path.{_≡_, refl, sym, ap, _∙_}
+use mathlib.Core.Bool.{Bool, true, false, not, _&&_, false≢true}
+use mathlib.Core.List.{List, _∷_}
+use Prim.Native.Nat.{ℕ, zero, suc, _+_, _-_, _*_, _≤_, _<_}
+use native.Mathlib.Omega.{arith}
+use borrow.Author.Needs.{needs}
+use borrow.Author.Tests.{ne-eqb, le-leb, lt-leb, not-true, not-false}
+use lib.ListN.{length, getD}
+use lib.Dec.{eqb, leb}
+use Rattle.model.specs.Limits.{notWellFormed, tableStops}
+use Rattle.model.specs.Reading.{Input, Parsed, parsed, refused, andThen, provided, byte}
+use Rattle.model.specs.Gates.{Gate}
+use Rattle.model.specs.Circuit.{Circuit, readGate, readGates, fourByteNumber, circuitOf, readCircuit}
+use Rattle.model.specs.Answers.{Outcome, gives, refuses, number, wellFormed, circuitRead}
+use Rattle.model.proofs.Tests.{byLt}
+use Rattle.circuit.proofs.Reading.{byte-at, byte-past}
+use Rattle.circuit.specs.Views.{inputAt, fills}
+use Rattle.circuit.specs.Header.{headerOf, refusedHeader}
+use Rattle.circuit.specs.declared.CircuitHeader.{CircuitHeader}
+
+-- the header's number is the answer's
+pub header-number : (o : Outcome Circuit) → headerOf o .number ≡ number o
+unfolding headerOf number
+header-number (gives c) = refl
+header-number (refuses k) = refl
+
+-- a reading that needs a byte which is not there is refused, whatever it makes of it
+byte-lacks : (bs : List ℕ) (at : ℕ) (f : ℕ → Input → Parsed Circuit) →
+    (at < length bs → headerOf (wellFormed (f (getD bs at 0) (inputAt bs (at + 1)))) ≡ refusedHeader) →
+    headerOf (wellFormed (andThen (byte (inputAt bs at)) f)) ≡ refusedHeader
+unfolding andThen wellFormed headerOf
+byte-lacks bs at f h = byLt at (length bs) (λ l. rw (byte-at bs at l) (h l)) (λ l. rw (byte-past bs at l))
+
+provided-lacks : (b : Bool) (p : Parsed Circuit) → headerOf (wellFormed p) ≡ refusedHeader →
+    headerOf (wellFormed (provided b notWellFormed p)) ≡ refusedHeader
+unfolding provided wellFormed headerOf
+provided-lacks true p h = h
+provided-lacks false p h = refl
+
+refused-lacks : {A : Type 0} (p : Parsed A) (f : A → Input → Parsed Circuit) → p ≡ refused tableStops →
+    headerOf (wellFormed (andThen p f)) ≡ refusedHeader
+unfolding andThen wellFormed headerOf
+refused-lacks p f e = rw e
+
+-- "4 bytes" of which some are missing
+byte-stops : {A : Type 0} (bs : List ℕ) (at : ℕ) (f : ℕ → Input → Parsed A) →
+    (at < length bs → f (getD bs at 0) (inputAt bs (at + 1)) ≡ refused tableStops) → andThen (byte (inputAt bs at)) f ≡ refused tableStops
+unfolding andThen
+byte-stops bs at f h = byLt at (length bs) (λ l. rw (byte-at bs at l) (h l)) (λ l. rw (byte-past bs at l))
+
+count-stops : (bs : List ℕ) → length bs < 7 → fourByteNumber (inputAt bs 3) ≡ refused tableStops
+unfolding fourByteNumber
+count-stops bs h =
+    byte-stops bs 3 _ (λ a. byte-stops bs 4 _ (λ b. byte-stops bs 5 _ (λ c. byte-stops bs 6 _ (λ d. absurd (omega arith)))))
+
+-- a circuit whose header is not all there
+header-stops : (bs : List ℕ) → length bs < 7 → headerOf (wellFormed (circuitOf (inputAt bs 0))) ≡ refusedHeader
+unfolding circuitOf
+header-stops bs h =
+    byte-lacks bs 0 _ (λ a. provided-lacks (eqb (getD bs 0 0) 1) _
+    (byte-lacks bs 1 _ (λ b. provided-lacks (leb 1 (getD bs 1 0) && leb (getD bs 1 0) 32) _
+    (byte-lacks bs 2 _ (λ c. provided-lacks (leb (getD bs 1 0 + getD bs 2 0) 255) _
+    (refused-lacks (fourByteNumber (inputAt bs 3)) _ (count-stops bs h)))))))
+
+-- what was read, if it was, are n gates
+abbrev Counts : ℕ → Parsed (List Gate) → Type 0
+Counts n (parsed gs i) = length gs ≡ n
+Counts n (refused k) = Unit {0}
+
+counts-front : (n : ℕ) (p : Parsed (List Gate)) (g : Gate) → Counts n p → Counts (suc n) (andThen p (λ gs i. parsed (g ∷ gs) i))
+unfolding andThen
+counts-front n (parsed gs i) g h = ap suc h
+counts-front n (refused k) g h = tt
+
+-- as many gates are read as were asked for
+read-counts : (most n : ℕ) (i : Input) → Counts n (readGates most n i)
+unfolding readGates andThen
+read-counts most zero i = refl
+read-counts most (suc n) i = each (readGate most i) (λ j. read-counts most n j)
+  where
+    each : (p : Parsed Gate) → ((j : Input) → Counts n (readGates most n j)) →
+        Counts (suc n) (andThen p (λ g j. andThen (readGates most n j) (λ gs k. parsed (g ∷ gs) k)))
+    each (parsed g j) h = counts-front n (readGates most n j) g (h j)
+    each (refused k) h = tt
+
+-- a circuit of the gates read behind its header: "no byte is left"
+abbrev closed : ℕ → ℕ → Parsed (List Gate) → Parsed Circuit
+closed n ancillas p =
+    andThen p (λ gs o. provided (eqb (length (o .bytes)) 0) notWellFormed (parsed (record { dataWires = n; ancillas = ancillas; gates = gs }) o))
+
+module _ (n ancillas : ℕ) where
+  header-good : (count : ℕ) (p : Parsed (List Gate)) → Counts count p → fills p ≡ true →
+      headerOf (wellFormed (closed n ancillas p)) ≡ record { number = 0; qubits = n; ancillas = ancillas; gates = count }
+  unfolding andThen provided fills wellFormed headerOf
+  header-good count (parsed gs o) h e = rw (e, h)
+  header-good count (refused k) h e = absurd (false≢true e)
+
+  header-bad : (p : Parsed (List Gate)) → fills p ≡ false → headerOf (wellFormed (closed n ancillas p)) ≡ refusedHeader
+  unfolding andThen provided fills wellFormed headerOf
+  header-bad (parsed gs o) e = rw e
+  header-bad (refused k) e = refl
+
+-- the number in bytes 3 to 6
+abbrev countIn : List ℕ → ℕ
+countIn bs = getD bs 3 0 + 256 * getD bs 4 0 + 65536 * getD bs 5 0 + 16777216 * getD bs 6 0
+
+opened : (bs : List ℕ) → 7 ≤ length bs →
+    circuitOf (inputAt bs 0) ≡ provided (eqb (getD bs 0 0) 1) notWellFormed (provided (leb 1 (getD bs 1 0) && leb (getD bs 1 0) 32) notWellFormed
+    (provided (leb (getD bs 1 0 + getD bs 2 0) 255) notWellFormed
+    (closed (getD bs 1 0) (getD bs 2 0) (readGates (getD bs 1 0 + getD bs 2 0) (countIn bs) (inputAt bs 7)))))
+unfolding circuitOf fourByteNumber andThen
+opened bs h =
+    rw (
+      byte-at bs 0 (omega arith),
+      byte-at bs 1 (omega arith),
+      byte-at bs 2 (omega arith),
+      byte-at bs 3 (omega arith),
+      byte-at bs 4 (omega arith),
+      byte-at bs 5 (omega arith),
+      byte-at bs 6 (omega arith),
+    )
+
+-- the ways out of `read_circuit`
+module _ (bs : List ℕ) where
+  pub circuit-long : (x : CircuitHeader) → x ≡ refusedHeader → 65536 < length bs → x ≡ headerOf (circuitRead bs)
+  unfolding readCircuit provided wellFormed headerOf
+  circuit-long x is h = rw (is, lt-leb (length bs) 65536 h)
+
+  module _ (l : length bs ≤ 65536) where
+    pub circuit-short : (x : CircuitHeader) → x ≡ refusedHeader → length bs < 7 → x ≡ headerOf (circuitRead bs)
+    unfolding readCircuit provided
+    circuit-short x is h = rw (is, le-leb (length bs) 65536 l) (sym (header-stops bs h))
+
+    module _ (h : 7 ≤ length bs) where
+      read : readCircuit bs ≡ circuitOf (inputAt bs 0)
+      unfolding readCircuit provided
+      read = rw (le-leb (length bs) 65536 l)
+
+      pub circuit-edition : (x : CircuitHeader) → x ≡ refusedHeader → (getD bs 0 0 ≡ 1 → ⊥) → x ≡ headerOf (circuitRead bs)
+      unfolding provided wellFormed headerOf
+      circuit-edition x is f = rw (is, read, opened bs h, ne-eqb (getD bs 0 0) 1 f)
+
+      module _ (e : getD bs 0 0 ≡ 1) where
+        pub circuit-none : (x : CircuitHeader) → x ≡ refusedHeader → getD bs 1 0 ≡ 0 → x ≡ headerOf (circuitRead bs)
+        unfolding provided wellFormed headerOf
+        circuit-none x is z = rw (is, read, opened bs h, e, z)
+
+        module _ (f : getD bs 1 0 ≡ 0 → ⊥) where
+          pub circuit-qubits : (x : CircuitHeader) → x ≡ refusedHeader → 32 < getD bs 1 0 → x ≡ headerOf (circuitRead bs)
+          unfolding provided wellFormed headerOf
+          circuit-qubits x is k = rw (is, read, opened bs h, e, le-leb 1 (getD bs 1 0) (omega arith), lt-leb (getD bs 1 0) 32 k)
+
+          module _ (k : getD bs 1 0 ≤ 32) where
+            pub circuit-wires : (x : CircuitHeader) → x ≡ refusedHeader → 255 - getD bs 1 0 < getD bs 2 0 → x ≡ headerOf (circuitRead bs)
+            unfolding provided wellFormed headerOf
+            circuit-wires x is m =
+                rw (
+                  is,
+                  read,
+                  opened bs h,
+                  e,
+                  le-leb 1 (getD bs 1 0) (omega arith),
+                  le-leb (getD bs 1 0) 32 k,
+                  lt-leb (getD bs 1 0 + getD bs 2 0) 255 (omega arith),
+                )
+
+            module _ (m : getD bs 2 0 ≤ 255 - getD bs 1 0) (count : ℕ) (q : count ≡ countIn bs) (good : Bool)
+                (p : good ≡ fills (readGates (getD bs 1 0 + getD bs 2 0) count (inputAt bs 7))) where
+              behind : readCircuit bs ≡ closed (getD bs 1 0) (getD bs 2 0) (readGates (getD bs 1 0 + getD bs 2 0) count (inputAt bs 7))
+              unfolding provided
+              behind =
+                  rw (
+                    read,
+                    opened bs h,
+                    e,
+                    le-leb 1 (getD bs 1 0) (omega arith),
+                    le-leb (getD bs 1 0) 32 k,
+                    le-leb (getD bs 1 0 + getD bs 2 0) 255 (omega arith),
+                    ← q,
+                  )
+
+              pub circuit-gates : (x : CircuitHeader) → x ≡ refusedHeader → good ≡ false → x ≡ headerOf (circuitRead bs)
+              circuit-gates x is g = rw (is, behind)
+                  (sym (header-bad (getD bs 1 0) (getD bs 2 0) (readGates (getD bs 1 0 + getD bs 2 0) count (inputAt bs 7)) (sym p ∙ g)))
+
+              pub circuit-whole : good ≡ true →
+                  record { number = 0; qubits = getD bs 1 0; ancillas = getD bs 2 0; gates = count } ≡ headerOf (circuitRead bs)
+              circuit-whole g = rw behind
+                  (sym (header-good (getD bs 1 0) (getD bs 2 0) count (readGates (getD bs 1 0 + getD bs 2 0) count (inputAt bs 7))
+                  (read-counts (getD bs 1 0 + getD bs 2 0) count (inputAt bs 7)) (sym p ∙ g)))
+
+pub ruleset refusals = (circuit-long, circuit-short, circuit-edition, circuit-none, circuit-qubits, circuit-wires, circuit-gates)
+
+pub ruleset circuits = (needs, not-true, not-false, refusals, circuit-whole)

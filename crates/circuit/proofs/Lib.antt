@@ -1,0 +1,9 @@
+-- What the proofs of several functions, and of callers, use.
+mod Parts
+mod WellFormed
+mod CheckLaws
+pub mod Reading
+pub mod GateReading
+pub mod CircuitReading
+pub mod Writing
+pub mod Putting

@@ -1,0 +1,14 @@
+-- `controls_length` meets its contract.
+use borrow.Author.Needs.{needs}
+use Rattle.circuit.proofs.Putting.{lengths}
+use Rattle.circuit.proofs.write.controls_length.Statement.{statement}
+use Rattle.circuit.proofs.write.controls_length.Tie as tie
+
+pub controls-length-spec : {M : Type 1} → statement M
+controls-length-spec = tie.close (tie.spec
+    (λ c κs. search needs)
+    (λ c. search needs)
+    (λ c κs. search needs)
+    (λ c. search needs)
+    (λ c. search needs)
+    (λ c. search lengths))

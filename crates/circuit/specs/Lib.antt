@@ -1,0 +1,4 @@
+pub mod Views
+pub mod Checks
+pub mod Header
+pub mod Writing

@@ -1,0 +1,66 @@
+-- What the code's places say in the terms of document 01's definitions: a place in the bytes as an input, a gate's places as a gate.
+use Prim.Native.Nat.{ℕ}
+use mathlib.Core.Bool.{Bool, true, false}
+use mathlib.Core.List.{List}
+use lib.ListN.{length, take, drop}
+use lib.Dec.{eqb}
+use Rattle.model.specs.Limits.{notWellFormed}
+use Rattle.model.specs.Reading.{Input, Parsed, parsed, refused, andThen, provided}
+use Rattle.model.specs.Gates.{Controls, Gate, flip, swap}
+use Rattle.model.specs.Circuit.{gateOf, gateIsWellFormed}
+use Rattle.circuit.specs.declared.WireList.{WireList}
+use Rattle.circuit.specs.declared.ListRead.{ListRead}
+use Rattle.circuit.specs.declared.ListRead.the-variants.{Wires, NoWires}
+use Rattle.circuit.specs.declared.GateAt.{GateAt}
+use Rattle.circuit.specs.declared.GateRead.{GateRead}
+use Rattle.circuit.specs.declared.GateRead.the-variants.{Found, NoGate}
+
+-- what is still to be read at a place
+abbrev pub inputAt : List ℕ → ℕ → Input
+inputAt bs at = record { bytes = drop at bs; records = 0 }
+
+-- `count` bytes from a place on
+abbrev pub part : List ℕ → ℕ → ℕ → List ℕ
+part bs from count = take count (drop from bs)
+
+-- "14 circuit not well formed", whatever is wrong
+unfoldable pub settled : {A : Type 0} → Parsed A → Parsed A
+settled (parsed a i) = parsed a i
+settled (refused k) = refused notWellFormed
+
+-- "no byte is left"
+unfoldable pub fills : {A : Type 0} → Parsed A → Bool
+fills (parsed a i) = eqb (length (i .bytes)) 0
+fills (refused k) = false
+
+-- the wires of a list that stands in the bytes
+abbrev pub listIn : List ℕ → WireList → List ℕ
+listIn bs l = part bs (l .from) (l .count)
+
+unfoldable pub listSeen : List ℕ → ListRead → Parsed (List ℕ)
+listSeen bs (Wires l) = parsed (listIn bs l) (inputAt bs (l .next))
+listSeen bs NoWires = refused notWellFormed
+
+abbrev pub controlsIn : List ℕ → GateAt → Controls
+controlsIn bs g = record { ones = listIn bs (g .ones); zeros = listIn bs (g .zeros) }
+
+-- a NOT (false) or a swap (true) under controls
+abbrev pub gateWith : Bool → Controls → ℕ → ℕ → Gate
+gateWith true cs u v = swap cs u v
+gateWith false cs u v = flip cs u
+
+-- the gate that stands in the bytes
+abbrev pub gateIn : List ℕ → GateAt → Gate
+gateIn bs g = gateWith (g .swaps) (controlsIn bs g) (g .target) (g .second)
+
+unfoldable pub gateSeen : List ℕ → GateRead → Parsed Gate
+gateSeen bs (Found g) = parsed (gateIn bs g) (inputAt bs (g .next))
+gateSeen bs NoGate = refused notWellFormed
+
+-- the gate and what is left behind it, if it is well formed
+abbrev pub judged : ℕ → Gate → Input → Parsed Gate
+judged most g i = provided (gateIsWellFormed most g) notWellFormed (parsed g i)
+
+-- a gate behind its controls: a swap's second wire, then the verdict
+abbrev pub gateEnd : ℕ → Bool → List ℕ → List ℕ → ℕ → Input → Parsed Gate
+gateEnd most swaps ones zeros target i = andThen (gateOf swaps (record { ones = ones; zeros = zeros }) target i) (λ g j. judged most g j)

@@ -1,0 +1,344 @@
+// "The circuit": a circuit's bytes are read, and judged (refusal 14).
+ghost use mathlib.Core.Path.{_≡_};
+ghost use mathlib.Core.List.{[]};
+ghost use Prim.Native.Nat.{_+_, _*_};
+ghost use Rattle.model.specs.Lists.{member};
+ghost use Rattle.model.specs.Circuit.{wireList, readGate, readGates, gateIsWellFormed};
+ghost use Rattle.model.specs.Reading.{optional};
+ghost use Rattle.model.specs.Answers.{circuitRead};
+ghost use Rattle.circuit.specs.Views.{part, inputAt, settled, fills, listIn, listSeen, gateIn, gateSeen, judged, gateEnd};
+ghost use Rattle.circuit.specs.Checks.{rising, meets, free, tidy};
+ghost use Rattle.circuit.specs.Header.{headerOf, refusedHeader};
+
+pub mod write;
+
+// A circuit's header, or a refusal's number and zeros.
+#[repr(C)]
+pub struct CircuitHeader {
+    pub number: u32,
+    pub qubits: u32,
+    pub ancillas: u32,
+    pub gates: u32,
+}
+
+// Where a list of wires stands in the bytes, and the place behind it.
+pub struct WireList {
+    pub from: usize,
+    pub count: usize,
+    pub next: usize,
+}
+
+pub enum ListRead {
+    Wires(WireList),
+    NoWires,
+}
+
+// A gate where it stands in the bytes: `second` is a swap's second wire, and the next gate begins at `next`.
+pub struct GateAt {
+    pub target: u8,
+    pub ones: WireList,
+    pub zeros: WireList,
+    pub swaps: bool,
+    pub second: u8,
+    pub next: usize,
+}
+
+pub enum GateRead {
+    Found(GateAt),
+    NoGate,
+}
+
+// Is the wire among `count` wires from a place on?
+pub fn contains(bytes: &[u8], from: usize, count: usize, wire: u8) -> bool
+    ensures { λ r. ⌜ r ≡ member wire (part (now (bytes .entry)) from count) ⌝ }
+{
+    let mut at = from;
+    let mut left = count;
+    while 0 < left {
+        if bytes.len() <= at {
+            return false;
+        }
+        if bytes[at] == wire {
+            return true;
+        }
+        at += 1;
+        left -= 1;
+    }
+    false
+}
+
+// Do the wires ascend, and are they 1 to `most`?
+pub fn ascending(bytes: &[u8], from: usize, count: usize, most: u8) -> bool
+    ensures { λ r. ⌜ r ≡ rising 0 most (part (now (bytes .entry)) from count) ⌝ }
+{
+    let mut low = 0;
+    let mut at = from;
+    let mut left = count;
+    while 0 < left {
+        if bytes.len() <= at {
+            return true;
+        }
+        let wire = bytes[at];
+        if wire <= low {
+            return false;
+        }
+        if most < wire {
+            return false;
+        }
+        low = wire;
+        at += 1;
+        left -= 1;
+    }
+    true
+}
+
+// Do two lists share a wire?
+pub fn share(bytes: &[u8], ones: WireList, zeros: WireList) -> bool
+    ensures { λ r. ⌜ r ≡ meets (listIn (now (bytes .entry)) ones) (listIn (now (bytes .entry)) zeros) ⌝ }
+{
+    let mut at = ones.from;
+    let mut left = ones.count;
+    while 0 < left {
+        if bytes.len() <= at {
+            return false;
+        }
+        if contains(bytes, zeros.from, zeros.count, bytes[at]) {
+            return true;
+        }
+        at += 1;
+        left -= 1;
+    }
+    false
+}
+
+// Do the wires of each list ascend from 1 to `most`, with no wire in both?
+pub fn are_tidy(bytes: &[u8], ones: WireList, zeros: WireList, most: u8) -> bool
+    ensures { λ r. ⌜ r ≡ tidy most (listIn (now (bytes .entry)) ones) (listIn (now (bytes .entry)) zeros) ⌝ }
+{
+    if !ascending(bytes, ones.from, ones.count, most) {
+        return false;
+    }
+    if !ascending(bytes, zeros.from, zeros.count, most) {
+        return false;
+    }
+    !share(bytes, ones, zeros)
+}
+
+// Is the wire 1 to `most`, and in neither list?
+pub fn is_free(bytes: &[u8], ones: WireList, zeros: WireList, most: u8, wire: u8) -> bool
+    ensures { λ r. ⌜ r ≡ free most (listIn (now (bytes .entry)) ones) (listIn (now (bytes .entry)) zeros) wire ⌝ }
+{
+    if wire == 0 {
+        return false;
+    }
+    if most < wire {
+        return false;
+    }
+    if contains(bytes, ones.from, ones.count, wire) {
+        return false;
+    }
+    !contains(bytes, zeros.from, zeros.count, wire)
+}
+
+// "Counts are at least 1, wires ascend, no wire occurs twice in a gate, a swap's target is its lower wire."
+pub fn well_formed(bytes: &[u8], gate: GateAt, most: u8) -> bool
+    ensures { λ r. ⌜ r ≡ gateIsWellFormed most (gateIn (now (bytes .entry)) gate) ⌝ }
+{
+    let ones = gate.ones;
+    let zeros = gate.zeros;
+    if !are_tidy(bytes, ones, zeros, most) {
+        return false;
+    }
+    if !is_free(bytes, ones, zeros, most, gate.target) {
+        return false;
+    }
+    if !gate.swaps {
+        return true;
+    }
+    if gate.second <= gate.target {
+        return false;
+    }
+    is_free(bytes, ones, zeros, most, gate.second)
+}
+
+fn wide(byte: u8) -> usize
+    ensures { λ r. ⌜ r ≡ byte ⌝ }
+{
+    byte as usize
+}
+
+// "count and wires", where the list's bit stands in the map; otherwise no wire.
+pub fn read_list(bytes: &[u8], at: usize, stands: bool) -> ListRead
+    ensures { λ r. ⌜ listSeen (now (bytes .entry)) r ≡ settled (optional stands wireList [] (inputAt (now (bytes .entry)) at)) ⌝ }
+{
+    if !stands {
+        return ListRead::Wires(WireList {
+            from: at,
+            count: 0,
+            next: at,
+        });
+    }
+    if bytes.len() <= at {
+        return ListRead::NoWires;
+    }
+    let count = wide(bytes[at]);
+    if count == 0 {
+        return ListRead::NoWires;
+    }
+    if bytes.len() - at <= count {
+        return ListRead::NoWires;
+    }
+    ListRead::Wires(WireList {
+        from: at + 1,
+        count: count,
+        next: at + 1 + count,
+    })
+}
+
+// The gate, if it is well formed.
+pub fn judge(bytes: &[u8], gate: GateAt, most: u8) -> GateRead
+    ensures { λ r. ⌜ gateSeen (now (bytes .entry)) r
+        ≡ judged most (gateIn (now (bytes .entry)) gate) (inputAt (now (bytes .entry)) (gate .next)) ⌝ }
+{
+    if well_formed(bytes, gate, most) {
+        GateRead::Found(gate)
+    } else {
+        GateRead::NoGate
+    }
+}
+
+// A gate behind its controls: "bit 2, the second wire of a swap", then the verdict.
+pub fn end_gate(
+    bytes: &[u8],
+    target: u8,
+    ones: WireList,
+    zeros: WireList,
+    swaps: bool,
+    most: u8,
+) -> GateRead
+    ensures { λ r. ⌜ gateSeen (now (bytes .entry)) r ≡ settled (gateEnd most swaps (listIn (now (bytes .entry)) ones)
+        (listIn (now (bytes .entry)) zeros) target (inputAt (now (bytes .entry)) (zeros .next))) ⌝ }
+{
+    let next = zeros.next;
+    if !swaps {
+        let gate = GateAt {
+            target: target,
+            ones: ones,
+            zeros: zeros,
+            swaps: false,
+            second: 0,
+            next: next,
+        };
+        return judge(bytes, gate, most);
+    }
+    if bytes.len() <= next {
+        return GateRead::NoGate;
+    }
+    let gate = GateAt {
+        target: target,
+        ones: ones,
+        zeros: zeros,
+        swaps: true,
+        second: bytes[next],
+        next: next + 1,
+    };
+    judge(bytes, gate, most)
+}
+
+// One gate over wires 1 to `most`, from a place on.
+pub fn read_gate(bytes: &[u8], at: usize, most: u8) -> GateRead
+    ensures { λ r. ⌜ gateSeen (now (bytes .entry)) r ≡ settled (readGate most (inputAt (now (bytes .entry)) at)) ⌝ }
+{
+    if bytes.len() < 2 {
+        return GateRead::NoGate;
+    }
+    if bytes.len() - 2 < at {
+        return GateRead::NoGate;
+    }
+    let map = bytes[at];
+    let target = bytes[at + 1];
+    if 7 < map {
+        return GateRead::NoGate;
+    }
+    let first = read_list(bytes, at + 2, map % 2 == 1);
+    let ListRead::Wires(ones) = first else {
+        return GateRead::NoGate;
+    };
+    let second = read_list(bytes, ones.next, map / 2 % 2 == 1);
+    let ListRead::Wires(zeros) = second else {
+        return GateRead::NoGate;
+    };
+    end_gate(bytes, target, ones, zeros, map / 4 % 2 == 1, most)
+}
+
+// Do `count` gates from a place on fill the bytes?
+pub fn gates_fill(bytes: &[u8], from: usize, most: u8, count: u32) -> bool
+    ensures { λ r. ⌜ r ≡ fills (readGates most count (inputAt (now (bytes .entry)) from)) ⌝ }
+{
+    let mut at = from;
+    let mut left = count;
+    while 0 < left {
+        let found = read_gate(bytes, at, most);
+        let GateRead::Found(gate) = found else {
+            return false;
+        };
+        at = gate.next;
+        left -= 1;
+    }
+    bytes.len() <= at
+}
+
+// "4 bytes little-endian"
+pub fn little_endian(a: u8, b: u8, c: u8, d: u8) -> u32
+    ensures { λ r. ⌜ r ≡ a + 256 * b + 65536 * c + 16777216 * d ⌝ }
+{
+    a as u32 + 256 * (b as u32) + 65536 * (c as u32) + 16777216 * (d as u32)
+}
+
+// "14 circuit not well formed": "A refusal gives its number and otherwise zeros."
+pub fn refused() -> CircuitHeader
+    ensures { λ r. ⌜ r ≡ refusedHeader ⌝ }
+{
+    CircuitHeader {
+        number: 14,
+        qubits: 0,
+        ancillas: 0,
+        gates: 0,
+    }
+}
+
+// The circuit reader: n, ancillas and gate count of a circuit that is well formed.
+pub fn read_circuit(bytes: &[u8]) -> CircuitHeader
+    ensures { λ r. ⌜ r ≡ headerOf (circuitRead (now (bytes .entry))) ⌝ }
+{
+    if 65536 < bytes.len() {
+        return refused();
+    }
+    if bytes.len() < 7 {
+        return refused();
+    }
+    if bytes[0] != 1 {
+        return refused();
+    }
+    let n = bytes[1];
+    if n == 0 {
+        return refused();
+    }
+    if 32 < n {
+        return refused();
+    }
+    let ancillas = bytes[2];
+    if 255 - n < ancillas {
+        return refused();
+    }
+    let count = little_endian(bytes[3], bytes[4], bytes[5], bytes[6]);
+    if !gates_fill(bytes, 7, n + ancillas, count) {
+        return refused();
+    }
+    CircuitHeader {
+        number: 0,
+        qubits: n as u32,
+        ancillas: ancillas as u32,
+        gates: count,
+    }
+}

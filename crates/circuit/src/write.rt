@@ -1,0 +1,297 @@
+// "A gate is a map byte, the target wire, then" its lists of wires: a gate's bytes, written into a room.
+ghost use mathlib.Core.Path.{_≡_};
+ghost use mathlib.Core.List.{[], _∷_};
+ghost use lib.ListN.{length, set};
+ghost use lib.Seq.{sets};
+ghost use Rattle.model.specs.Gates.{noControls, flip, swapOf};
+ghost use Rattle.model.specs.Circuit.{listBit, listBytes, encode, controlBytes, fourBytes};
+ghost use Rattle.circuit.specs.Writing.{placeFor, insertWithin, askingWithin, wiresOf, controlsFrom, gateFrom, mapOf, headerBytes};
+
+// Wires in ascending order: the first `count` of `wires`. Beside 32 qubits there is room for one ancilla.
+pub struct ControlList {
+    pub wires: [u8; 33],
+    pub count: u8,
+}
+
+// The wires asked for 1 and those asked for 0.
+pub struct ControlLists {
+    pub ones: ControlList,
+    pub zeros: ControlList,
+}
+
+// A NOT on `target`, or a swap of `target` and `second`, under controls.
+pub struct NewGate {
+    pub controls: ControlLists,
+    pub target: u8,
+    pub swaps: bool,
+    pub second: u8,
+}
+
+// How many wires are in the list?
+pub fn held(list: ControlList) -> u8
+    ensures { λ r. ⌜ r ≡ length (wiresOf list) ⌝ }
+{
+    if 33 < list.count { 33 } else { list.count }
+}
+
+// How many wires of the list come before a wire that is put among them?
+pub fn place_for(list: ControlList, wire: u8) -> usize
+    ensures { λ r. ⌜ r ≡ placeFor wire (wiresOf list) ⌝ }
+{
+    let wires = list.wires;
+    let count = held(list) as usize;
+    let mut i = 0;
+    while i < count {
+        if wire < wires[i] {
+            return i;
+        }
+        i += 1;
+    }
+    i
+}
+
+// The wire put among those of the list, where there is room for it.
+pub fn insert(list: ControlList, wire: u8) -> ControlList
+    ensures { λ r. ⌜ wiresOf r ≡ insertWithin wire (wiresOf list) ⌝ }
+{
+    let count = held(list) as usize;
+    if 33 <= count {
+        return list;
+    }
+    let mut wires = list.wires;
+    let mut i = place_for(list, wire);
+    let mut carried = wire;
+    while i < count {
+        let next = wires[i];
+        wires[i] = carried;
+        carried = next;
+        i += 1;
+    }
+    wires[count] = carried;
+    ControlList {
+        wires: wires,
+        count: (count + 1) as u8,
+    }
+}
+
+pub fn no_controls() -> ControlLists
+    ensures { λ r. ⌜ controlsFrom r ≡ noControls ⌝ }
+{
+    let none = ControlList {
+        wires: [0; 33],
+        count: 0,
+    };
+    ControlLists {
+        ones: none,
+        zeros: none,
+    }
+}
+
+// One control more: the wire is asked for 1 (true) or 0 (false).
+pub fn asking(controls: ControlLists, wire: u8, bit: bool) -> ControlLists
+    ensures { λ r. ⌜ controlsFrom r ≡ askingWithin wire bit (controlsFrom controls) ⌝ }
+{
+    let ones = controls.ones;
+    let zeros = controls.zeros;
+    if bit {
+        let more = insert(ones, wire);
+        return ControlLists {
+            ones: more,
+            zeros: zeros,
+        };
+    }
+    let more = insert(zeros, wire);
+    ControlLists {
+        ones: ones,
+        zeros: more,
+    }
+}
+
+// A NOT on a wire.
+pub fn flip_of(controls: ControlLists, target: u8) -> NewGate
+    ensures { λ r. ⌜ gateFrom r ≡ flip (controlsFrom controls) target ⌝ }
+{
+    NewGate {
+        controls: controls,
+        target: target,
+        swaps: false,
+        second: 0,
+    }
+}
+
+// A swap of two wires: "a swap's target is its lower wire".
+pub fn swap_of(controls: ControlLists, first: u8, second: u8) -> NewGate
+    ensures { λ r. ⌜ gateFrom r ≡ swapOf (controlsFrom controls) first second ⌝ }
+{
+    if first < second {
+        return NewGate {
+            controls: controls,
+            target: first,
+            swaps: true,
+            second: second,
+        };
+    }
+    NewGate {
+        controls: controls,
+        target: second,
+        swaps: true,
+        second: first,
+    }
+}
+
+// The lengths below have types in which no sum of theirs wraps.
+// How many bytes does the list take: none without a wire, otherwise its count and its wires?
+pub fn list_length(list: ControlList) -> u16
+    ensures { λ r. ⌜ r ≡ length (listBytes (wiresOf list)) ⌝ }
+{
+    let count = held(list) as u16;
+    if count == 0 { 0 } else { count + 1 }
+}
+
+// The list's bit in the map: it stands where the list has a wire.
+pub fn list_bit(list: ControlList, value: u8) -> u8
+    ensures { λ r. ⌜ r ≡ listBit value (wiresOf list) ⌝ }
+{
+    if held(list) == 0 { 0 } else { value }
+}
+
+// The gate's map byte.
+pub fn map_of(gate: NewGate) -> u8
+    ensures { λ r. ⌜ r ≡ mapOf (gate .swaps) (controlsFrom (gate .controls)) ⌝ }
+{
+    let controls = gate.controls;
+    let ones = list_bit(controls.ones, 1);
+    let zeros = list_bit(controls.zeros, 2);
+    if gate.swaps {
+        ones + zeros + 4
+    } else {
+        ones + zeros
+    }
+}
+
+// How many bytes do both lists take?
+pub fn controls_length(controls: ControlLists) -> u32
+    ensures { λ r. ⌜ r ≡ length (controlBytes (controlsFrom controls)) ⌝ }
+{
+    list_length(controls.ones) as u32 + list_length(controls.zeros) as u32
+}
+
+// How many bytes does the gate take?
+pub fn gate_length(gate: NewGate) -> usize
+    ensures { λ r. ⌜ r ≡ length (encode (gateFrom gate)) ⌝ }
+{
+    let controls = controls_length(gate.controls) as usize;
+    if gate.swaps {
+        controls + 3
+    } else {
+        controls + 2
+    }
+}
+
+// A byte at a place, if the room reaches there.
+pub fn put(room: &mut [u8], at: usize, byte: u8)
+    ensures { λ r. ⌜ now (room .exit) ≡ set (now (room .entry)) at byte ⌝ }
+{
+    if at < room.len() {
+        room[at] = byte;
+    }
+}
+
+// Two bytes from a place on, as far as the room reaches.
+pub fn put_pair(room: &mut [u8], at: usize, first: u8, second: u8)
+    ensures { λ r. ⌜ now (room .exit) ≡ sets (now (room .entry)) at (first ∷ second ∷ []) ⌝ }
+{
+    if room.len() <= at {
+        return;
+    }
+    put(room, at, first);
+    put(room, at + 1, second);
+}
+
+// Wires from a place on, as far as the room reaches.
+pub fn put_wires(room: &mut [u8], at: usize, list: ControlList)
+    ensures { λ r. ⌜ now (room .exit) ≡ sets (now (room .entry)) at (wiresOf list) ⌝ }
+{
+    let wires = list.wires;
+    let count = held(list) as usize;
+    let mut place = at;
+    let mut i = 0;
+    while i < count {
+        if room.len() <= place {
+            return;
+        }
+        room[place] = wires[i];
+        place += 1;
+        i += 1;
+    }
+}
+
+// A list's bytes from a place on, as far as the room reaches.
+pub fn put_list(room: &mut [u8], at: usize, list: ControlList)
+    ensures { λ r. ⌜ now (room .exit) ≡ sets (now (room .entry)) at (listBytes (wiresOf list)) ⌝ }
+{
+    let count = held(list);
+    if count == 0 {
+        return;
+    }
+    if room.len() <= at {
+        return;
+    }
+    put(room, at, count);
+    put_wires(room, at + 1, list);
+}
+
+// The bytes of both lists from a place on, as far as the room reaches.
+pub fn put_controls(room: &mut [u8], at: usize, controls: ControlLists)
+    ensures { λ r. ⌜ now (room .exit) ≡ sets (now (room .entry)) at (controlBytes (controlsFrom controls)) ⌝ }
+{
+    if room.len() <= at {
+        return;
+    }
+    let ones = controls.ones;
+    put_list(room, at, ones);
+    put_list(room, at + list_length(ones) as usize, controls.zeros);
+}
+
+// A gate's bytes from a place on, as far as the room reaches.
+pub fn put_gate(room: &mut [u8], at: usize, gate: NewGate)
+    ensures { λ r. ⌜ now (room .exit) ≡ sets (now (room .entry)) at (encode (gateFrom gate)) ⌝ }
+{
+    if room.len() <= at {
+        return;
+    }
+    put_pair(room, at, map_of(gate), gate.target);
+    put_controls(room, at + 2, gate.controls);
+    if gate.swaps {
+        put(
+            room,
+            at + 2 + controls_length(gate.controls) as usize,
+            gate.second,
+        );
+    }
+}
+
+// "4 bytes little-endian" from a place on, as far as the room reaches.
+pub fn put_number(room: &mut [u8], at: usize, number: u32)
+    ensures { λ r. ⌜ now (room .exit) ≡ sets (now (room .entry)) at (fourBytes number) ⌝ }
+{
+    if room.len() <= at {
+        return;
+    }
+    put_pair(room, at, (number % 256) as u8, (number / 256 % 256) as u8);
+    put_pair(
+        room,
+        at + 2,
+        (number / 65536 % 256) as u8,
+        (number / 16777216 % 256) as u8,
+    );
+}
+
+// "Edition byte 1, n, ancilla byte .., gate count", as far as the room reaches.
+pub fn put_header(room: &mut [u8], qubits: u8, ancillas: u8, gates: u32)
+    ensures { λ r. ⌜ now (room .exit) ≡ sets (now (room .entry)) 0 (headerBytes qubits ancillas gates) ⌝ }
+{
+    put_pair(room, 0, 1, qubits);
+    put(room, 2, ancillas);
+    put_number(room, 3, gates);
+}

@@ -1,0 +1,134 @@
+-- The ways out of the circuit run: its answer is document 01's.
+use mathlib.Core.Path.{_≡_, refl, sym, ap}
+use mathlib.Core.Bool.{Bool, true, false, _&&_}
+use mathlib.Core.List.{List}
+use Prim.Native.Nat.{ℕ, _+_, _-_, _*_, _/_, _%_, _^_, _≤_, _<_}
+use native.Mathlib.Nat.{lt-of-lt-of-le, div-eq-of-lt, mod-lt}
+use native.Mathlib.Omega.{arith}
+use borrow.Author.Needs.{needs}
+use borrow.Author.Tests.{eq-eqb, ne-eqb, lt-ltb, le-ltb, le-leb, not-true, not-false}
+use lib.Dec.{eqb, ltb, leb}
+use lib.ListN.{length, getD}
+use lib.Pow.{pow-mono, split, ones-lt}
+use Rattle.model.specs.Limits.{notWellFormed}
+use Rattle.model.specs.Reading.{Parsed, parsed, refused, andThen, provided}
+use Rattle.model.specs.Meaning.{stateOf}
+use Rattle.model.specs.Gates.{Gate}
+use Rattle.model.specs.Circuit.{Circuit, fourByteNumber, readGates, circuitOf, readCircuit, circuitBlock}
+use Rattle.model.specs.Answers.{Outcome, gives, refuses, after, require, wellFormed, circuitRead, circuitRun}
+use Rattle.model.proofs.Tests.{byBool, byLt}
+use Rattle.wires.specs.States.{wiresOf}
+use Rattle.wires.specs.declared.Wires.{Wires}
+use Rattle.wires.proofs.Blocks.{start-state}
+use Rattle.circuit.specs.Views.{inputAt}
+use Rattle.circuit.specs.Header.{headerOf, refusedHeader}
+use Rattle.circuit.specs.declared.CircuitHeader.{CircuitHeader}
+use Rattle.circuit.proofs.Reading.{byte-at}
+use Rattle.circuit.proofs.CircuitReading.{refusals}
+use Rattle.circuit_run.specs.Runs.{seen, ranOf, refusedBlock, givenBlock, blockAnswer, endAnswer}
+use Rattle.circuit_run.specs.declared.Ran.{Ran}
+use Rattle.circuit_run.specs.declared.CircuitBlock.{CircuitBlock}
+
+-- the ways out of `fits`
+module _ (word n : ℕ) where
+  pub fits-wide : word < 2 ^ 64 → 63 < n → true ≡ ltb word (2 ^ n)
+  fits-wide h l = sym (lt-ltb word (2 ^ n) (lt-of-lt-of-le h (pow-mono {i = 64} (omega arith))))
+
+  below : word / 2 ^ n ≡ 0 → word < 2 ^ n
+  below e =
+      let s : 0 * 2 ^ n + word % 2 ^ n ≡ word = rw e at (split word n) in
+      let l : 2 ^ n - 1 < 2 ^ n = ones-lt n in
+      let m : word % 2 ^ n < 2 ^ n = mod-lt word (omega arith) in
+      omega arith
+
+  pub fits-shift : eqb (word / 2 ^ n) 0 ≡ ltb word (2 ^ n)
+  fits-shift = byLt word (2 ^ n)
+      (λ l. rw (eq-eqb (word / 2 ^ n) 0 (div-eq-of-lt l), lt-ltb word (2 ^ n) l))
+      (λ g. rw (ne-eqb (word / 2 ^ n) 0 (λ e. let b : word < 2 ^ n = below e in omega arith), le-ltb word (2 ^ n) g))
+
+pub ruleset fitting = (needs, fits-wide, fits-shift)
+
+-- the ways out of `answer`
+module _ (ran : Ran) (word : ℕ) where
+  pub answer-bad : ran .ended ≡ false → (x : CircuitBlock) → x ≡ refusedBlock 14 → x ≡ endAnswer word (seen ran)
+  unfolding endAnswer
+  answer-bad e x is = rw (is, e)
+
+  module _ (e : ran .ended ≡ true) (low : Bool) (l : low ≡ ltb word (2 ^ (ran .wires .«data»))) where
+    pub answer-high : low ≡ false → (x : CircuitBlock) → x ≡ refusedBlock 13 → x ≡ endAnswer word (seen ran)
+    unfolding endAnswer
+    answer-high f x is = rw (is, e, ← l, f)
+
+    pub answer-low : low ≡ true → givenBlock (ran .wires .«data») (ran .wires .ancillas) (ran .wires .bits) ≡ endAnswer word (seen ran)
+    unfolding endAnswer
+    answer-low f = rw (e, ← l, f)
+
+pub ruleset answering = (needs, not-true, not-false, answer-bad, answer-high, answer-low)
+
+-- a circuit of the gates read behind its header: "no byte is left"
+abbrev closed : ℕ → ℕ → Parsed (List Gate) → Parsed Circuit
+closed n ancillas p =
+    andThen p (λ gs o. provided (eqb (length (o .bytes)) 0) notWellFormed (parsed (record { dataWires = n; ancillas = ancillas; gates = gs }) o))
+
+-- the number in bytes 3 to 6
+abbrev countIn : List ℕ → ℕ
+countIn bs = getD bs 3 0 + 256 * getD bs 4 0 + 65536 * getD bs 5 0 + 16777216 * getD bs 6 0
+
+opened : (bs : List ℕ) → 7 ≤ length bs →
+    circuitOf (inputAt bs 0) ≡ provided (eqb (getD bs 0 0) 1) notWellFormed (provided (leb 1 (getD bs 1 0) && leb (getD bs 1 0) 32) notWellFormed
+    (provided (leb (getD bs 1 0 + getD bs 2 0) 255) notWellFormed
+    (closed (getD bs 1 0) (getD bs 2 0) (readGates (getD bs 1 0 + getD bs 2 0) (countIn bs) (inputAt bs 7)))))
+unfolding circuitOf fourByteNumber andThen
+opened bs h =
+    rw (
+      byte-at bs 0 (omega arith),
+      byte-at bs 1 (omega arith),
+      byte-at bs 2 (omega arith),
+      byte-at bs 3 (omega arith),
+      byte-at bs 4 (omega arith),
+      byte-at bs 5 (omega arith),
+      byte-at bs 6 (omega arith),
+    )
+
+-- a header that is a refusal's comes of that refusal
+header-refused : (o : Outcome Circuit) → refusedHeader ≡ headerOf o → o ≡ refuses notWellFormed
+unfolding headerOf
+header-refused (gives c) e = let z : _≡_ {A = ℕ} 14 0 = ap (λ (x : CircuitHeader). x .number) e in absurd (omega arith)
+header-refused (refuses k) e = ap refuses (sym (ap (λ (x : CircuitHeader). x .number) e))
+
+-- the ways out of `run_circuit`
+module _ (bs : List ℕ) (word : ℕ) where
+  -- what the circuit reader refuses, the run refuses too
+  pub run-refused : (x : CircuitBlock) → x ≡ refusedBlock 14 → refusedHeader ≡ headerOf (circuitRead bs) → x ≡ blockAnswer (circuitRun bs word)
+  unfolding circuitRun after blockAnswer
+  run-refused x is e = rw (is, header-refused (circuitRead bs) e)
+
+  -- the answer to wires that ended is the answer of the circuit run
+  ending : (n ancillas : ℕ) (p : Parsed (List Gate)) → word < 2 ^ 64 → readCircuit bs ≡ closed n ancillas p →
+      endAnswer word (ranOf (wiresOf n ancillas (stateOf word)) p) ≡ blockAnswer (circuitRun bs word)
+  unfolding andThen provided wellFormed after require circuitRun circuitBlock ranOf endAnswer blockAnswer
+  ending n ancillas (parsed gs o) h e = rw e (byBool (eqb (length (o .bytes)) 0)
+      (λ z. rw (z, start-state word h) (byBool (ltb word (2 ^ n)) (λ l. rw l) (λ l. rw l)))
+      (λ z. rw z))
+  ending n ancillas (refused k) h e = rw e
+
+  -- what the circuit reader reads, the run lets act
+  pub run-whole : length bs ≤ 65536 → 7 ≤ length bs → getD bs 0 0 ≡ 1 → (getD bs 1 0 ≡ 0 → ⊥) → getD bs 1 0 ≤ 32 →
+      getD bs 2 0 ≤ 255 - getD bs 1 0 → word < 2 ^ 64 →
+      (count : ℕ) → count ≡ countIn bs → (wires : Wires) → wires ≡ wiresOf (getD bs 1 0) (getD bs 2 0) (stateOf word) →
+      (ran : Ran) → seen ran ≡ ranOf wires (readGates (getD bs 1 0 + getD bs 2 0) count (inputAt bs 7)) →
+      (x : CircuitBlock) → x ≡ endAnswer word (seen ran) → x ≡ blockAnswer (circuitRun bs word)
+  unfolding readCircuit provided
+  run-whole l h e f k m w count q wires s ran r x is =
+      rw (is, r, s) (ending (getD bs 1 0) (getD bs 2 0) (readGates (getD bs 1 0 + getD bs 2 0) count (inputAt bs 7)) w
+      (rw (
+        le-leb (length bs) 65536 l,
+        opened bs h,
+        e,
+        le-leb 1 (getD bs 1 0) (omega arith),
+        le-leb (getD bs 1 0) 32 k,
+        le-leb (getD bs 1 0 + getD bs 2 0) 255 (omega arith),
+        ← q,
+      )))
+
+pub ruleset runs = (needs, refusals, run-refused, run-whole)

@@ -1,0 +1,169 @@
+// The circuit run: the gates of a circuit act in order, each as it is read, on wires that go by value through each gate.
+ghost use mathlib.Core.Path.{_≡_};
+ghost use Prim.Native.Nat.{_^_};
+ghost use lib.Dec.{ltb};
+ghost use Rattle.model.specs.Gates.{fires, act};
+ghost use Rattle.model.specs.Circuit.{readGates};
+ghost use Rattle.model.specs.Answers.{circuitRun};
+ghost use Rattle.wires.specs.States.{stateIn, inState};
+ghost use Rattle.circuit.specs.Views.{part, inputAt, gateIn, controlsIn};
+ghost use Rattle.circuit_run.specs.Runs.{allHold, seen, ranOf, refusedBlock, endAnswer, blockAnswer};
+use circuit::GateAt;
+use circuit::GateRead;
+use wires::Wires;
+
+// The wires behind the last gate; they count only where the run ended.
+pub struct Ran {
+    pub ended: bool,
+    pub wires: Wires,
+}
+
+// The whole block of a circuit that was run, or a refusal's number and zeros.
+#[repr(C)]
+pub struct CircuitBlock {
+    pub number: u32,
+    pub data: u8,
+    pub ancillas: u8,
+    pub bits: [u8; 32],
+}
+
+// Does each of `count` wires from a place on hold the bit asked for?
+pub fn all_hold(bytes: &[u8], from: usize, count: usize, asked: bool, wires: Wires) -> bool
+    ensures { λ r. ⌜ r ≡ allHold asked (part (now (bytes .entry)) from count) (stateIn (wires .bits)) ⌝ }
+{
+    let mut at = from;
+    let mut left = count;
+    while 0 < left {
+        if bytes.len() <= at {
+            return true;
+        }
+        if wires::holds(wires, bytes[at]) != asked {
+            return false;
+        }
+        at += 1;
+        left -= 1;
+    }
+    true
+}
+
+// "every controlled wire holds the bit asked for"
+pub fn fires(bytes: &[u8], gate: GateAt, wires: Wires) -> bool
+    ensures { λ r. ⌜ r ≡ fires (controlsIn (now (bytes .entry)) gate) (stateIn (wires .bits)) ⌝ }
+{
+    let ones = gate.ones;
+    if !all_hold(bytes, ones.from, ones.count, true, wires) {
+        return false;
+    }
+    let zeros = gate.zeros;
+    all_hold(bytes, zeros.from, zeros.count, false, wires)
+}
+
+// "a NOT flips its target and a swap exchanges its two wires; otherwise the gate changes nothing"
+pub fn act(bytes: &[u8], gate: GateAt, wires: Wires) -> Wires
+    ensures { λ r. ⌜ r ≡ inState (act (gateIn (now (bytes .entry)) gate) (stateIn (wires .bits))) wires ⌝ }
+{
+    if !fires(bytes, gate, wires) {
+        return wires;
+    }
+    if gate.swaps {
+        return wires::swap(wires, gate.target, gate.second);
+    }
+    wires::flip(wires, gate.target)
+}
+
+// Each gate is read, judged and let act, then the next: the run ends where the gates fill the bytes.
+pub fn run_gates(bytes: &[u8], from: usize, most: u8, count: u32, wires: Wires) -> Ran
+    ensures { λ r. ⌜ seen r ≡ ranOf wires (readGates most count (inputAt (now (bytes .entry)) from)) ⌝ }
+{
+    let mut current = wires;
+    let mut at = from;
+    let mut left = count;
+    while 0 < left {
+        let found = circuit::read_gate(bytes, at, most);
+        let GateRead::Found(gate) = found else {
+            return Ran {
+                ended: false,
+                wires: current,
+            };
+        };
+        current = act(bytes, gate, current);
+        at = gate.next;
+        left -= 1;
+    }
+    Ran {
+        ended: bytes.len() <= at,
+        wires: current,
+    }
+}
+
+// Has a word no bit at n or above?
+pub fn fits(word: u64, n: u8) -> bool
+    ensures { λ r. ⌜ r ≡ ltb word (2 ^ n) ⌝ }
+{
+    if 63 < n {
+        return true;
+    }
+    word >> n == 0
+}
+
+// "A refusal gives its number and otherwise zeros."
+pub fn refused(number: u32) -> CircuitBlock
+    ensures { λ r. ⌜ r ≡ refusedBlock number ⌝ }
+{
+    CircuitBlock {
+        number,
+        data: 0,
+        ancillas: 0,
+        bits: [0u8; 32],
+    }
+}
+
+// "Reading a circuit gives 14 before 13."
+pub fn answer(ran: Ran, word: u64) -> CircuitBlock
+    ensures { λ r. ⌜ r ≡ endAnswer word (seen ran) ⌝ }
+{
+    let wires = ran.wires;
+    let low = fits(word, wires.data);
+    let bits = wires.bits;
+    if !ran.ended {
+        refused(14)
+    } else if !low {
+        refused(13)
+    } else {
+        CircuitBlock {
+            number: 0,
+            data: wires.data,
+            ancillas: wires.ancillas,
+            bits,
+        }
+    }
+}
+
+// The circuit run: the whole block of a circuit that is well formed, from a data word and zero ancillas.
+pub fn run_circuit(bytes: &[u8], word: u64) -> CircuitBlock
+    ensures { λ r. ⌜ r ≡ blockAnswer (circuitRun (now (bytes .entry)) word) ⌝ }
+{
+    if 65536 < bytes.len() {
+        return refused(14);
+    }
+    if bytes.len() < 7 {
+        return refused(14);
+    }
+    if bytes[0] != 1 {
+        return refused(14);
+    }
+    let n = bytes[1];
+    if n == 0 {
+        return refused(14);
+    }
+    if 32 < n {
+        return refused(14);
+    }
+    let ancillas = bytes[2];
+    if 255 - n < ancillas {
+        return refused(14);
+    }
+    let count = circuit::little_endian(bytes[3], bytes[4], bytes[5], bytes[6]);
+    let wires = wires::start(n, ancillas, word);
+    answer(run_gates(bytes, 7, n + ancillas, count, wires), word)
+}

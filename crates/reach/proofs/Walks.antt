@@ -1,0 +1,276 @@
+-- The ways out of the functions that walk a statement, and of the loops over bodies.
+use mathlib.Core.Path.{_≡_, refl, sym, ap, _∙_}
+use mathlib.Core.Bool.{Bool, true, false, not, _&&_, _||_, and-true, and-false}
+use mathlib.Core.List.{List, []}
+use Prim.Native.Nat.{ℕ, zero, suc, _+_, _-_, _≤_, _<_, min, max}
+use native.Mathlib.Nat.{not-suc-le-zero}
+use native.Mathlib.Numerals.{add-one, sub-one}
+use native.Mathlib.Omega.{arith}
+use borrow.Author.Needs.{needs}
+use borrow.Author.Tests.{lt-ltb, le-ltb, not-true, not-false}
+use lib.ListN.{length, getD, List·getD-eq-default}
+use lib.Dec.{ltb}
+use Rattle.model.specs.Meaning.{digit}
+use Rattle.model.specs.Syntax.{Statement}
+use Rattle.model.specs.Reach.{isEmpty, lacksRemoval, width, anyBody}
+use Rattle.model.proofs.Tests.{byEq, byLt, or-left, or-right, or-false}
+use Rattle.records.specs.Fields.{numbersFrom, removalsOf}
+use Rattle.table.specs.Index.{rootOf, statementAt, bodyAt}
+use Rattle.step.specs.declared.Step.{Step}
+use Rattle.step.specs.Steps.{stepAt}
+use Rattle.reach.specs.declared.Parts.{Parts}
+use Rattle.reach.specs.declared.Parts.the-variants as parts
+use Rattle.reach.specs.Matrix.{recursiveIn, mark, closed, noMarks}
+use Rattle.reach.specs.Walk.{partsOf, partsAt, marked, markedBelow, reachAt, lacksIn, wideIn}
+use Rattle.reach.proofs.Ways.{left-never}
+use Rattle.reach.proofs.Marks.{filled-reach}
+use Rattle.reach.proofs.Seen.{Seen, as-skip, as-not, as-sequence, as-if, as-qcase, as-call, seen}
+
+-- removals: a count byte, at a place that is not 0
+pub place-none : (bs : List ℕ) (at : ℕ) → at ≡ 0 → false ≡ not (isEmpty (removalsOf bs at))
+unfolding removalsOf isEmpty
+place-none bs at e = rw e
+
+counted : (bs : List ℕ) (at n : ℕ) → (at ≡ 0 → ⊥) → getD bs at 0 ≡ n → ltb 0 n ≡ not (isEmpty (removalsOf bs at))
+unfolding removalsOf isEmpty numbersFrom
+counted bs zero n h e = absurd (h refl)
+counted bs (suc at) zero h e = rw e
+counted bs (suc at) (suc n) h e = rw e (lt-ltb 0 (suc n) (omega arith))
+
+pub count-there : (bs : List ℕ) (at : ℕ) → (at ≡ 0 → ⊥) → ltb 0 (getD bs at 0) ≡ not (isEmpty (removalsOf bs at))
+count-there bs at h = counted bs at (getD bs at 0) h refl
+
+pub count-past : (bs : List ℕ) (at : ℕ) → (at ≡ 0 → ⊥) → length bs ≤ at → false ≡ not (isEmpty (removalsOf bs at))
+count-past bs at h l = counted bs at 0 h (List·getD-eq-default bs 0 l)
+
+-- what a statement's parts do for each walk
+marksBy : ℕ → (ℕ → Statement) → Parts → List ℕ → List ℕ
+marksBy f part parts.Neither m = m
+marksBy f part (parts.Two a b t) m = marked f (part b) (marked f (part a) m)
+marksBy f part (parts.Call g at) m = mark f g m
+
+lacksBy : (ℕ → Bool) → (ℕ → Statement) → List ℕ → Parts → Bool
+lacksBy r part bs parts.Neither = false
+lacksBy r part bs (parts.Two a b t) = lacksRemoval r (part a) || lacksRemoval r (part b)
+lacksBy r part bs (parts.Call g at) = r g && isEmpty (removalsOf bs at)
+
+widthBy : (ℕ → Bool) → (ℕ → Statement) → Parts → ℕ
+widthBy r part parts.Neither = 0
+widthBy r part (parts.Two a b true) = width r (part a) + width r (part b)
+widthBy r part (parts.Two a b false) = max (width r (part a)) (width r (part b))
+widthBy r part (parts.Call g at) = digit (r g)
+
+module _ (part : ℕ → Statement) (bs : List ℕ) where
+  marks-seen : (f : ℕ) (m : List ℕ) {x : Parts} {s : Statement} → Seen part bs x s → marked f s m ≡ marksBy f part x m
+  unfolding marked marksBy
+  marks-seen f m as-skip = refl
+  marks-seen f m (as-not rs a) = refl
+  marks-seen f m (as-sequence a b) = refl
+  marks-seen f m (as-if c a b) = refl
+  marks-seen f m (as-qcase rs q a b) = refl
+  marks-seen f m (as-call g at) = refl
+
+  lacks-seen : (r : ℕ → Bool) {x : Parts} {s : Statement} → Seen part bs x s → lacksRemoval r s ≡ lacksBy r part bs x
+  unfolding lacksRemoval lacksBy
+  lacks-seen r as-skip = refl
+  lacks-seen r (as-not rs a) = refl
+  lacks-seen r (as-sequence a b) = refl
+  lacks-seen r (as-if c a b) = refl
+  lacks-seen r (as-qcase rs q a b) = refl
+  lacks-seen r (as-call g at) = refl
+
+  width-seen : (r : ℕ → Bool) {x : Parts} {s : Statement} → Seen part bs x s → width r s ≡ widthBy r part x
+  unfolding width widthBy digit
+  width-seen r as-skip = refl
+  width-seen r (as-not rs a) = refl
+  width-seen r (as-sequence a b) = refl
+  width-seen r (as-if c a b) = refl
+  width-seen r (as-qcase rs q a b) = refl
+  width-seen r (as-call g at) = refl
+
+module _ (p : ℕ) (bs ix : List ℕ) (depth i : ℕ) where
+  -- depth 0: there is nothing to walk
+  module _ (z : depth ≡ 0) where
+    pub marks-spent : (f : ℕ) (m : List ℕ) → m ≡ marked f (statementAt p bs ix depth i) m
+    unfolding statementAt marked
+    marks-spent f m = rw z
+
+    pub lacks-spent : (r : ℕ → Bool) → false ≡ lacksRemoval r (statementAt p bs ix depth i)
+    unfolding statementAt lacksRemoval
+    lacks-spent r = rw z
+
+    pub width-spent : (r : ℕ → Bool) → 0 ≡ min 2 (width r (statementAt p bs ix depth i))
+    unfolding statementAt width
+    width-spent r = rw z
+
+  abbrev part : ℕ → Statement
+  part = statementAt p bs ix (depth - 1)
+
+  module _ (d : depth ≡ 0 → ⊥) (x : Parts) (e : x ≡ partsAt p bs ix i) where
+    deeper : (n : ℕ) → n ≡ depth → (n ≡ 0 → ⊥) → Seen (statementAt p bs ix (n - 1)) bs (partsAt p bs ix i) (statementAt p bs ix n i)
+    deeper zero q h = absurd (h refl)
+    deeper (suc n) q h = rw sub-one (seen p bs ix n i)
+
+    here : Seen part bs x (statementAt p bs ix depth i)
+    here = rw e (deeper depth refl d)
+
+    -- marks
+    module _ (f : ℕ) (m : List ℕ) where
+      marks-are : (n : List ℕ) (y : Parts) → x ≡ y → n ≡ marksBy f part y m → n ≡ marked f (statementAt p bs ix depth i) m
+      marks-are n y q b = rw (marks-seen part bs f m here, q) b
+
+      pub marks-none : x ≡ parts.Neither → m ≡ marked f (statementAt p bs ix depth i) m
+      unfolding marksBy
+      marks-none q = marks-are m parts.Neither q refl
+
+      pub marks-two : (a b : ℕ) (t : Bool) (m₁ m₂ : List ℕ) → x ≡ parts.Two a b t → m₁ ≡ marked f (part a) m → m₂ ≡ marked f (part b) m₁ →
+          m₂ ≡ marked f (statementAt p bs ix depth i) m
+      unfolding marksBy
+      marks-two a b t m₁ m₂ q g h = marks-are m₂ (parts.Two a b t) q (rw (← g) h)
+
+      pub marks-call : (g at : ℕ) (n : List ℕ) → x ≡ parts.Call g at → n ≡ mark f g m → n ≡ marked f (statementAt p bs ix depth i) m
+      unfolding marksBy
+      marks-call g at n q h = marks-are n (parts.Call g at) q h
+
+    -- a call without removal
+    module _ (r : ℕ → Bool) where
+      lacks-are : (n : Bool) (y : Parts) → x ≡ y → n ≡ lacksBy r part bs y → n ≡ lacksRemoval r (statementAt p bs ix depth i)
+      lacks-are n y q b = rw (lacks-seen part bs r here, q) b
+
+      pub lacks-none : x ≡ parts.Neither → false ≡ lacksRemoval r (statementAt p bs ix depth i)
+      unfolding lacksBy
+      lacks-none q = lacks-are false parts.Neither q refl
+
+      module _ (a b : ℕ) (t : Bool) (q : x ≡ parts.Two a b t) (first : Bool) (g : first ≡ lacksRemoval r (part a)) where
+        pub lacks-first : first ≡ true → true ≡ lacksRemoval r (statementAt p bs ix depth i)
+        unfolding lacksBy
+        lacks-first y = lacks-are true (parts.Two a b t) q (rw (← g, y))
+
+        pub lacks-second : (second : Bool) → first ≡ false → second ≡ lacksRemoval r (part b) →
+            second ≡ lacksRemoval r (statementAt p bs ix depth i)
+        unfolding lacksBy
+        lacks-second second y h = lacks-are second (parts.Two a b t) q (rw (← g, y) h)
+
+      module _ (g at : ℕ) (q : x ≡ parts.Call g at) (has : Bool) (h : has ≡ not (isEmpty (removalsOf bs at))) where
+        pub lacks-call-carries : has ≡ true → false ≡ lacksRemoval r (statementAt p bs ix depth i)
+        unfolding lacksBy
+        lacks-call-carries y =
+          let full : isEmpty (removalsOf bs at) ≡ false = not-true (isEmpty (removalsOf bs at)) (sym h ∙ y) in
+          lacks-are false (parts.Call g at) q (rw full (sym (and-false (r g))))
+
+        pub lacks-call-bare : (n : Bool) → has ≡ false → n ≡ r g → n ≡ lacksRemoval r (statementAt p bs ix depth i)
+        unfolding lacksBy
+        lacks-call-bare n y k =
+          let bare : isEmpty (removalsOf bs at) ≡ true = not-false (isEmpty (removalsOf bs at)) (sym h ∙ y) in
+          lacks-are n (parts.Call g at) q (rw bare (k ∙ sym (and-true (r g))))
+
+    -- width, of which more than 2 is no more than 2
+    module _ (r : ℕ → Bool) where
+      width-is : (n : ℕ) (y : Parts) → x ≡ y → n ≡ min 2 (widthBy r part y) → n ≡ min 2 (width r (statementAt p bs ix depth i))
+      width-is n y q b = rw (width-seen part bs r here, q) b
+
+      pub width-none : x ≡ parts.Neither → 0 ≡ min 2 (width r (statementAt p bs ix depth i))
+      unfolding widthBy
+      width-none q = width-is 0 parts.Neither q refl
+
+      module _ (a b : ℕ) (t : Bool) (q : x ≡ parts.Two a b t) (first second n : ℕ) (g : first ≡ min 2 (width r (part a)))
+          (h : second ≡ min 2 (width r (part b))) where
+        pub width-turn : t ≡ true → n ≡ min 2 (first + second) → n ≡ min 2 (width r (statementAt p bs ix depth i))
+        unfolding widthBy
+        width-turn y k = width-is n (parts.Two a b true) (rw y at q) (omega arith)
+
+        pub width-one : t ≡ false → n ≡ max first second → n ≡ min 2 (width r (statementAt p bs ix depth i))
+        unfolding widthBy
+        width-one y k = width-is n (parts.Two a b false) (rw y at q) (omega arith)
+
+      pub width-call : (g at : ℕ) (b : Bool) (n : ℕ) → x ≡ parts.Call g at → b ≡ r g → n ≡ digit b →
+          n ≡ min 2 (width r (statementAt p bs ix depth i))
+      unfolding widthBy digit
+      width-call g at true n q k w = width-is n (parts.Call g at) q (rw (← k) w)
+      width-call g at false n q k w = width-is n (parts.Call g at) q (rw (← k) w)
+
+-- the parts of a record, whatever the list
+pub step-parts : (found s : Step) (r : Parts) → found ≡ s → r ≡ partsOf s → r ≡ partsOf found
+step-parts found s r e q = rw e q
+
+pub parts-are : (found : Step) (bs ix : List ℕ) (p i : ℕ) (r : Parts) → found ≡ stepAt p bs ix i [] → r ≡ partsOf found → r ≡ partsAt p bs ix i
+parts-are found bs ix p i r e q = rw (← e) q
+
+-- a width over 1 is told by the width given
+pub wide-is : (m : List ℕ) (p : ℕ) (bs ix : List ℕ) (f root w : ℕ) → root ≡ rootOf ix f →
+    w ≡ min 2 (width (recursiveIn m f) (statementAt p bs ix 32 root)) → ltb 1 w ≡ wideIn m p bs ix f
+unfolding wideIn
+wide-is m p bs ix f root w e q = rw (q, e) (over (width (recursiveIn m f) (bodyAt p bs ix f)))
+    where
+      over : (n : ℕ) → ltb 1 (min 2 n) ≡ ltb 1 n
+      over n = byLt 1 n
+        (λ l. let capped : 1 < min 2 n = omega arith in rw (lt-ltb 1 n l, lt-ltb 1 (min 2 n) capped))
+        (λ ge. let capped : min 2 n ≤ 1 = omega arith in rw (le-ltb 1 n ge, le-ltb 1 (min 2 n) capped))
+
+pub lacks-is : (m : List ℕ) (p : ℕ) (bs ix : List ℕ) (f root : ℕ) (r : Bool) → root ≡ rootOf ix f →
+    r ≡ lacksRemoval (recursiveIn m f) (statementAt p bs ix 32 root) → r ≡ lacksIn m p bs ix f
+unfolding lacksIn
+lacks-is m p bs ix f root r e q = rw (← e) q
+
+pub body-marked : (p : ℕ) (bs ix : List ℕ) (f root : ℕ) (m n : List ℕ) → root ≡ rootOf ix f → n ≡ marked f (statementAt p bs ix 32 root) m →
+    n ≡ marked f (bodyAt p bs ix f) m
+body-marked p bs ix f root m n e q = rw (← e) q
+
+-- body after body
+module _ (body : ℕ → Statement) (m₀ m : List ℕ) (f : ℕ) (q : m ≡ markedBelow body f m₀) where
+  pub bodies-more : (next : List ℕ) → next ≡ marked f (body f) m → next ≡ markedBelow body (f + 1) m₀
+  unfolding markedBelow
+  bodies-more next e = rw (add-one f, ← q) e
+
+  pub bodies-last : (p : ℕ) (next : List ℕ) → f ≤ p → p ≤ f → next ≡ marked f (body f) m → next ≡ markedBelow body (suc p) m₀
+  unfolding markedBelow
+  bodies-last p next l h e = let same : p ≡ f = omega arith in rw (same, ← q) e
+
+pub bodies-start : (body : ℕ → Statement) (m : List ℕ) → m ≡ markedBelow body 0 m
+unfolding markedBelow
+bodies-start body m = refl
+
+module _ (bad : ℕ → Bool) where
+  any-found : (f n : ℕ) → f < n → bad f ≡ true → anyBody bad n ≡ true
+  unfolding anyBody
+  any-found f zero l e = absurd (not-suc-le-zero l)
+  any-found f (suc n) l e = byEq f n
+    (λ q. or-right (anyBody bad n) (bad n) (rw q at e))
+    (λ ne. or-left (anyBody bad n) (bad n) (any-found f n (omega arith) e))
+
+  pub any-start : anyBody bad 0 ≡ false
+  unfolding anyBody
+  any-start = refl
+
+  module _ (f p : ℕ) (l : f ≤ p) (t : Bool) (q : t ≡ bad f) where
+    pub any-yes : t ≡ true → true ≡ anyBody bad (suc p)
+    any-yes y = sym (any-found f (suc p) (omega arith) (sym q ∙ y))
+
+    module _ (before : anyBody bad f ≡ false) (y : t ≡ false) where
+      pub any-more : anyBody bad (f + 1) ≡ false
+      unfolding anyBody
+      any-more = rw (add-one f) (or-false (anyBody bad f) (bad f) before (sym q ∙ y))
+
+      pub any-none : p ≤ f → false ≡ anyBody bad (suc p)
+      unfolding anyBody
+      any-none h = let same : p ≡ f = omega arith in rw same (sym (or-false (anyBody bad f) (bad f) before (sym q ∙ y)))
+
+-- the matrix filled
+module _ (p : ℕ) (bs ix : List ℕ) where
+  pub fill-many : 16 < p → noMarks ≡ reachAt p bs ix
+  unfolding reachAt
+  fill-many l = rw (lt-ltb 16 p l)
+
+  pub fill-closed : (m n : List ℕ) → p ≤ 16 → m ≡ markedBelow (bodyAt p bs ix) (suc p) noMarks → n ≡ closed (suc p) m → n ≡ reachAt p bs ix
+  unfolding reachAt
+  fill-closed m n l e q = rw (le-ltb 16 p l) (q ∙ ap (closed (suc p)) e ∙ filled-reach p bs ix l)
+
+pub ruleset removing = (needs, place-none, count-there, count-past)
+pub ruleset marking = (needs, marks-spent, marks-none, marks-two, marks-call)
+pub ruleset lacking = (needs, lacks-spent, lacks-none, lacks-first, lacks-second, lacks-call-carries, lacks-call-bare)
+pub ruleset widening = (needs, width-spent, width-none, width-turn, width-one, width-call)
+pub ruleset looking = (needs, step-parts, parts-are)
+pub ruleset bodies = (
+    needs, wide-is, lacks-is, body-marked, bodies-more, bodies-last, bodies-start, any-start, any-yes, any-more, any-none, fill-many, fill-closed,
+    left-never
+  )

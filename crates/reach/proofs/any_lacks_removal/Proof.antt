@@ -1,0 +1,30 @@
+-- `reach::any_lacks_removal` meets its contract: before procedure f no body below f lacks a removal. Assumes nothing.
+use mathlib.Core.Path.{_≡_}
+use mathlib.Core.Bool.{false}
+use Prim.Native.Nat.{_-_, _≤_}
+use Rattle.model.specs.Reach.{anyBody}
+use Rattle.reach.specs.Walk.{lacksIn}
+use Rattle.reach.proofs.Walks.{bodies}
+use Rattle.reach.proofs.any_lacks_removal.Statement.{statement}
+use Rattle.reach.proofs.any_lacks_removal.Tie as tie
+
+abbrev Inv-loop : tie.InvT-loop
+Inv-loop table index p matrix f₀ f = (anyBody (lacksIn matrix p table index) f ≡ false) × (f ≤ p)
+
+abbrev μ-loop : tie.MeasureT-loop
+μ-loop table index p matrix f₀ f = p - f
+
+pub any-lacks-removal-spec : {M : Type 1} → statement M
+any-lacks-removal-spec =
+    tie.close
+    (tie.spec
+    Inv-loop
+    μ-loop
+    (λ c. search bodies)
+    (λ c κs. search bodies)
+    (λ c. search bodies)
+    (λ c. search bodies)
+    (λ c. search bodies)
+    (λ c. search bodies)
+    (λ c. search bodies)
+    (λ c. search bodies))

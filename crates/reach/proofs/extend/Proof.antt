@@ -1,0 +1,15 @@
+-- `reach::extend` meets its contract: by its test. Assumes nothing.
+use borrow.Author.Needs.{needs}
+use Rattle.reach.proofs.Ways.{rows}
+use Rattle.reach.proofs.extend.Statement.{statement}
+use Rattle.reach.proofs.extend.Tie as tie
+
+pub extend-spec : {M : Type 1} → statement M
+extend-spec =
+    tie.close
+    (tie.spec
+    (λ c κs. search needs)
+    (λ c κs. search needs)
+    (λ c κs. search needs)
+    (λ c. search rows)
+    (λ c. search rows))

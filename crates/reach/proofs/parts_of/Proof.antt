@@ -1,0 +1,32 @@
+-- `reach::parts_of` meets its contract: each step has its parts. Assumes nothing.
+use borrow.Author.Needs.{needs}
+use Rattle.reach.specs.Walk.{partsOf}
+use Rattle.reach.proofs.Walks.{looking}
+use Rattle.reach.proofs.parts_of.Statement.{statement}
+use Rattle.reach.proofs.parts_of.Tie as tie
+
+pub parts-of-spec : {M : Type 1} → statement M
+unfolding partsOf
+parts-of-spec =
+    tie.close
+    (tie.spec
+    (λ c. search needs)
+    (λ c. search needs)
+    (λ c. search needs)
+    (λ c. search needs)
+    (λ c. search needs)
+    (λ c. search needs)
+    (λ c. search needs)
+    (λ c. search needs)
+    (λ c. search needs)
+    (λ c. search needs)
+    (λ c. search looking)
+    (λ c. search looking)
+    (λ c. search looking)
+    (λ c. search looking)
+    (λ c. search looking)
+    (λ c. search looking)
+    (λ c. search looking)
+    (λ c. search looking)
+    (λ c. search looking)
+    (λ c. search looking))

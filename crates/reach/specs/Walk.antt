@@ -1,0 +1,65 @@
+-- The calls of a table's statements: what each record is for them, the marks that they leave, and refusals 10 and 11 by a matrix.
+use Prim.Native.Nat.{ℕ, zero, suc}
+use mathlib.Core.Bool.{Bool, true, false}
+use mathlib.Core.List.{List, []}
+use lib.Dec.{ltb}
+use Rattle.model.specs.Limits.{mostProcedures}
+use Rattle.model.specs.Syntax.{Statement, skip, NOT, sequence, if, qcase, call}
+use Rattle.model.specs.Reach.{lacksRemoval, width, anyBody}
+use Rattle.records.specs.Fields.{pick}
+use Rattle.table.specs.Index.{bodyAt, programAt}
+use Rattle.step.specs.declared.Step.{Step}
+use Rattle.step.specs.declared.Step.the-variants as step
+use Rattle.step.specs.Steps.{stepAt}
+use Rattle.reach.specs.declared.Parts.{Parts}
+use Rattle.reach.specs.declared.Parts.the-variants as parts
+use Rattle.reach.specs.Matrix.{recursiveIn, mark, reachTable, noMarks}
+
+-- what a step is for calls: two parts, in turn or one of them, a call, or neither
+unfoldable pub partsOf : Step → Parts
+partsOf step.Nothing = parts.Neither
+partsOf (step.Touches q) = parts.Neither
+partsOf (step.Sequence a b) = parts.Two a b true
+partsOf (step.Chooses c a b) = parts.Two a b false
+partsOf (step.Branches q a b) = parts.Two a b false
+partsOf (step.Calls g at) = parts.Call g at
+partsOf (step.Holds b) = parts.Neither
+partsOf (step.Both a b) = parts.Neither
+partsOf (step.Either a b) = parts.Neither
+partsOf (step.Negates a) = parts.Neither
+
+-- those of record i: they do not depend on the list
+abbrev pub partsAt : ℕ → List ℕ → List ℕ → ℕ → Parts
+partsAt p bs ix i = partsOf (stepAt p bs ix i [])
+
+-- row f marked for every call in a statement
+unfoldable pub marked : ℕ → Statement → List ℕ → List ℕ
+marked f skip m = m
+marked f (NOT rs a) m = m
+marked f (sequence s t) m = marked f t (marked f s m)
+marked f (if c s t) m = marked f t (marked f s m)
+marked f (qcase rs a s t) m = marked f t (marked f s m)
+marked f (call rs g) m = mark f g m
+
+-- the rows below n marked, each for every call in its body
+unfoldable pub markedBelow : (ℕ → Statement) → ℕ → List ℕ → List ℕ
+markedBelow part zero m = m
+markedBelow part (suc f) m = marked f (part f) (markedBelow part f m)
+
+-- the matrix of the program that a table's bytes and index have; no mark where there would be more than 16 procedures
+unfoldable pub reachAt : ℕ → List ℕ → List ℕ → List ℕ
+reachAt p bs ix = pick (ltb mostProcedures p) noMarks (reachTable (programAt p bs ix))
+
+-- does the body of f lack a removal, by the matrix? Is it too wide?
+unfoldable pub lacksIn : List ℕ → ℕ → List ℕ → List ℕ → ℕ → Bool
+lacksIn m p bs ix f = lacksRemoval (recursiveIn m f) (bodyAt p bs ix f)
+
+unfoldable pub wideIn : List ℕ → ℕ → List ℕ → List ℕ → ℕ → Bool
+wideIn m p bs ix f = ltb 1 (width (recursiveIn m f) (bodyAt p bs ix f))
+
+-- does one of the bodies 0 to p?
+abbrev pub anyLacksIn : List ℕ → ℕ → List ℕ → List ℕ → Bool
+anyLacksIn m p bs ix = anyBody (lacksIn m p bs ix) (suc p)
+
+abbrev pub anyWideIn : List ℕ → ℕ → List ℕ → List ℕ → Bool
+anyWideIn m p bs ix = anyBody (wideIn m p bs ix) (suc p)

@@ -1,0 +1,19 @@
+-- `records::signed` meets its contract: the bits of the two bytes, 65536 less from 32768 on. Assumes nothing.
+use borrow.Author.Needs.{needs}
+use Rattle.records.proofs.Laws.{signs}
+use Rattle.records.proofs.signed.Statement.{statement}
+use Rattle.records.proofs.signed.Tie as tie
+
+pub signed-spec : {M : Type 1} → statement M
+signed-spec =
+    tie.close
+    (tie.spec
+    (λ c κs. search needs)
+    (λ c κs. search needs)
+    (λ c. search needs)
+    (λ c. search needs)
+    (λ c. search needs)
+    (λ c. search needs)
+    (λ c. search signs)
+    (λ c. search signs)
+    (λ c. search signs))

@@ -1,0 +1,196 @@
+-- The fields of a record, read at a place of the table's bytes. A law ties each to the model's reader of the bytes from that place on.
+use Prim.Native.Nat.{ℕ, zero, suc, _+_}
+use mathlib.Core.Bool.{Bool, true, false}
+use mathlib.Core.List.{List, [], _∷_}
+use lib.ListN.{length, getD}
+use lib.Dec.{ltb, leb, eqb}
+use lib.IntN.{ℤ, pos}
+use Rattle.model.specs.Limits.{mostRemovals, tableStops, wrongField}
+use Rattle.model.specs.Syntax as syntax
+use Rattle.model.specs.Reading.{signed16, stands, Fields}
+use Rattle.records.specs.declared.Number.{Number}
+use Rattle.records.specs.declared.Number.the-variants.{Constant, SizePlus}
+use Rattle.records.specs.declared.Record.{Record}
+use Rattle.records.specs.declared.Record.the-variants as kind
+use Rattle.records.specs.declared.Answer.{Answer}
+use Rattle.records.specs.declared.Answer.the-variants as answer
+
+abbrev pub pick : {A : Type 0} → Bool → A → A → A
+pick true a b = a
+pick false a b = b
+
+-- the byte at a place, 0 past the end
+abbrev pub byteAt : List ℕ → ℕ → ℕ
+byteAt bs at = getD bs at 0
+
+-- go on behind a field; any other answer goes out as it is
+unfoldable pub behindPlace : Answer → (ℕ → Answer) → Answer
+behindPlace (answer.Place next) f = f next
+behindPlace (answer.Number a next) f = answer.Number a next
+behindPlace (answer.Procedure g next) f = answer.Procedure g next
+behindPlace (answer.Record r next) f = answer.Record r next
+behindPlace (answer.Refused k) f = answer.Refused k
+
+unfoldable pub behindNumber : Answer → (Number → ℕ → Answer) → Answer
+behindNumber (answer.Place next) f = answer.Place next
+behindNumber (answer.Number a next) f = f a next
+behindNumber (answer.Procedure g next) f = answer.Procedure g next
+behindNumber (answer.Record r next) f = answer.Record r next
+behindNumber (answer.Refused k) f = answer.Refused k
+
+unfoldable pub behindProcedure : Answer → (ℕ → ℕ → Answer) → Answer
+behindProcedure (answer.Place next) f = answer.Place next
+behindProcedure (answer.Number a next) f = answer.Number a next
+behindProcedure (answer.Procedure g next) f = f g next
+behindProcedure (answer.Record r next) f = answer.Record r next
+behindProcedure (answer.Refused k) f = answer.Refused k
+
+-- a base and a constant
+unfoldable pub based : ℕ → ℤ → Number
+based zero z = Constant z
+based (suc base) z = SizePlus z
+
+-- the number that stands at a place
+abbrev pub writtenAt : List ℕ → ℕ → Number
+writtenAt bs at = based (byteAt bs at) (signed16 (byteAt bs (at + 1)) (byteAt bs (at + 2)))
+
+-- "A number is a base byte and a signed 16-bit constant"
+unfoldable pub numberAt : List ℕ → ℕ → Answer
+numberAt bs at =
+    pick (ltb at (length bs))
+    (pick (ltb 1 (byteAt bs at)) (answer.Refused wrongField)
+    (pick (leb (at + 3) (length bs))
+    (answer.Number (writtenAt bs at) (at + 3))
+    (answer.Refused tableStops)))
+    (answer.Refused tableStops)
+
+-- the place behind n numbers
+unfoldable pub numbersAt : ℕ → List ℕ → ℕ → Answer
+numbersAt zero bs at = answer.Place at
+numbersAt (suc n) bs at = behindNumber (numberAt bs at) (λ a next. numbersAt n bs next)
+
+-- "removals: a count byte 1 to 8, then that many numbers": the place behind them
+unfoldable pub removalsAt : List ℕ → ℕ → Answer
+removalsAt bs at =
+    pick (ltb at (length bs))
+    (pick (eqb (byteAt bs at) 0) (answer.Refused wrongField)
+    (pick (ltb mostRemovals (byteAt bs at)) (answer.Refused wrongField)
+    (numbersAt (byteAt bs at) bs (at + 1))))
+    (answer.Refused tableStops)
+
+-- "a procedure byte, 1 to p"
+unfoldable pub procedureAt : ℕ → List ℕ → ℕ → Answer
+procedureAt p bs at =
+    pick (ltb at (length bs))
+    (pick (eqb (byteAt bs at) 0) (answer.Refused wrongField)
+    (pick (ltb p (byteAt bs at)) (answer.Refused wrongField)
+    (answer.Procedure (byteAt bs at) (at + 1))))
+    (answer.Refused tableStops)
+
+-- removals where bit 0 stands in the map: the place behind them
+unfoldable pub maybeRemovalsAt : Bool → List ℕ → ℕ → Answer
+maybeRemovalsAt true bs at = removalsAt bs at
+maybeRemovalsAt false bs at = answer.Place at
+
+-- the place of the removals' count, 0 where there are none
+unfoldable pub placeOf : Bool → ℕ → ℕ
+placeOf true at = at
+placeOf false at = 0
+
+-- NOT, kind 1, or qcase, kind 4
+unfoldable pub touching : ℕ → ℕ → Number → Record
+touching k at a = pick (eqb k 1) (kind.Not at a) (kind.Qcase at a)
+
+-- a comparison, kind 6, 7 or 8
+unfoldable pub comparing : ℕ → Number → Number → Record
+comparing k a b = pick (eqb k 6) (kind.Greater a b) (pick (eqb k 7) (kind.AtLeast a b) (kind.Equal a b))
+
+-- removals, if any, then number a
+unfoldable pub withNumber : (ℕ → Number → Record) → Bool → List ℕ → ℕ → Answer
+withNumber make removes bs at =
+    behindPlace (maybeRemovalsAt removes bs at) (λ next.
+    behindNumber (numberAt bs next) (λ a end. answer.Record (make (placeOf removes at) a) end))
+
+-- numbers a and b
+unfoldable pub withNumbers : (Number → Number → Record) → List ℕ → ℕ → Answer
+withNumbers make bs at =
+    behindNumber (numberAt bs at) (λ a next. behindNumber (numberAt bs next) (λ b end. answer.Record (make a b) end))
+
+-- removals, if any, then a procedure
+unfoldable pub withProcedure : ℕ → Bool → List ℕ → ℕ → Answer
+withProcedure p removes bs at =
+    behindPlace (maybeRemovalsAt removes bs at) (λ next.
+    behindProcedure (procedureAt p bs next) (λ f end. answer.Record (kind.Call (placeOf removes at) f) end))
+
+-- the fields of a record of this kind, whose map has bit 0 or not
+unfoldable pub fieldsAt : ℕ → ℕ → Bool → List ℕ → ℕ → Answer
+fieldsAt p k removes bs at =
+    pick (eqb k 0) (answer.Record kind.Skip at)
+    (pick (eqb k 1) (withNumber kind.Not removes bs at)
+    (pick (eqb k 2) (answer.Record kind.Sequence at)
+    (pick (eqb k 3) (answer.Record kind.If at)
+    (pick (eqb k 4) (withNumber kind.Qcase removes bs at)
+    (pick (eqb k 5) (withProcedure p removes bs at)
+    (pick (eqb k 6) (withNumbers kind.Greater bs at)
+    (pick (eqb k 7) (withNumbers kind.AtLeast bs at)
+    (pick (eqb k 8) (withNumbers kind.Equal bs at)
+    (pick (eqb k 9) (answer.Record kind.And at)
+    (pick (eqb k 10) (answer.Record kind.Or at)
+    (answer.Record kind.Negation at)))))))))))
+
+-- a record that has been read before: its map and kind stand at `at`
+unfoldable pub recordIn : Answer → Record
+recordIn (answer.Place next) = kind.Skip
+recordIn (answer.Number a next) = kind.Skip
+recordIn (answer.Procedure g next) = kind.Skip
+recordIn (answer.Record r next) = r
+recordIn (answer.Refused k) = kind.Skip
+
+unfoldable pub recordAt : ℕ → List ℕ → ℕ → Record
+recordAt p bs at = recordIn (fieldsAt p (byteAt bs (at + 1)) (stands 0 (byteAt bs at)) bs (at + 2))
+
+-- a number as the model has it
+unfoldable pub numberOf : Number → syntax.Number
+numberOf (Constant z) = syntax.constant z
+numberOf (SizePlus z) = syntax.sizePlus z
+
+-- n numbers that stand one after the other from `at` on
+unfoldable pub numbersFrom : ℕ → List ℕ → ℕ → List syntax.Number
+numbersFrom zero bs at = []
+numbersFrom (suc n) bs at = numberOf (writtenAt bs at) ∷ numbersFrom n bs (at + 3)
+
+-- the removals whose count stands at a place; none at place 0
+unfoldable pub removalsOf : List ℕ → ℕ → List syntax.Number
+removalsOf bs zero = []
+removalsOf bs (suc at) = numbersFrom (byteAt bs (suc at)) bs (suc (suc at))
+
+-- fields as the model has them, with 0 and no removals where a map has no bit for them
+abbrev pub absent : syntax.Number
+absent = syntax.constant (pos 0)
+
+abbrev pub noFields : Fields
+noFields = record { removed = []; a = absent; b = absent; called = 0 }
+
+abbrev pub touchedFields : List syntax.Number → syntax.Number → Fields
+touchedFields rs a = record { removed = rs; a = a; b = absent; called = 0 }
+
+abbrev pub comparedFields : syntax.Number → syntax.Number → Fields
+comparedFields a b = record { removed = []; a = a; b = b; called = 0 }
+
+abbrev pub calledFields : List syntax.Number → ℕ → Fields
+calledFields rs f = record { removed = rs; a = absent; b = absent; called = f }
+
+-- the fields that a record of the table holds
+unfoldable pub fieldsOf : List ℕ → Record → Fields
+fieldsOf bs kind.Skip = noFields
+fieldsOf bs (kind.Not at a) = touchedFields (removalsOf bs at) (numberOf a)
+fieldsOf bs kind.Sequence = noFields
+fieldsOf bs kind.If = noFields
+fieldsOf bs (kind.Qcase at a) = touchedFields (removalsOf bs at) (numberOf a)
+fieldsOf bs (kind.Call at f) = calledFields (removalsOf bs at) f
+fieldsOf bs (kind.Greater a b) = comparedFields (numberOf a) (numberOf b)
+fieldsOf bs (kind.AtLeast a b) = comparedFields (numberOf a) (numberOf b)
+fieldsOf bs (kind.Equal a b) = comparedFields (numberOf a) (numberOf b)
+fieldsOf bs kind.And = noFields
+fieldsOf bs kind.Or = noFields
+fieldsOf bs kind.Negation = noFields

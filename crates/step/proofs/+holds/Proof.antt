@@ -1,0 +1,68 @@
+-- `step::holds` meets its contract: the depth falls, and each step is one way out. Assumes nothing.
+use Rattle.step.proofs.Testing.{testing, held-and, held-or}
+use Prim.Native.Nat.{ℕ, _<_}
+use borrow.Fn.Kinds.{In}
+use borrow.Fn.PlainCycle.{Measures, is, falls, and}
+use Rattle.step.proofs.holds.Reads as holds
+use Rattle.step.proofs.holds.Kinds as holds-kinds
+use Rattle.step.proofs.+holds.Lts-holds as holds-lts
+use Rattle.step.proofs.step_at.Reads as step-at-reads
+use Rattle.step.proofs.+holds.{statement}
+use Rattle.step.proofs.+holds.Tie.{close}
+
+abbrev μ-holds : Measures 2 holds-kinds.ps ℕ
+μ-holds κs a = a .1 .1 .1 .1 .1 .0
+
+abbrev holds-at : ℕ → In 2 holds-kinds.ps
+holds-at t = and 2 holds-kinds.ps (is 2 holds-kinds.ps μ-holds t) holds.Pre
+
+abbrev holds-below : ℕ → In 2 holds-kinds.ps
+holds-below t = and 2 holds-kinds.ps (falls 2 holds-kinds.ps _<_ μ-holds t) holds.Pre
+
+pub +holds-spec : {M : Type 1} → statement M
++holds-spec = close μ-holds λ t. holds-lts.spec (
+  step-at-reads.Asked,
+  step-at-reads.Learnt,
+  holds-below t,
+  holds.Post,
+)
+    (holds-at t)
+    holds.Post
+    (λ c. search testing)
+    (λ c κs. search testing)
+    (λ c. search testing)
+    (λ c. search testing)
+    (λ c. search testing)
+    (λ c κs. search testing)
+    (λ c. search testing)
+    (λ c κs. search testing)
+    (λ c. search testing)
+    (λ c. search testing)
+    (λ c κs. search testing)
+    (λ c. search testing)
+    (λ c κs. search testing)
+    (λ c. search testing)
+    (λ c. search testing)
+    (λ c κs. search testing)
+    (λ c. search testing)
+    (λ c. search testing)
+    (λ c. search testing)
+    (λ c. search testing)
+    (λ c. search testing)
+    (λ c. search testing)
+    (λ c. search testing)
+    (λ c. let b = c .before .before in
+      held-and _ _ _ _ _ _ _ (b .before .before .before .before .before .if1 .left) (b .before .before .before .before .step-at .ensures) _ _ _
+      (b .holds .ensures) (b .before .before .step2 .given .1) (c .before .if2 .taken) _ (c .holds2 .ensures))
+    (λ c. search testing)
+    (λ c. search testing)
+    (λ c. let b = c .before .before in
+      held-or _ _ _ _ _ _ _ (b .before .before .before .before .before .if1 .left) (b .before .before .before .before .step-at .ensures) _ _ _
+      (b .holds3 .ensures) (b .before .before .step3 .given .1) (c .before .if3 .left) _ (c .holds4 .ensures))
+    (λ c. search testing)
+    (λ c. search testing)
+    (λ c. search testing)
+    (λ c. search testing)
+    (λ c. search testing)
+    (λ c. search testing)
+    (λ c. search testing)

@@ -1,0 +1,166 @@
+-- Lists in an array: their size, entries and removals.
+use Prim.Native.Nat.{ℕ, zero, suc, _+_, _-_, _≤_, _<_, min, zero-le}
+use native.Mathlib.Nat.{add-zero, add-suc, suc-add, not-suc-le-zero, le-of-suc-le-suc}
+use native.Mathlib.Numerals.{add-one, one-add}
+use native.Mathlib.Omega.{arith}
+use mathlib.Core.Path.{_≡_, refl, sym, ap, _∙_}
+use mathlib.Core.List.{List, [], _∷_, _++_, append-nil}
+use borrow.Author.Tests.{lt-ltb, le-ltb}
+use lib.ListN.{length, getD, take, drop, set, length-take, drop-of-length-le, List·getD-eq-default}
+use lib.Seq.{take-take, getD-take, take-suc-set, take-set-lt, drop-set-lt, drop-cons, append-snoc}
+use lib.IntN.{ℤ}
+use mir.Syntax.{w32}
+use mir.Val.{SFits, toZ, ofZ}
+use mir.Facts.{toZ-ofZ}
+use Rattle.model.specs.Lists.{range, qubits, position, entry, delete, remove}
+use Rattle.model.proofs.Tests.{byLt}
+use Rattle.model.proofs.ListLaws.{remove-in, remove-out}
+use Rattle.step.specs.declared.Qubits.{Qubits}
+use Rattle.step.specs.Steps.{qubitsOf, within}
+use Rattle.step.proofs.Places.{less-one}
+
+-- what is taken is no longer than asked for, and than what it is taken from
+take-short : (n : ℕ) (l : List ℕ) → length (take n l) ≤ n
+take-short n l = rw (length-take n l) (omega arith)
+
+take-shorter : (n : ℕ) (l : List ℕ) → length (take n l) ≤ length l
+take-shorter n l = rw (length-take n l) (omega arith)
+
+-- an array's list is as long as it says, within the array
+pub size-of : (n : ℕ) (l : List ℕ) (r m : ℕ) → length l ≡ m → r ≡ min n m → r ≡ length (take n l)
+size-of n l r m e h = rw (length-take n l, e, h)
+
+-- a list is no longer than its array
+pub size-bound : (q : Qubits) (n k : ℕ) → length (q .at) ≡ k → n ≡ length (qubitsOf q) → n ≤ k
+size-bound q n k e h = rw h (omega (arith, take-shorter (q .len) (q .at)))
+
+-- the qubits 1 to n, one more at a time
+range-snoc : (n a : ℕ) → range (suc n) a ≡ range n a ++ ((a + n) ∷ [])
+unfolding range
+range-snoc zero a = rw (add-zero a)
+range-snoc (suc n) a = ap (λ (t : List ℕ). a ∷ t) (range-snoc n (suc a) ∙ rw (suc-add a n, add-suc a n))
+
+-- a turn writes the next one
+pub qubits-grow : (i : ℕ) (l : List ℕ) → i < length l → take i l ≡ qubits i → take (i + 1) (set l i (i + 1)) ≡ qubits (i + 1)
+qubits-grow i l h e = rw (add-one i, take-suc-set l i (suc i) h, range-snoc i 1, e, one-add i)
+
+-- up to 32 nothing is cut off
+pub qubits-capped : (n : ℕ) → n ≤ 32 → qubits (min n 32) ≡ qubits n
+qubits-capped n h = ap qubits (least n h)
+  where
+    least : (n : ℕ) → n ≤ 32 → min n 32 ≡ n
+    least n h = omega arith
+
+-- after the last turn all are written
+pub qubits-all : (m n i : ℕ) (l : List ℕ) → take i l ≡ qubits i → n ≡ m → i ≤ n → n ≤ i → take n l ≡ qubits m
+qubits-all m n i l e s a b = let j : i ≡ n = omega arith in rw (← s, ← j) e
+
+-- a position past the end becomes 0, any other stays
+within-out : (n : ℕ) (z : ℤ) → n < position z → within n z ≡ 0
+unfolding within
+within-out n z h = rw (lt-ltb n (position z) h)
+
+within-same : (n : ℕ) (z : ℤ) → position z ≤ n → within n z ≡ position z
+unfolding within
+within-same n z h = rw (le-ltb n (position z) h)
+
+within-le : (n : ℕ) (z : ℤ) → within n z ≤ n
+within-le n z = byLt n (position z) (λ h. rw (within-out n z h) zero-le) (λ h. rw (within-same n z h) h)
+
+-- a place is inside the list
+pub place-bound : (n i : ℕ) (z : ℤ) → i ≡ within n z → i ≤ n
+place-bound n i z e = rw e (within-le n z)
+
+entry-within : (l : List ℕ) (z : ℤ) → entry l (position z) ≡ entry l (within (length l) z)
+entry-within l z = byLt (length l) (position z)
+    (λ h. rw (within-out (length l) z h) (List·getD-eq-default (0 ∷ l) 0 h))
+    (λ h. rw (within-same (length l) z h))
+
+entry-at : (q : Qubits) (i : ℕ) → i ≤ length (qubitsOf q) → (i ≡ 0 → ⊥) → getD (q .at) (i - 1) 0 ≡ entry (qubitsOf q) i
+entry-at q zero h n = absurd (n refl)
+entry-at q (suc j) h n = rw (less-one j) (sym (getD-take (q .len) (q .at) j 0 (omega (arith, take-short (q .len) (q .at)))))
+
+-- a removal past the end empties the list
+remove-past : (k : ℕ) (l : List ℕ) → length l < k → remove k l ≡ []
+remove-past zero l h = absurd (not-suc-le-zero h)
+remove-past (suc i) l h = remove-out i l (le-ltb i (length l) (le-of-suc-le-suc h))
+
+remove-within : (l : List ℕ) (z : ℤ) → remove (position z) l ≡ remove (within (length l) z) l
+unfolding remove
+remove-within l z = byLt (length l) (position z)
+    (λ h. rw (within-out (length l) z h) (remove-past (position z) l h))
+    (λ h. rw (within-same (length l) z h))
+
+remove-inside : (i : ℕ) (l : List ℕ) → i ≤ length l → (i ≡ 0 → ⊥) → remove i l ≡ delete (i - 1) l
+remove-inside zero l h z = absurd (z refl)
+remove-inside (suc i) l h z = rw (less-one i) (remove-in i l (lt-ltb i (length l) h))
+
+take-self : (n : ℕ) (l : List ℕ) → take (length (take n l)) l ≡ take n l
+take-self zero l = refl
+take-self (suc n) [] = refl
+take-self (suc n) (x ∷ l) = ap (_∷_ x) (take-self n l)
+
+-- a removal is a shift of what stands behind it
+delete-split : (i : ℕ) (l : List ℕ) → delete i l ≡ take i l ++ drop (suc i) l
+unfolding delete
+delete-split zero [] = refl
+delete-split (suc i) [] = refl
+delete-split zero (x ∷ l) = refl
+delete-split (suc i) (x ∷ l) = ap (_∷_ x) (delete-split i l)
+
+-- the list as it will be when all from entry i on is shifted: those before i − 1, then those from i on
+abbrev pub shifted : ℕ → ℕ → List ℕ → List ℕ
+shifted n i l = take (i - 1) l ++ drop i (take n l)
+
+-- before the first turn it is the list without its entry
+pub shift-starts : (n i : ℕ) (l : List ℕ) → 0 < i → i ≤ n → shifted n i l ≡ delete (i - 1) (take n l)
+shift-starts n zero l p h = absurd (not-suc-le-zero p)
+shift-starts n (suc i) l p h = rw (less-one i, delete-split i (take n l))
+    (ap (λ (t : List ℕ). t ++ drop (suc i) (take n l)) (sym (take-take i n l (omega arith))))
+
+-- a turn of the loop moves entry i to i − 1, and changes nothing of that list
+pub shift-goes-on : (n i : ℕ) (l : List ℕ) → 0 < i → i < n → n ≤ length l
+    → shifted n (i + 1) (set l (i - 1) (getD l i 0)) ≡ shifted n i l
+shift-goes-on n zero l p h m = absurd (not-suc-le-zero p)
+shift-goes-on n (suc i) l p h m =
+    let v = getD l (suc i) 0 in
+    let inside : suc i < length (take n l) = rw (length-take n l) (omega arith) in
+    let front : take (suc i) (set l i v) ≡ take i l ++ (v ∷ []) = take-suc-set l i v (omega arith) in
+    let back : drop (suc (suc i)) (take n (set l i v)) ≡ drop (suc (suc i)) (take n l) =
+          ap (drop (suc (suc i))) (take-set-lt n l i v (omega arith)) ∙ drop-set-lt (suc (suc i)) (take n l) i v (omega arith) in
+    let next : v ∷ drop (suc (suc i)) (take n l) ≡ drop (suc i) (take n l) =
+          sym (drop-cons (take n l) (suc i) 0 inside ∙ ap (λ (x : ℕ). x ∷ drop (suc (suc i)) (take n l)) (getD-take n l (suc i) 0 h)) in
+    rw (add-one (suc i), less-one (suc i), less-one i, front, back, append-snoc) (ap (λ (t : List ℕ). take i l ++ t) next)
+
+-- after the last turn it is what the array holds
+pub shift-ends : (n i : ℕ) (l : List ℕ) → n ≤ i → i ≤ n → shifted n i l ≡ take (n - 1) l
+shift-ends n i l p h =
+    let e : i ≡ n = omega arith in
+    rw (e, drop-of-length-le (take n l) (take-short n l)) (append-nil (take (n - 1) l))
+
+-- the code's place i of position k: an entry and a removal there
+module _ (q : Qubits) (k : ℤ) (n i : ℕ) (f : SFits w32 k) (size : n ≡ length (qubitsOf q)) (place : i ≡ within n (toZ w32 (ofZ w32 k))) where
+  placed : i ≡ within (length (qubitsOf q)) k
+  placed = rw (← size) (rw (toZ-ofZ f) at place)
+
+  -- at place 0 there is no entry
+  pub entry-none : i ≡ 0 → 0 ≡ entry (qubitsOf q) (position k)
+  entry-none z = rw (entry-within (qubitsOf q) k, ← placed, z)
+
+  -- at any other the array has it, one further down
+  pub entry-some : (i ≡ 0 → ⊥) → getD (q .at) (i - 1) 0 ≡ entry (qubitsOf q) (position k)
+  entry-some z = rw (entry-within (qubitsOf q) k, ← placed) (entry-at q i (rw placed (within-le (length (qubitsOf q)) k)) z)
+
+  -- where the array goes on
+  pub place-inside : length (q .at) ≡ 32 → (i ≡ 0 → ⊥) → i - 1 < 32
+  place-inside e z = omega (arith, placed, within-le (length (qubitsOf q)) k, take-shorter (q .len) (q .at))
+
+  -- at place 0 a removal empties the list
+  pub remove-none : i ≡ 0 → [] ≡ remove (position k) (qubitsOf q)
+  unfolding remove
+  remove-none z = rw (remove-within (qubitsOf q) k, ← placed, z)
+
+  -- at any other it takes that entry
+  pub remove-some : (i ≡ 0 → ⊥) → delete (i - 1) (take n (q .at)) ≡ remove (position k) (qubitsOf q)
+  remove-some z = rw (remove-within (qubitsOf q) k, ← placed, size, take-self (q .len) (q .at))
+    (sym (remove-inside i (qubitsOf q) (rw placed (within-le (length (qubitsOf q)) k)) z))

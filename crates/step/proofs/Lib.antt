@@ -1,0 +1,9 @@
+pub mod Values
+pub mod Entries
+pub mod Places
+pub mod Constants
+pub mod Removals
+pub mod Deciding
+pub mod Alike
+pub mod Testing
+pub mod Saying

@@ -1,0 +1,13 @@
+-- `step::byte` meets its contract: past the end getD is 0. Assumes nothing.
+use borrow.Author.Needs.{needs}
+use Rattle.step.proofs.Places.{past-end}
+use Rattle.step.proofs.byte.Statement.{statement}
+use Rattle.step.proofs.byte.Tie as tie
+
+pub byte-spec : {M : Type 1} → statement M
+byte-spec =
+    tie.close
+    (tie.spec
+    (λ c. search needs)
+    (λ c. search needs)
+    (λ c. search (needs, past-end)))

@@ -1,0 +1,12 @@
+-- `step::size` meets its contract: its array's length is 32, so the list is as long as it says, or 32. Assumes nothing.
+use borrow.Author.Needs.{needs}
+use Rattle.step.proofs.Entries.{size-of}
+use Rattle.step.proofs.size.Statement.{statement}
+use Rattle.step.proofs.size.Tie as tie
+
+pub size-spec : {M : Type 1} → statement M
+size-spec =
+    tie.close
+    (tie.spec
+    (λ c κs. search needs)
+    (λ c. search (needs, size-of)))

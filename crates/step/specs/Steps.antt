@@ -1,0 +1,62 @@
+-- What a record does on a list of qubits: the one step of check, run and emission.
+use Prim.Native.Nat.{ℕ, _+_}
+use mathlib.Core.Bool.{_&&_}
+use mathlib.Core.List.{List}
+use lib.ListN.{length, take}
+use lib.IntN.{ℤ, pos, _+ℤ_}
+use lib.Dec.{ltb}
+use lib.Signed.{ltZ, leZ}
+use Rattle.model.specs.Lists.{value, position, touched}
+use Rattle.records.specs.declared.Number.{Number}
+use Rattle.records.specs.declared.Number.the-variants as base
+use Rattle.records.specs.declared.Record.{Record}
+use Rattle.records.specs.declared.Record.the-variants as kind
+use Rattle.records.specs.Fields.{pick, recordAt, numberOf, removalsOf}
+use Rattle.table.specs.Index.{startOf, behindOf}
+use Rattle.step.specs.declared.Qubits.{Qubits}
+use Rattle.step.specs.declared.Step.{Step}
+use Rattle.step.specs.declared.Step.the-variants as step
+
+-- the qubits of a list
+abbrev pub qubitsOf : Qubits → List ℕ
+qubitsOf q = take (q .len) (q .at)
+
+-- the value of a number. A table's constants have 16 bits: for them a law says that the guard, without which a sum could leave i32, never shuts.
+unfoldable pub valueOf : Number → ℕ → ℤ
+valueOf (base.Constant z) size = z
+valueOf (base.SizePlus z) size = pick (ltZ (pos 32767) z) (pos 0) (z +ℤ pos size)
+
+-- a position in a list of this size: 0 for "a position at or below zero, or past the end"
+unfoldable pub within : ℕ → ℤ → ℕ
+within size z = pick (ltb size (position z)) 0 (position z)
+
+-- the record behind record i. Past the end of the index all numbers are alike: there i stands for i + 1.
+unfoldable pub nextOf : List ℕ → ℕ → ℕ
+nextOf ix i = pick (ltb i (length ix)) (i + 1) i
+
+-- the qubit that is touched in a whole list, where the removals stand at a place: "the entry at position a of the remaining list"
+abbrev pub touchedBy : List ℕ → ℕ → Number → List ℕ → ℕ
+touchedBy bs at a l = touched (removalsOf bs at) (numberOf a) l
+
+-- the model's value of a number that a record holds
+abbrev pub modelValue : Number → List ℕ → ℤ
+modelValue a l = value (numberOf a) (length l)
+
+-- one clause for each of the kinds 0 to 11
+unfoldable pub stepOf : List ℕ → List ℕ → ℕ → List ℕ → Record → Step
+stepOf bs ix i l kind.Skip = step.Nothing
+stepOf bs ix i l (kind.Not at a) = step.Touches (touchedBy bs at a l)
+stepOf bs ix i l kind.Sequence = step.Sequence (nextOf ix i) (behindOf ix (nextOf ix i))
+stepOf bs ix i l kind.If = step.Chooses (nextOf ix i) (behindOf ix (nextOf ix i)) (behindOf ix (behindOf ix (nextOf ix i)))
+stepOf bs ix i l (kind.Qcase at a) = step.Branches (touchedBy bs at a l) (nextOf ix i) (behindOf ix (nextOf ix i))
+stepOf bs ix i l (kind.Call at f) = step.Calls f at
+stepOf bs ix i l (kind.Greater a b) = step.Holds (ltZ (modelValue b l) (modelValue a l))
+stepOf bs ix i l (kind.AtLeast a b) = step.Holds (leZ (modelValue b l) (modelValue a l))
+stepOf bs ix i l (kind.Equal a b) = step.Holds (leZ (modelValue a l) (modelValue b l) && leZ (modelValue b l) (modelValue a l))
+stepOf bs ix i l kind.And = step.Both (nextOf ix i) (behindOf ix (nextOf ix i))
+stepOf bs ix i l kind.Or = step.Either (nextOf ix i) (behindOf ix (nextOf ix i))
+stepOf bs ix i l kind.Negation = step.Negates (nextOf ix i)
+
+-- the step of record i
+abbrev pub stepAt : ℕ → List ℕ → List ℕ → ℕ → List ℕ → Step
+stepAt p bs ix i l = stepOf bs ix i l (recordAt p bs (startOf ix i))

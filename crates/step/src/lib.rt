@@ -1,0 +1,251 @@
+// Lists of qubits, and the one step that check, run and emission take from a record.
+ghost use mathlib.Core.Path.{_≡_};
+ghost use Prim.Native.Nat.{min};
+ghost use lib.ListN.{length};
+ghost use Rattle.model.specs.Lists.{qubits, entry, remove, remaining, position, holds};
+ghost use Rattle.records.specs.Fields.{byteAt, writtenAt, removalsOf};
+ghost use Rattle.table.specs.Index.{startOf, behindOf, testAt};
+ghost use Rattle.step.specs.Steps.{qubitsOf, valueOf, within, touchedBy, nextOf, stepAt};
+use records::{Number, Record, record_at, signed};
+
+// "a signed 16-bit constant"
+const MOST_CONSTANT: i32 = 32767;
+
+// A list of qubits: its first `len` entries count.
+pub struct Qubits {
+    pub at: [u8; 32],
+    pub len: u8,
+}
+
+// What a record does on a list. Children go by their numbers.
+pub enum Step {
+    // skip
+    Nothing,
+    // NOT: the qubit it touches, 0 for none
+    Touches(u8),
+    // sequence: first, second
+    Sequence(usize, usize),
+    // if: condition, yes, no
+    Chooses(usize, usize, usize),
+    // qcase: the qubit it touches, zero, one
+    Branches(u8, usize, usize),
+    // call: the procedure, and the place of its removals
+    Calls(u8, usize),
+    // a comparison: whether it holds
+    Holds(bool),
+    // and: first, second
+    Both(usize, usize),
+    // or: first, second
+    Either(usize, usize),
+    // not: the one
+    Negates(usize),
+}
+
+// A list has at most 32 entries.
+fn capped(n: u8) -> u8
+    ensures { λ r. ⌜ r ≡ min n 32 ⌝ }
+{
+    if n < 32 { n } else { 32 }
+}
+
+// The length of a list.
+pub fn size(list: Qubits) -> u8
+    ensures { λ r. ⌜ r ≡ length (qubitsOf list) ⌝ }
+{
+    capped(list.len)
+}
+
+// Main's list: qubits 1 to n.
+pub fn all(n: u8) -> Qubits
+    ensures { λ r. ⌜ qubitsOf r ≡ qubits (min n 32) ⌝ }
+{
+    let len = capped(n);
+    let mut at = [0; 32];
+    let mut i: u8 = 0;
+    while i < len {
+        at[i as usize] = i + 1;
+        i += 1;
+    }
+    Qubits { at, len }
+}
+
+// A number's value in a procedure whose whole list has this size. No table has a constant above 16 bits; without the test its sum could leave i32.
+pub fn value(a: Number, size: u8) -> i32
+    ensures { λ r. ⌜ r ≡ valueOf a size ⌝ }
+{
+    match a {
+        Number::Constant(z) => z,
+        Number::SizePlus(z) => {
+            if z > MOST_CONSTANT {
+                return 0;
+            }
+            z + size as i32
+        }
+    }
+}
+
+// A position in a list of this size, counted from 1; 0 for one at or below zero, or past the end.
+fn within(size: u8, k: i32) -> usize
+    ensures { λ r. ⌜ r ≡ within size k ⌝ }
+{
+    if k < 1 {
+        return 0;
+    }
+    if k > size as i32 {
+        return 0;
+    }
+    k as usize
+}
+
+// The entry at a position, 0 where there is none.
+pub fn entry(list: Qubits, k: i32) -> u8
+    ensures { λ r. ⌜ r ≡ entry (qubitsOf list) (position k) ⌝ }
+{
+    let i = within(size(list), k);
+    if i == 0 {
+        return 0;
+    }
+    let before = i - 1;
+    list.at[before]
+}
+
+// The list without its entry at a position; empty where there is none.
+pub fn remove(list: Qubits, k: i32) -> Qubits
+    ensures { λ r. ⌜ qubitsOf r ≡ remove (position k) (qubitsOf list) ⌝ }
+{
+    let len = size(list);
+    let mut i = within(len, k);
+    let mut at = list.at;
+    if i == 0 {
+        return Qubits { at, len: 0 };
+    }
+    while i < len as usize {
+        at[i - 1] = at[i];
+        i += 1;
+    }
+    Qubits { at, len: len - 1 }
+}
+
+// The byte at a place, 0 past the end.
+fn byte(table: &[u8], at: usize) -> u8
+    ensures { λ r. ⌜ r ≡ byteAt (now (table .entry)) at ⌝ }
+{
+    if at < table.len() { table[at] } else { 0 }
+}
+
+// The number whose three bytes stand from a place on.
+fn written_at(table: &[u8], at: usize) -> Number
+    ensures { λ r. ⌜ r ≡ writtenAt (now (table .entry)) at ⌝ }
+{
+    if table.len() <= at {
+        return Number::Constant(0);
+    }
+    let constant = signed(byte(table, at + 1), byte(table, at + 2));
+    if table[at] == 0 {
+        return Number::Constant(constant);
+    }
+    Number::SizePlus(constant)
+}
+
+// What the removals at a place leave of a list, "each from what the last one left"; their numbers take the size of the whole list. Place 0 has none.
+pub fn remaining(table: &[u8], at: usize, list: Qubits) -> Qubits
+    ensures { λ r. ⌜ qubitsOf r ≡ remaining (removalsOf (now (table .entry)) at) (qubitsOf list) ⌝ }
+{
+    if at == 0 {
+        return list;
+    }
+    if table.len() <= at {
+        return list;
+    }
+    let mut rest = list;
+    let mut left = table[at];
+    let mut place = at + 1;
+    while 0 < left {
+        let k = value(written_at(table, place), size(list));
+        rest = remove(rest, k);
+        place += 3;
+        left -= 1;
+    }
+    rest
+}
+
+// "NOT and qcase touch the entry at position a of the remaining list"; 0 where they touch nothing.
+pub fn touched(table: &[u8], at: usize, a: Number, list: Qubits) -> u8
+    ensures { λ r. ⌜ r ≡ touchedBy (now (table .entry)) at a (qubitsOf list) ⌝ }
+{
+    entry(remaining(table, at, list), value(a, size(list)))
+}
+
+// Where record i starts in the table.
+pub fn start(index: &[u16], i: usize) -> usize
+    ensures { λ r. ⌜ r ≡ startOf (now (index .entry)) i ⌝ }
+{
+    if i < index.len() { index[i] as usize } else { 0 }
+}
+
+// The record behind the subtree of record i.
+pub fn behind(index: &[u16], i: usize) -> usize
+    ensures { λ r. ⌜ r ≡ behindOf (now (index .entry)) i ⌝ }
+{
+    if index.len() <= i {
+        return 0;
+    }
+    start(index, 256 + i)
+}
+
+// The first child of record i, where it has one: the next record. Past the end of the index all numbers are alike.
+fn next(index: &[u16], i: usize) -> usize
+    ensures { λ r. ⌜ r ≡ nextOf (now (index .entry)) i ⌝ }
+{
+    if i < index.len() { i + 1 } else { i }
+}
+
+// What record i does on a list: one match over the kinds 0 to 11.
+pub fn step_at(table: &[u8], index: &[u16], p: u8, i: usize, list: Qubits) -> Step
+    ensures { λ r. ⌜ r ≡ stepAt p (now (table .entry)) (now (index .entry)) i (qubitsOf list) ⌝ }
+{
+    let n = size(list);
+    let first = next(index, i);
+    let second = behind(index, first);
+    let found = record_at(table, start(index, i), p);
+    match found {
+        Record::Skip => Step::Nothing,
+        Record::Not(at, a) => Step::Touches(touched(table, at, a, list)),
+        Record::Sequence => Step::Sequence(first, second),
+        Record::If => Step::Chooses(first, second, behind(index, second)),
+        Record::Qcase(at, a) => Step::Branches(touched(table, at, a, list), first, second),
+        Record::Call(at, f) => Step::Calls(f, at),
+        Record::Greater(a, b) => Step::Holds(value(a, n) > value(b, n)),
+        Record::AtLeast(a, b) => Step::Holds(value(a, n) >= value(b, n)),
+        Record::Equal(a, b) => Step::Holds(value(a, n) == value(b, n)),
+        Record::And => Step::Both(first, second),
+        Record::Or => Step::Either(first, second),
+        Record::Negation => Step::Negates(first),
+    }
+}
+
+// Does the condition at record i hold for its numbers? It is followed `depth` records down; a statement there is no condition and holds.
+pub fn holds(table: &[u8], index: &[u16], p: u8, i: usize, list: Qubits, depth: u8) -> bool
+    ensures { λ r. ⌜ r ≡ holds (testAt p (now (table .entry)) (now (index .entry)) depth i) (length (qubitsOf list)) ⌝ }
+{
+    if depth == 0 {
+        return true;
+    }
+    let step = step_at(table, index, p, i, list);
+    match step {
+        Step::Holds(result) => result,
+        Step::Both(first, second) => {
+            holds(table, index, p, first, list, depth - 1) && holds(table, index, p, second, list, depth - 1)
+        }
+        Step::Either(first, second) => {
+            holds(table, index, p, first, list, depth - 1) || holds(table, index, p, second, list, depth - 1)
+        }
+        Step::Negates(first) => !holds(table, index, p, first, list, depth - 1),
+        Step::Nothing => true,
+        Step::Touches(_) => true,
+        Step::Sequence(_, _) => true,
+        Step::Chooses(_, _, _) => true,
+        Step::Branches(_, _, _) => true,
+        Step::Calls(_, _) => true,
+    }
+}

@@ -1,0 +1,54 @@
+-- `table::read_table` meets its contract: one law for each way out. Assumes nothing.
+use Rattle.table.proofs.Tables.{tables}
+use borrow.Author.Needs.{needs}
+use Rattle.table.proofs.read_table.Statement.{statement}
+use Rattle.table.proofs.read_table.Tie as tie
+
+returns : tie.Need-returns
+returns c = search tables
+
+shared-slice-read-if2 : tie.Need-shared-slice-read-if2
+shared-slice-read-if2 c = search needs
+
+returns-2 : tie.Need-returns-2
+returns-2 c = search tables
+
+shared-slice-read-p : tie.Need-shared-slice-read-p
+shared-slice-read-p c = search needs
+
+returns-3 : tie.Need-returns-3
+returns-3 c = search tables
+
+read-bodies-requires : tie.Need-read-bodies-requires
+read-bodies-requires c κs = search needs
+
+enum-known-tree : tie.Need-enum-known-tree
+enum-known-tree c = search needs
+
+enum-known-tree-2 : tie.Need-enum-known-tree-2
+enum-known-tree-2 c = search needs
+
+returns-4 : tie.Need-returns-4
+returns-4 c = search tables
+
+returns-5 : tie.Need-returns-5
+returns-5 c = search tables
+
+returns-6 : tie.Need-returns-6
+returns-6 c = search tables
+
+pub read-table-spec : {M : Type 1} → statement M
+read-table-spec =
+    tie.close
+    (tie.spec
+    returns
+    shared-slice-read-if2
+    returns-2
+    shared-slice-read-p
+    returns-3
+    read-bodies-requires
+    enum-known-tree
+    enum-known-tree-2
+    returns-4
+    returns-5
+    returns-6)

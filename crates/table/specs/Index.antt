@@ -1,0 +1,85 @@
+-- The index that reading leaves: where each record starts, the record behind its subtree, and the root of each body. With it a table is its own tree.
+use Prim.Native.Nat.{ℕ, zero, suc, _+_}
+use mathlib.Core.List.{List, map}
+use lib.ListN.{getD}
+use lib.IntN.{pos}
+use Rattle.model.specs.Limits.{mostDepth}
+use Rattle.model.specs.Syntax.{constant, Condition, greater, atLeast, equal, conjunction, disjunction, negation}
+use Rattle.model.specs.Syntax.{Statement, skip, NOT, sequence, if, qcase, call, Program}
+use Rattle.model.specs.Lists.{range}
+use Rattle.model.specs.Answers.{Outcome, gives, refuses}
+use Rattle.records.specs.declared.Record.{Record}
+use Rattle.records.specs.declared.Record.the-variants as kind
+use Rattle.records.specs.Fields.{recordAt, numberOf, removalsOf}
+use Rattle.table.specs.declared.Table.{Table}
+use Rattle.table.specs.declared.Table.the-variants as answer
+
+-- the index has three parts of its one row of numbers
+abbrev pub startOf : List ℕ → ℕ → ℕ
+startOf ix i = getD ix i 0
+
+abbrev pub behindOf : List ℕ → ℕ → ℕ
+behindOf ix i = getD ix (256 + i) 0
+
+abbrev pub rootOf : List ℕ → ℕ → ℕ
+rootOf ix f = getD ix (512 + f) 0
+
+-- a condition that stands for what is none
+abbrev pub noTest : Condition
+noTest = equal (constant (pos 0)) (constant (pos 0))
+
+-- the condition of a record, where `part` gives those of its parts
+unfoldable pub testOf : (ℕ → Condition) → List ℕ → ℕ → Record → Condition
+testOf part ix i (kind.Greater a b) = greater (numberOf a) (numberOf b)
+testOf part ix i (kind.AtLeast a b) = atLeast (numberOf a) (numberOf b)
+testOf part ix i (kind.Equal a b) = equal (numberOf a) (numberOf b)
+testOf part ix i kind.And = conjunction (part (i + 1)) (part (behindOf ix (i + 1)))
+testOf part ix i kind.Or = disjunction (part (i + 1)) (part (behindOf ix (i + 1)))
+testOf part ix i kind.Negation = negation (part (i + 1))
+testOf part ix i kind.Skip = noTest
+testOf part ix i (kind.Not at a) = noTest
+testOf part ix i kind.Sequence = noTest
+testOf part ix i kind.If = noTest
+testOf part ix i (kind.Qcase at a) = noTest
+testOf part ix i (kind.Call at f) = noTest
+
+-- the condition at record i, of at most `depth` records from its root down
+unfoldable pub testAt : ℕ → List ℕ → List ℕ → ℕ → ℕ → Condition
+testAt p bs ix zero i = noTest
+testAt p bs ix (suc depth) i = testOf (testAt p bs ix depth) ix i (recordAt p bs (startOf ix i))
+
+-- the statement of a record: "a record's children follow it, first child first"
+unfoldable pub statementOf : (ℕ → Condition) → (ℕ → Statement) → List ℕ → List ℕ → ℕ → Record → Statement
+statementOf test part bs ix i kind.Skip = skip
+statementOf test part bs ix i (kind.Not at a) = NOT (removalsOf bs at) (numberOf a)
+statementOf test part bs ix i kind.Sequence = sequence (part (i + 1)) (part (behindOf ix (i + 1)))
+statementOf test part bs ix i kind.If =
+    if (test (i + 1)) (part (behindOf ix (i + 1))) (part (behindOf ix (behindOf ix (i + 1))))
+statementOf test part bs ix i (kind.Qcase at a) =
+    qcase (removalsOf bs at) (numberOf a) (part (i + 1)) (part (behindOf ix (i + 1)))
+statementOf test part bs ix i (kind.Call at f) = call (removalsOf bs at) f
+statementOf test part bs ix i (kind.Greater a b) = skip
+statementOf test part bs ix i (kind.AtLeast a b) = skip
+statementOf test part bs ix i (kind.Equal a b) = skip
+statementOf test part bs ix i kind.And = skip
+statementOf test part bs ix i kind.Or = skip
+statementOf test part bs ix i kind.Negation = skip
+
+-- the statement at record i, of at most `depth` records from its root down
+unfoldable pub statementAt : ℕ → List ℕ → List ℕ → ℕ → ℕ → Statement
+statementAt p bs ix zero i = skip
+statementAt p bs ix (suc depth) i =
+    statementOf (testAt p bs ix depth) (statementAt p bs ix depth) bs ix i (recordAt p bs (startOf ix i))
+
+-- the body of procedure f, main at 0
+abbrev pub bodyAt : ℕ → List ℕ → List ℕ → ℕ → Statement
+bodyAt p bs ix f = statementAt p bs ix mostDepth (rootOf ix f)
+
+-- the program of a table of p procedures
+abbrev pub programAt : ℕ → List ℕ → List ℕ → Program
+programAt p bs ix = record { main = bodyAt p bs ix 0; procedures = map (bodyAt p bs ix) (range p 1) }
+
+-- what an answer of the reader says, with the index that it left
+unfoldable pub says : Table → List ℕ → List ℕ → Outcome Program
+says (answer.Read p) bs ix = gives (programAt p bs ix)
+says (answer.Refused k) bs ix = refuses k

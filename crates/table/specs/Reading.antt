@@ -1,0 +1,104 @@
+-- Reading trees at a place of the table's bytes, with the index as it fills. A law ties this to the model's reader of the bytes from that place on.
+use Prim.Native.Nat.{ℕ, zero, suc, _+_}
+use mathlib.Core.Bool.{Bool, true, false}
+use mathlib.Core.List.{List, [], _∷_}
+use lib.ListN.{length, getD, set}
+use lib.Dec.{ltb, leb}
+use Rattle.model.specs.Limits.{mostRecords, mostDepth, tableStops, wrongKind, wrongMap, tooDeep}
+use Rattle.model.specs.Reading.{permitted, stands}
+use Rattle.records.specs.declared.Answer.{Answer}
+use Rattle.records.specs.declared.Answer.the-variants as field
+use Rattle.records.specs.Fields.{pick, byteAt, fieldsAt}
+use Rattle.table.specs.declared.Tree.{Tree}
+use Rattle.table.specs.declared.Tree.the-variants as tree
+
+-- what reading a tree answers, with the index that it leaves
+pub data Ran : Type 0 where
+  ran : Tree → List ℕ → Ran
+
+-- go on behind a tree; a refusal goes out as it is
+unfoldable pub behindTree : Ran → (ℕ → ℕ → List ℕ → Ran) → Ran
+behindTree (ran (tree.Read at i) ix) f = f at i ix
+behindTree (ran (tree.Refused k) ix) f = ran (tree.Refused k) ix
+
+-- the index with a value noted at a slot; a slot outside or a value too large is passed over, and neither occurs
+unfoldable pub noted : List ℕ → ℕ → ℕ → List ℕ
+noted ix slot value = pick (ltb slot 544) (pick (ltb value 65536) (set ix slot value) ix) ix
+
+-- is this a kind of condition, or else of statement?
+unfoldable pub wanted : Bool → ℕ → Bool
+wanted true kind = pick (ltb kind 6) false (ltb kind 12)
+wanted false kind = ltb kind 6
+
+-- how many conditions, and how many statements, stand behind a record of each kind
+abbrev pub conditionParts : List ℕ
+conditionParts = 0 ∷ 0 ∷ 0 ∷ 1 ∷ 0 ∷ 0 ∷ 0 ∷ 0 ∷ 0 ∷ 2 ∷ 2 ∷ 1 ∷ []
+
+abbrev pub statementParts : List ℕ
+statementParts = 0 ∷ 0 ∷ 2 ∷ 2 ∷ 2 ∷ 0 ∷ 0 ∷ 0 ∷ 0 ∷ 0 ∷ 0 ∷ 0 ∷ []
+
+unfoldable pub parts : Bool → ℕ → ℕ
+parts true kind = getD conditionParts kind 0
+parts false kind = getD statementParts kind 0
+
+-- what comes behind 7 in a record, whose fields stand at `at`: "5, then each field 1 and 6"
+unfoldable pub contentsAt : ℕ → ℕ → ℕ → List ℕ → ℕ → Answer
+contentsAt p map kind bs at = pick (permitted kind map) (fieldsAt p kind (stands 0 map) bs at) (field.Refused wrongMap)
+
+-- n trees, one after the other
+unfoldable pub many : (ℕ → ℕ → List ℕ → Ran) → ℕ → ℕ → ℕ → List ℕ → Ran
+many one zero at i ix = ran (tree.Read at i) ix
+many one (suc n) at i ix = behindTree (one at i ix) (λ next j jx. many one n next j jx)
+
+-- the refusal of a reader of fields, which answers a record or a refusal
+unfoldable pub refusal : Answer → Tree
+refusal (field.Place next) = tree.Refused tableStops
+refusal (field.Number a next) = tree.Refused tableStops
+refusal (field.Procedure f next) = tree.Refused tableStops
+refusal (field.Record r next) = tree.Refused tableStops
+refusal (field.Refused k) = tree.Refused k
+
+-- go on behind the fields of a record; a refusal goes out
+unfoldable pub behindFields : Answer → List ℕ → (ℕ → Ran) → Ran
+behindFields (field.Place next) ix f = ran (refusal (field.Place next)) ix
+behindFields (field.Number a next) ix f = ran (refusal (field.Number a next)) ix
+behindFields (field.Procedure g next) ix f = ran (refusal (field.Procedure g next)) ix
+behindFields (field.Record r next) ix f = f next
+behindFields (field.Refused k) ix f = ran (refusal (field.Refused k)) ix
+
+-- "a record's children follow it, first child first": record i, at `at`, has its start noted, its conditions and statements are read from `next` on,
+-- and the record behind them is noted
+unfoldable pub childrenAt : (Bool → ℕ → ℕ → List ℕ → Ran) → ℕ → ℕ → ℕ → ℕ → List ℕ → Ran
+childrenAt one kind at next i ix =
+    behindTree (many (one true) (parts true kind) next (i + 1) (noted ix i at)) (λ middle j jx.
+    behindTree (many (one false) (parts false kind) middle j jx) (λ end behind kx.
+    ran (tree.Read end behind) (noted kx (256 + i) behind)))
+
+-- "each record 1 for map and kind, 4": what comes then is given
+abbrev pub opened : Bool → List ℕ → ℕ → List ℕ → Ran → Ran
+opened tests bs at ix x =
+    pick (ltb at (length bs))
+    (pick (leb (at + 2) (length bs))
+    (pick (wanted tests (byteAt bs (at + 1))) x
+    (ran (tree.Refused wrongKind) ix))
+    (ran (tree.Refused tableStops) ix))
+    (ran (tree.Refused tableStops) ix)
+
+-- what comes then in a record that is not too deep: "7, 5, then each field 1 and 6", and its children
+abbrev pub behindKind : ℕ → List ℕ → (Bool → ℕ → ℕ → List ℕ → Ran) → ℕ → ℕ → List ℕ → Ran
+behindKind p bs one at i ix =
+    pick (ltb i mostRecords)
+    (behindFields (contentsAt p (byteAt bs at) (byteAt bs (at + 1)) bs (at + 2)) ix (λ next.
+    childrenAt one (byteAt bs (at + 1)) at next i ix))
+    (ran (tree.Refused tooDeep) ix)
+
+-- a tree of at most `depth` records from its root down, a condition or else a statement, where i records came before it
+unfoldable pub treeAt : ℕ → List ℕ → ℕ → Bool → ℕ → ℕ → List ℕ → Ran
+treeAt p bs zero tests at i ix = opened tests bs at ix (ran (tree.Refused tooDeep) ix)
+treeAt p bs (suc depth) tests at i ix = opened tests bs at ix (behindKind p bs (treeAt p bs depth) at i ix)
+
+-- the bodies of n procedures from f on, main at 0: the root of each is noted
+unfoldable pub bodiesAt : ℕ → List ℕ → ℕ → ℕ → ℕ → ℕ → List ℕ → Ran
+bodiesAt p bs zero f at i ix = ran (tree.Read at i) ix
+bodiesAt p bs (suc n) f at i ix =
+    behindTree (treeAt p bs mostDepth false at i (noted ix (512 + f) i)) (λ next j jx. bodiesAt p bs n (f + 1) next j jx)
