@@ -11,7 +11,7 @@ use Rattle.model.specs.Circuit.{gateIsWellFormed}
 use Rattle.circuit.proofs.WellFormed.{checked-is}
 use Rattle.circuit.specs.declared.GateAt.{GateAt}
 use Rattle.circuit.specs.Views.{listIn, gateIn}
-use Rattle.circuit.specs.Checks.{rising, meets, tidy, free, paired, checked}
+use Rattle.circuit.specs.Checks.{tidy, free, paired, checked}
 
 -- the ways out of `is_free`
 module _ (most : ℕ) (ones zeros : List ℕ) (w : ℕ) where
@@ -33,23 +33,8 @@ module _ (most : ℕ) (ones zeros : List ℕ) (w : ℕ) where
       unfolding free
       free-rest e other q = rw (le-leb 1 w (omega arith), le-leb w most h, ← is, e, ← q)
 
--- the ways out of `are_tidy`
-module _ (most : ℕ) (ones zeros : List ℕ) (first : Bool) (is : first ≡ rising 0 most ones) where
-  pub tidy-ones : first ≡ false → false ≡ tidy most ones zeros
-  unfolding tidy
-  tidy-ones e = rw (← is, e)
-
-  module _ (e : first ≡ true) (second : Bool) (q : second ≡ rising 0 most zeros) where
-    pub tidy-zeros : second ≡ false → false ≡ tidy most ones zeros
-    unfolding tidy
-    tidy-zeros z = rw (← is, e, ← q, z)
-
-    pub tidy-rest : second ≡ true → (both : Bool) → both ≡ meets ones zeros → not both ≡ tidy most ones zeros
-    unfolding tidy
-    tidy-rest z both m = rw (← is, e, ← q, z, ← m)
-
 -- the ways out of `well_formed`
-module _ (bs : List ℕ) (g : GateAt) (most : ℕ) (neat : Bool) (is : neat ≡ tidy most (listIn bs (g .ones)) (listIn bs (g .zeros))) where
+module _ (bs : List ℕ) (g : GateAt) (most : ℕ) (neat : Bool) (is : neat ≡ tidy 0 most (listIn bs (g .ones)) (listIn bs (g .zeros))) where
   formed : gateIsWellFormed most (gateIn bs g) ≡ checked most (g .swaps) (listIn bs (g .ones)) (listIn bs (g .zeros)) (g .target) (g .second)
   formed = checked-is most (g .swaps) (listIn bs (g .ones)) (listIn bs (g .zeros)) (g .target) (g .second)
 
@@ -78,7 +63,5 @@ module _ (bs : List ℕ) (g : GateAt) (most : ℕ) (neat : Bool) (is : neat ≡ 
         formed-swap h other r = rw (formed, ← is, e, ← q, z, s, lt-ltb (g .target) (g .second) h, ← r)
 
 pub ruleset frees = (needs, free-zero, free-high, free-one, free-rest)
-
-pub ruleset tidies = (needs, not-true, not-false, tidy-ones, tidy-zeros, tidy-rest)
 
 pub ruleset forms = (needs, not-true, not-false, formed-untidy, formed-target, formed-flip, formed-order, formed-swap)

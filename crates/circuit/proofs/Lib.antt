@@ -1,6 +1,7 @@
 -- What the proofs of several functions, and of callers, use.
 mod Parts
 mod WellFormed
+mod Tidy
 mod CheckLaws
 pub mod Reading
 pub mod GateReading

@@ -11,7 +11,7 @@ use lib.ListN.{length, getD, drop-of-length-le}
 use lib.Seq.{drop-cons, take-nil}
 use Rattle.model.specs.Lists.{member}
 use Rattle.circuit.specs.Views.{part}
-use Rattle.circuit.specs.Checks.{rising, meets}
+use Rattle.circuit.specs.Checks.{rising}
 
 -- a part that is not empty begins with the byte at its place
 pub part-step : (bs : List ℕ) (at left : ℕ) → 0 < left → at < length bs → part bs at left ≡ getD bs at 0 ∷ part bs (at + 1) (left - 1)
@@ -69,27 +69,6 @@ module _ (bs : List ℕ) (at left low most : ℕ) (whole : Bool) (inv : whole �
       unfolding rising
       ascending-next e = rw (inv, part-step bs at left l h, lt-ltb low (getD bs at 0) a, le-leb (getD bs at 0) most e)
 
--- what the loop of `share` keeps
-module _ (bs : List ℕ) (at left : ℕ) (others : List ℕ) (whole : Bool) (inv : whole ≡ meets (part bs at left) others) where
-  pub share-none : left ≤ 0 → false ≡ whole
-  unfolding meets
-  share-none l = rw (inv, part-none bs at left l)
-
-  pub share-past : length bs ≤ at → false ≡ whole
-  unfolding meets
-  share-past h = rw (inv, part-past bs at left h)
-
-  module _ (l : 0 < left) (h : at < length bs) (has : Bool) (is : has ≡ member (getD bs at 0) others) where
-    pub share-found : has ≡ true → true ≡ whole
-    unfolding meets
-    share-found e = rw (inv, part-step bs at left l h, ← is, e)
-
-    pub share-next : has ≡ false → whole ≡ meets (part bs (at + 1) (left - 1)) others
-    unfolding meets
-    share-next e = rw (inv, part-step bs at left l h, ← is, e)
-
 pub ruleset contained = (needs, contains-none, contains-past, contains-found, contains-next)
-
-pub ruleset shared = (needs, share-none, share-past, share-found, share-next)
 
 pub ruleset ascended = (needs, ascending-none, ascending-past, ascending-low, ascending-high, ascending-next)

@@ -47,6 +47,15 @@ module _ (low most w : ℕ) (l : List ℕ) (r : rising low most (w ∷ l) ≡ tr
   unfolding rising
   rising-last = last (ltb low w) (leb w most) (rising w most l) r
 
+-- a wire of a list that rises from above `low` is above `low`
+pub rising-above : (low most : ℕ) (l : List ℕ) (w : ℕ) → rising low most l ≡ true → member w l ≡ true → low < w
+unfolding member
+rising-above low most [] w r m = absurd (false≢true m)
+rising-above low most (x ∷ l) w r m =
+    let h : low < x = rising-first low most x l r in
+    member-cases w x l m (λ e. rw e h)
+    (λ q. let a : x < w = rising-above x most l w (rising-last low most x l r) q in omega arith)
+
 rising-ascends : (low most : ℕ) (l : List ℕ) → rising low most l ≡ true → ascends l ≡ true
 unfolding ascends
 rising-ascends low most [] r = refl

@@ -7,7 +7,7 @@ ghost use Rattle.model.specs.Circuit.{wireList, readGate, readGates, gateIsWell
 ghost use Rattle.model.specs.Reading.{optional};
 ghost use Rattle.model.specs.Answers.{circuitRead};
 ghost use Rattle.circuit.specs.Views.{part, inputAt, settled, fills, listIn, listSeen, gateIn, gateSeen, judged, gateEnd};
-ghost use Rattle.circuit.specs.Checks.{rising, meets, free, tidy};
+ghost use Rattle.circuit.specs.Checks.{rising, free, tidy};
 ghost use Rattle.circuit.specs.Header.{headerOf, refusedHeader};
 
 pub mod write;
@@ -35,12 +35,12 @@ pub enum ListRead {
 
 // A gate where it stands in the bytes: `second` is a swap's second wire, and the next gate begins at `next`.
 pub struct GateAt {
-    pub target: u8,
     pub ones: WireList,
     pub zeros: WireList,
-    pub swaps: bool,
-    pub second: u8,
     pub next: usize,
+    pub target: u8,
+    pub second: u8,
+    pub swaps: bool,
 }
 
 pub enum GateRead {
@@ -67,11 +67,11 @@ pub fn contains(bytes: &[u8], from: usize, count: usize, wire: u8) -> bool
     false
 }
 
-// Do the wires ascend, and are they 1 to `most`?
-pub fn ascending(bytes: &[u8], from: usize, count: usize, most: u8) -> bool
-    ensures { λ r. ⌜ r ≡ rising 0 most (part (now (bytes .entry)) from count) ⌝ }
+// Do the wires ascend from above `floor` to at most `most`?
+pub fn ascending(bytes: &[u8], from: usize, count: usize, floor: u8, most: u8) -> bool
+    ensures { λ r. ⌜ r ≡ rising floor most (part (now (bytes .entry)) from count) ⌝ }
 {
-    let mut low = 0;
+    let mut low = floor;
     let mut at = from;
     let mut left = count;
     while 0 < left {
@@ -92,36 +92,45 @@ pub fn ascending(bytes: &[u8], from: usize, count: usize, most: u8) -> bool
     true
 }
 
-// Do two lists share a wire?
-pub fn share(bytes: &[u8], ones: WireList, zeros: WireList) -> bool
-    ensures { λ r. ⌜ r ≡ meets (listIn (now (bytes .entry)) ones) (listIn (now (bytes .entry)) zeros) ⌝ }
-{
-    let mut at = ones.from;
-    let mut left = ones.count;
-    while 0 < left {
-        if bytes.len() <= at {
-            return false;
-        }
-        if contains(bytes, zeros.from, zeros.count, bytes[at]) {
-            return true;
-        }
-        at += 1;
-        left -= 1;
-    }
-    false
-}
-
 // Do the wires of each list ascend from 1 to `most`, with no wire in both?
+// Both lists are walked at once, the lower of their next wires first: each must be above the one before.
 pub fn are_tidy(bytes: &[u8], ones: WireList, zeros: WireList, most: u8) -> bool
-    ensures { λ r. ⌜ r ≡ tidy most (listIn (now (bytes .entry)) ones) (listIn (now (bytes .entry)) zeros) ⌝ }
+    ensures { λ r. ⌜ r ≡ tidy 0 most (listIn (now (bytes .entry)) ones) (listIn (now (bytes .entry)) zeros) ⌝ }
 {
-    if !ascending(bytes, ones.from, ones.count, most) {
-        return false;
+    let mut low = 0;
+    let mut one = ones.from;
+    let mut ones_left = ones.count;
+    let mut zero = zeros.from;
+    let mut zeros_left = zeros.count;
+    while 0 < ones_left {
+        if zeros_left == 0 {
+            return ascending(bytes, one, ones_left, low, most);
+        }
+        if bytes.len() <= zero {
+            return ascending(bytes, one, ones_left, low, most);
+        }
+        if bytes.len() <= one {
+            return ascending(bytes, zero, zeros_left, low, most);
+        }
+        let on_one = bytes[one];
+        let on_zero = bytes[zero];
+        if on_one < on_zero {
+            if on_one <= low {
+                return false;
+            }
+            low = on_one;
+            one += 1;
+            ones_left -= 1;
+        } else {
+            if on_zero <= low {
+                return false;
+            }
+            low = on_zero;
+            zero += 1;
+            zeros_left -= 1;
+        }
     }
-    if !ascending(bytes, zeros.from, zeros.count, most) {
-        return false;
-    }
-    !share(bytes, ones, zeros)
+    ascending(bytes, zero, zeros_left, low, most)
 }
 
 // Is the wire 1 to `most`, and in neither list?

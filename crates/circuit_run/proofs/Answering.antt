@@ -29,25 +29,6 @@ use Rattle.circuit_run.specs.Runs.{seen, ranOf, refusedBlock, givenBlock
 use Rattle.circuit_run.specs.declared.Ran.{Ran}
 use Rattle.circuit_run.specs.declared.CircuitBlock.{CircuitBlock}
 
--- the ways out of `fits`
-module _ (word n : ℕ) where
-  pub fits-wide : word < 2 ^ 64 → 63 < n → true ≡ ltb word (2 ^ n)
-  fits-wide h l = sym (lt-ltb word (2 ^ n) (lt-of-lt-of-le h (pow-mono {i = 64} (omega arith))))
-
-  below : word / 2 ^ n ≡ 0 → word < 2 ^ n
-  below e =
-      let s : 0 * 2 ^ n + word % 2 ^ n ≡ word = rw e at (split word n) in
-      let l : 2 ^ n - 1 < 2 ^ n = ones-lt n in
-      let m : word % 2 ^ n < 2 ^ n = mod-lt word (omega arith) in
-      omega arith
-
-  pub fits-shift : eqb (word / 2 ^ n) 0 ≡ ltb word (2 ^ n)
-  fits-shift = byLt word (2 ^ n)
-      (λ l. rw (eq-eqb (word / 2 ^ n) 0 (div-eq-of-lt l), lt-ltb word (2 ^ n) l))
-      (λ g. rw (ne-eqb (word / 2 ^ n) 0 (λ e. let b : word < 2 ^ n = below e in omega arith), le-ltb word (2 ^ n) g))
-
-pub ruleset fitting = (needs, fits-wide, fits-shift)
-
 -- the ways out of `answer`
 module _ (ran : Ran) (word : ℕ) where
   pub answer-bad : ran .ended ≡ false → (x : CircuitBlock) → x ≡ refusedBlock 14 → x ≡ endAnswer word (seen ran)

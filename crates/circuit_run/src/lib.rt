@@ -1,7 +1,5 @@
 // The circuit run: the gates of a circuit act in order, each as it is read, on wires that go by value through each gate.
 ghost use mathlib.Core.Path.{_≡_};
-ghost use Prim.Native.Nat.{_^_};
-ghost use lib.Dec.{ltb};
 ghost use Rattle.model.specs.Gates.{fires, act};
 ghost use Rattle.model.specs.Circuit.{readGates};
 ghost use Rattle.model.specs.Answers.{circuitRun};
@@ -10,7 +8,7 @@ ghost use Rattle.circuit.specs.Views.{part, inputAt, gateIn, controlsIn};
 ghost use Rattle.circuit_run.specs.Runs.{allHold, seen, ranOf, refusedBlock, endAnswer, blockAnswer};
 use circuit::GateAt;
 use circuit::GateRead;
-use wires::Wires;
+use wires::{fits, Wires};
 
 // The wires behind the last gate; they count only where the run ended.
 pub struct Ran {
@@ -94,16 +92,6 @@ pub fn run_gates(bytes: &[u8], from: usize, most: u8, count: u32, wires: Wires) 
         ended: bytes.len() <= at,
         wires: current,
     }
-}
-
-// Has a word no bit at n or above?
-pub fn fits(word: u64, n: u8) -> bool
-    ensures { λ r. ⌜ r ≡ ltb word (2 ^ n) ⌝ }
-{
-    if 63 < n {
-        return true;
-    }
-    word >> n == 0
 }
 
 // "A refusal gives its number and otherwise zeros."

@@ -1,1 +1,6 @@
 pub mod TouchLaws
+pub mod RowLaws
+pub mod Ways
+pub mod Walk
+pub mod Fills
+pub mod Refusal

@@ -1,1 +1,3 @@
 pub mod Touches
+pub mod Rows
+pub mod Filling

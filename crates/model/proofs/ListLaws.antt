@@ -263,3 +263,10 @@ pub range-length : (n a : ℕ) → length (range n a) ≡ n
 unfolding range
 range-length zero a = refl
 range-length (suc n) a = rw (range-length n (suc a))
+
+-- what stands at a place of a row made number by number
+pub tabulated : {A : Type 0} (h : ℕ → A) (d : A) (n a k : ℕ) → k < n → getD (map h (range n a)) k d ≡ h (a + k)
+unfolding range
+tabulated h d zero a k l = absurd (not-suc-le-zero l)
+tabulated h d (suc n) a zero l = ap h (omega arith)
+tabulated h d (suc n) a (suc k) l = tabulated h d n (suc a) k (omega arith) ∙ ap h (omega arith)

@@ -1,16 +1,62 @@
--- Words and states: the bits of a word, and the word of a state's bits.
+-- Words and states: the bits of a word, one of them flipped, and the word of a state's bits.
 use mathlib.Core.Path.{_≡_, refl, ap, sym, _∙_, subst}
-use mathlib.Core.Bool.{Bool, true, false}
-use Prim.Native.Nat.{ℕ, zero, suc, _+_, _*_, _/_, _%_, _^_, _≤_, _<_}
-use native.Mathlib.Nat.{add-zero, not-suc-le-zero, lt-of-lt-of-le, div-eq-of-lt, div-one, zero-div, pow-succ', div-div-eq-div-mul}
+use mathlib.Core.Bool.{Bool, true, false, not}
+use Prim.Native.Nat.{ℕ, zero, suc, _+_, _*_, _/_, _%_, _^_, _≤_, _<_, _-_}
+use native.Mathlib.Nat.{add-zero, not-suc-le-zero, lt-of-lt-of-le, div-eq-of-lt, div-one, zero-div, pow-succ', div-div-eq-div-mul, one-mul, mod-lt, zero-lt-suc}
 use native.Mathlib.Numerals.{add-one}
 use native.Mathlib.Omega.{arith}
 use borrow.Author.Tests.{eq-eqb, ne-eqb}
 use lib.Dec.{eqb, lit<}
-use lib.Pow.{pow-mono, shr-lt}
+use lib.Pow.{pow-mono, shr-lt, pow-lt, pow-add, shl-shr, shl-exact}
 use Rattle.model.specs.Meaning.{State, bit, stateOf, digit, wordFrom, wordOf}
 use Rattle.model.specs.Circuit.{blockFrom}
 use Rattle.model.proofs.Tests.{byLt}
+use mathlib.Core.Logic.{_≢_}
+use lib.Bits.{bitAnd, bitXor, and-mask, xor-shr, xor-mod, xor-zero-r, shifted-even}
+
+-- `(n >> k) & 1 == 1` is bit k
+pub tested : (n k : ℕ) → eqb (bitAnd (n / 2 ^ k) 1) 1 ≡ bit n k
+tested n k = ap (λ (x : ℕ). eqb x 1) (and-mask (n / 2 ^ k) 1)
+
+-- `1 << k` at w bits
+pub shifted : (w k : ℕ) → k < w → (1 * 2 ^ k) % 2 ^ w ≡ 2 ^ k
+shifted w k h = shl-exact {a = 1} 1 k w (lit< tt) (omega arith) ∙ one-mul (2 ^ k)
+
+remainder-xor : (n m j : ℕ) → bitXor n m / 2 ^ j % 2 ≡ bitXor (n / 2 ^ j % 2) (m / 2 ^ j % 2)
+remainder-xor n m j = ap (λ (x : ℕ). x % 2) (xor-shr n m j) ∙ xor-mod (n / 2 ^ j) (m / 2 ^ j) 1
+
+-- 2 ^ k has bit k and no other
+power-same : (k : ℕ) → 2 ^ k / 2 ^ k % 2 ≡ 1
+power-same k = ap (λ (x : ℕ). x / 2 ^ k % 2) (sym (one-mul (2 ^ k))) ∙ ap (λ (x : ℕ). x % 2) (shl-shr 1 k)
+
+power-below : (j d : ℕ) → 2 ^ (suc d + j) / 2 ^ j % 2 ≡ 0
+power-below j d =
+    ap (λ (x : ℕ). x / 2 ^ j % 2) (pow-add 2 (suc d) j)
+    ∙ ap (λ (x : ℕ). x % 2) (shl-shr (2 ^ suc d) j)
+    ∙ ap (λ (x : ℕ). x % 2) (sym (one-mul (2 ^ suc d)))
+    ∙ shifted-even 1 d
+
+power-other : (k j : ℕ) → j ≢ k → 2 ^ k / 2 ^ j % 2 ≡ 0
+power-other k j ne = byLt k j
+    (λ h. ap (λ (x : ℕ). x % 2) (div-eq-of-lt (pow-lt h)))
+    (λ h. subst (λ (x : ℕ). 2 ^ x / 2 ^ j % 2 ≡ 0) (omega arith) (power-below j (k - j - 1)))
+
+opposite : (x : ℕ) → x < 2 → eqb (bitXor x 1) 1 ≡ not (eqb x 1)
+opposite zero h = refl
+opposite (suc zero) h = refl
+opposite (suc (suc x)) h = absurd (omega arith)
+
+-- a number with bit k flipped has the other bit there
+pub flip-same : (n k : ℕ) → bit (bitXor n (2 ^ k)) k ≡ not (bit n k)
+flip-same n k =
+    ap (λ (x : ℕ). eqb x 1) (remainder-xor n (2 ^ k) k ∙ ap (bitXor (n / 2 ^ k % 2)) (power-same k))
+    ∙ opposite (n / 2 ^ k % 2) (mod-lt (n / 2 ^ k) (zero-lt-suc 1))
+
+-- and every other bit as it was
+pub flip-other : (n k j : ℕ) → j ≢ k → bit (bitXor n (2 ^ k)) j ≡ bit n j
+flip-other n k j ne =
+    ap (λ (x : ℕ). eqb x 1)
+    (remainder-xor n (2 ^ k) j ∙ ap (bitXor (n / 2 ^ j % 2)) (power-other k j ne) ∙ xor-zero-r (n / 2 ^ j % 2))
 
 -- zero has no bit
 pub zero-bit : (k : ℕ) → bit 0 k ≡ false

@@ -11,12 +11,12 @@ use Rattle.model.specs.Lists.{range}
 use Rattle.model.specs.Syntax.{Statement, skip, NOT, sequence, if, qcase, call, Program, count, body}
 use Rattle.model.specs.Reach.{calls, reachesBelow, reaches}
 use Rattle.model.proofs.Tests.{byLt}
-use Rattle.model.proofs.ListLaws.{range-length}
+use Rattle.model.proofs.ListLaws.{range-length, tabulated}
 use Rattle.model.proofs.Calls.{body-out}
 use Rattle.table.specs.Index.{bodyAt, programAt}
 use Rattle.reach.specs.Matrix.{closed, reachTable, noMarks}
 use Rattle.reach.specs.Walk.{marked, markedBelow}
-use Rattle.reach.proofs.Shown.{Shows, shows-as, shows-mark, one-more, below-more, not-below, shows-none, shows-closed, tabulated, shown-digits}
+use Rattle.reach.proofs.Shown.{Shows, shows-as, shows-mark, one-more, below-more, not-below, shows-none, shows-closed, shown-digits}
 
 both-calls : (a row s t : Bool) → (a || (row && s)) || (row && t) ≡ a || (row && (s || t))
 both-calls true row s t = refl

@@ -16,7 +16,7 @@ use Rattle.model.specs.Meaning.{digit}
 use Rattle.model.specs.Syntax.{Program, body}
 use Rattle.model.specs.Reach.{calls, reachesBelow}
 use Rattle.model.proofs.Tests.{byBool, byEq, byLt, eqb-same}
-use Rattle.model.proofs.ListLaws.{range-length}
+use Rattle.model.proofs.ListLaws.{range-length, tabulated}
 use Rattle.reach.specs.Matrix.{cell, markAt, mark, carried, joined, extended, through, closed, digitsOf, noMarks}
 
 -- the matrix has 289 bytes, and its byte of row f and column g is the digit of R f g
@@ -182,13 +182,6 @@ shows-none = record {
     whole = length-replicate {A = ℕ} 289 0;
     cells = λ f g lf lg. let within : cell f g < 289 = omega arith in getD-replicate {A = ℕ} 289 (cell f g) 0 0 within
   }
-
--- what stands at a place of a row made number by number
-pub tabulated : {A : Type 0} (h : ℕ → A) (d : A) (n a k : ℕ) → k < n → getD (map h (range n a)) k d ≡ h (a + k)
-unfolding range
-tabulated h d zero a k l = absurd (not-suc-le-zero l)
-tabulated h d (suc n) a zero l = ap h (omega arith)
-tabulated h d (suc n) a (suc k) l = tabulated h d n (suc a) k (omega arith) ∙ ap h (omega arith)
 
 module _ (R : ℕ → ℕ → Bool) where
   digits-length : length (digitsOf R) ≡ 289

@@ -7,3 +7,4 @@ pub mod Deciding
 pub mod Alike
 pub mod Testing
 pub mod Saying
+pub mod Says

@@ -83,10 +83,10 @@ pub kept-start : (i at : ℕ) (ix : List ℕ) → i < 255 → Kept i ix (noted i
 kept-start i at ix h =
     record {
       same =
-        record {
-          starts = λ q a b. noted-other ix i at q (omega arith);
-          behinds = λ q a b. noted-other ix i at (256 + q) (omega arith);
-        };
+          record {
+            starts = λ q a b. noted-other ix i at q (omega arith);
+            behinds = λ q a b. noted-other ix i at (256 + q) (omega arith);
+          };
       roots = λ f. noted-other ix i at (512 + f) (omega arith);
       long = noted-long ix i at;
     }
@@ -98,10 +98,10 @@ module _ (i behind : ℕ) (ix : List ℕ) (h : i < 255) where
   kept-behind =
       record {
         same =
-          record {
-            starts = λ q a b. noted-other ix (256 + i) behind q (omega arith);
-            behinds = λ q a b. noted-other ix (256 + i) behind (256 + q) (omega arith);
-          };
+            record {
+              starts = λ q a b. noted-other ix (256 + i) behind q (omega arith);
+              behinds = λ q a b. noted-other ix (256 + i) behind (256 + q) (omega arith);
+            };
         roots = λ f. noted-other ix (256 + i) behind (512 + f) (omega arith);
         long = noted-long ix (256 + i) behind;
       }

@@ -52,9 +52,9 @@ module _ (p : ℕ) (bs : List ℕ) (n f i : ℕ) (ix : List ℕ) (l : f < 32) (m
       reads (s ∷ ss) at o ox
       (record {
         same =
-          same-then 0 i (omega arith) (omega arith) (omega arith) (omega arith)
-          (same-root i f i ix m)
-          (same-then 0 i (omega arith) (omega arith) (omega arith) (omega arith) (a .kept .same) (b .same));
+            same-then 0 i (omega arith) (omega arith) (omega arith) (omega arith)
+            (same-root i f i ix m)
+            (same-then 0 i (omega arith) (omega arith) (omega arith) (omega arith) (a .kept .same) (b .same));
         roots = λ g h. b .roots g (omega arith) ∙ a .kept .roots g ∙ noted-other ix (512 + f) i (512 + g) (omega arith);
         finds = first-and-rest;
       })
@@ -71,7 +71,7 @@ module _ (p : ℕ) (bs : List ℕ) (n f i : ℕ) (ix : List ℕ) (l : f < 32) (m
       (q : Parsed Statement) (r : Ran) (g : Input → Parsed (List Statement)) (h : ℕ → ℕ → List ℕ → Ran) →
       trees.Agree bs i rooted (λ kx. statementAt p bs kx 32 i) q r →
       ((end j : ℕ) (jx : List ℕ) → j ≤ 255 → end ≤ 2 + 30 * j → length jx ≡ 544 →
-        Agree-bodies p bs n (f + 1) j jx (g (inputAt bs end j)) (h end j jx)) →
+      Agree-bodies p bs n (f + 1) j jx (g (inputAt bs end j)) (h end j jx)) →
       Agree-bodies p bs (suc n) f i ix (andThen q (λ s j. andThen (g j) (λ ss k. parsed (s ∷ ss) k))) (behindTree r h)
   unfolding andThen behindTree
   body-and-others _ _ g h (trees.refuses k kx) go = refuses k kx
@@ -120,7 +120,7 @@ is-whole p i = main (statement p 32 i)
 
     main : (q : Parsed Statement) →
         andThen q (λ s j. andThen (statements p p j)
-          (λ ss k. provided (eqb (length (k .bytes)) 0) bytesLeft (parsed (record { main = s; procedures = ss }) k)))
+        (λ ss k. provided (eqb (length (k .bytes)) 0) bytesLeft (parsed (record { main = s; procedures = ss }) k)))
         ≡ whole (andThen q (λ s j. andThen (statements p p j) (λ ss k. parsed (s ∷ ss) k)))
     main (parsed s j) = bodies s (statements p p j)
     main (refused m) = refl

@@ -130,8 +130,8 @@ module _ {A B : Type 0} (bs : List ℕ) (i : ℕ) (ix ix₁ : List ℕ) (found :
       (at j : ℕ) (jx : List ℕ) (p : Parsed B) (r : Ran) (f : B → Input → Parsed A) (g : ℕ → ℕ → List ℕ → Ran) → Partly i ix₁ at j jx →
       Agree bs j jx (λ kx. find kx j) p r →
       ((b : B) (end n : ℕ) (nx : List ℕ) → Partly i ix₁ end n nx →
-        ((kx : List ℕ) → Same (i + 1) n nx kx → Part i j jx find b n kx) →
-        Agree bs i ix found (f b (inputAt bs end n)) (g end n nx)) →
+      ((kx : List ℕ) → Same (i + 1) n nx kx → Part i j jx find b n kx) →
+      Agree bs i ix found (f b (inputAt bs end n)) (g end n nx)) →
       Agree bs i ix found (andThen p f) (behindTree r g)
   unfolding andThen behindTree
   step at j jx _ _ f g s (refuses k kx) go = refuses k kx
@@ -156,7 +156,8 @@ module _ {A B : Type 0} (bs : List ℕ) (i : ℕ) (ix ix₁ : List ℕ) (found :
 -- all parts are read: the record behind them is noted
 finish :
     {A : Type 0} (bs : List ℕ) (i at : ℕ) (ix : List ℕ) (found : List ℕ → A) (a : A) (end j : ℕ) (jx : List ℕ) →
-    i < 255 → at < 65536 → length ix ≡ 544 → Partly i (noted ix i at) end j jx → ((kx : List ℕ) → startOf kx i ≡ at → Same (i + 1) j jx kx → found kx ≡ a) →
+    i < 255 → at < 65536 → length ix ≡ 544 → Partly i (noted ix i at) end j jx →
+    ((kx : List ℕ) → startOf kx i ≡ at → Same (i + 1) j jx kx → found kx ≡ a) →
     Agree bs i ix found (parsed a (inputAt bs end j)) (finished i end j jx)
 finish bs i at ix found a end j jx h l n s find =
     let m : i < j = s .after in
@@ -169,9 +170,9 @@ finish bs i at ix found a end j jx h l n s find =
       kept = kept-then {i = i} {j = i} (omega arith) (kept-then (omega arith) (kept-start i at ix h) (s .kept)) (kept-behind i j jx h);
       behind = noted-there jx (256 + i) j (s .long) (omega arith) (omega arith);
       finds =
-        λ kx t. find kx
+          λ kx t. find kx
           (t .starts i (omega arith) m ∙ noted-other jx (256 + i) j i (omega arith) ∙ s .kept .same .starts i (omega arith) (omega arith)
-            ∙ noted-there ix i at n (omega arith) l)
+          ∙ noted-there ix i at n (omega arith) l)
           (same-then (i + 1) j (omega arith) (omega arith) (omega arith) (omega arith) (same-behind i j jx h j few) t);
     })
 
@@ -249,10 +250,10 @@ module _ {A : Type 0} (p : ℕ) (bs : List ℕ) (at i : ℕ) (ix : List ℕ) (fo
   contents-agree :
       (map k : ℕ) (f : Fields → Input → Parsed A) (g : ℕ → Ran) → at + 2 ≤ length bs → k < 12 → at ≤ 2 + 30 * i →
       ((r : Record) (next : ℕ) → i < 255 → fieldsAt p k (stands 0 map) bs (at + 2) ≡ answer.Record r next → kindOf r ≡ k →
-        next ≤ 2 + 30 * (i + 1) →
-        Agree bs i ix found (f (fieldsOf bs r) (inputAt bs next (i + 1))) (g next)) →
+      next ≤ 2 + 30 * (i + 1) →
+      Agree bs i ix found (f (fieldsOf bs r) (inputAt bs next (i + 1))) (g next)) →
       Agree bs i ix found (contents p map k (inputAt bs (at + 2) i) f)
-        (pick (ltb i 255) (behindFields (contentsAt p map k bs (at + 2)) ix g) (ran (tree.Refused 7) ix))
+      (pick (ltb i 255) (behindFields (contentsAt p map k bs (at + 2)) ix g) (ran (tree.Refused 7) ix))
   unfolding contents contentsAt provided andThen behindFields refusal
   contents-agree map k f g inside small near go =
       byLt i 255
@@ -260,10 +261,10 @@ module _ {A : Type 0} (p : ℕ) (bs : List ℕ) (at i : ℕ) (ix : List ℕ) (fo
       (byBool (permitted k map)
       (λ t. rw (t, ← add-one i)
       (fields-cases p k map bs (at + 2) (i + 1) (omega arith) t (λ q x. Agree bs i ix found (andThen q f) (behindFields x ix g))
-        (λ r next e.
-          let w = record-ends p k (stands 0 map) bs (at + 2) r next inside small e in
-          go r next l e (w .0) (omega (arith, w .1 .high)))
-        (λ m. refuses m ix)))
+      (λ r next e.
+      let w = record-ends p k (stands 0 map) bs (at + 2) r next inside small e in
+      go r next l e (w .0) (omega (arith, w .1 .high)))
+      (λ m. refuses m ix)))
       (λ t. rw t (refuses 5 ix))))
       (λ l. rw (le-ltb i 255 l) (refuses 7 ix))
 
@@ -272,7 +273,7 @@ module _ {A : Type 0} (p : ℕ) (bs : List ℕ) (at i : ℕ) (ix : List ℕ) (fo
       {K : Type 0} (tests : Bool) (sort : ℕ → Option K) (f : ℕ → ℕ → K → Input → Parsed A) (x : Ran) →
       ((k : ℕ) → Sorted tests sort k) →
       ((what : K) → sort (byteAt bs (at + 1)) ≡ some what → at + 2 ≤ length bs → byteAt bs (at + 1) < 12 →
-        Agree bs i ix found (f (byteAt bs at) (byteAt bs (at + 1)) what (inputAt bs (at + 2) i)) x) →
+      Agree bs i ix found (f (byteAt bs at) (byteAt bs (at + 1)) what (inputAt bs (at + 2) i)) x) →
       Agree bs i ix found (opening sort (inputAt bs at i) f) (opened tests bs at ix x)
   unfolding opening andThen known
   opening-agrees tests sort f x sorted go =
@@ -332,10 +333,10 @@ module _
     condition-first :
         {A : Type 0} (found : List ℕ → A) (f : Condition → Input → Parsed A) (g : ℕ → ℕ → List ℕ → Ran) →
         ((c : Condition) (end m : ℕ) (mx : List ℕ) → Partly i (noted ix i at) end m mx →
-          ((kx : List ℕ) → Same (i + 1) m mx kx → Part i (i + 1) (noted ix i at) (λ lx j. testAt p bs lx depth j) c m kx) →
-          Agree bs i ix found (f c (inputAt bs end m)) (g end m mx)) →
+        ((kx : List ℕ) → Same (i + 1) m mx kx → Part i (i + 1) (noted ix i at) (λ lx j. testAt p bs lx depth j) c m kx) →
+        Agree bs i ix found (f c (inputAt bs end m)) (g end m mx)) →
         Agree bs i ix found (andThen (condition p depth (inputAt bs next (i + 1))) f)
-          (behindTree (treeAt p bs depth true next (i + 1) (noted ix i at)) g)
+        (behindTree (treeAt p bs depth true next (i + 1) (noted ix i at)) g)
     condition-first found f g go =
         step bs i ix (noted ix i at) found (λ kx j. testAt p bs kx depth j) next (i + 1) (noted ix i at) _ _ f g began
         (tests next (i + 1) (noted ix i at) close (began .long)) go
@@ -344,7 +345,7 @@ module _
     both-conditions :
         (k : ℕ) (found : List ℕ → Condition) (make : Condition → Condition → Condition) → parts false k ≡ 0 → parts true k ≡ 2 →
         ((kx : List ℕ) → startOf kx i ≡ at →
-          found kx ≡ make (testAt p bs kx depth (i + 1)) (testAt p bs kx depth (behindOf kx (i + 1)))) →
+        found kx ≡ make (testAt p bs kx depth (i + 1)) (testAt p bs kx depth (behindOf kx (i + 1)))) →
         Agree bs i ix found (two (condition p depth) make (inputAt bs next (i + 1))) (childrenAt (treeAt p bs depth) k at next i ix)
     both-conditions k found make e f is =
         rw (two-conditions (treeAt p bs depth) k at next i ix e f)
@@ -355,8 +356,8 @@ module _
     condition-of :
         (r : Record) → recordAt p bs at ≡ r → (conditionKind (kindOf r) ≡ none → ⊥) →
         Agree bs i ix (λ kx. testAt p bs kx (suc depth) i)
-          (known (conditionKind (kindOf r)) (λ what. conditionOf (condition p depth) what (fieldsOf bs r) (inputAt bs next (i + 1))))
-          (childrenAt (treeAt p bs depth) (kindOf r) at next i ix)
+        (known (conditionKind (kindOf r)) (λ what. conditionOf (condition p depth) what (fieldsOf bs r) (inputAt bs next (i + 1))))
+        (childrenAt (treeAt p bs depth) (kindOf r) at next i ix)
     unfolding kindOf conditionKind known conditionOf fieldsOf parts testAt testOf andThen
     condition-of kind.Skip e there = absurd (there refl)
     condition-of (kind.Not q a) e there = absurd (there refl)
@@ -378,7 +379,7 @@ module _
       both-statements :
           (k : ℕ) (found : List ℕ → Statement) (make : Statement → Statement → Statement) → parts false k ≡ 2 → parts true k ≡ 0 →
           ((kx : List ℕ) → startOf kx i ≡ at →
-            found kx ≡ make (statementAt p bs kx depth (i + 1)) (statementAt p bs kx depth (behindOf kx (i + 1)))) →
+          found kx ≡ make (statementAt p bs kx depth (i + 1)) (statementAt p bs kx depth (behindOf kx (i + 1)))) →
           Agree bs i ix found (two (statement p depth) make (inputAt bs next (i + 1))) (childrenAt (treeAt p bs depth) k at next i ix)
       both-statements k found make e f is =
           rw (two-statements (treeAt p bs depth) k at next i ix e f)
@@ -389,9 +390,9 @@ module _
       statement-of :
           (r : Record) → recordAt p bs at ≡ r → (statementKind (kindOf r) ≡ none → ⊥) →
           Agree bs i ix (λ kx. statementAt p bs kx (suc depth) i)
-            (known (statementKind (kindOf r))
-            (λ what. model.statementOf (condition p depth) (statement p depth) what (fieldsOf bs r) (inputAt bs next (i + 1))))
-            (childrenAt (treeAt p bs depth) (kindOf r) at next i ix)
+          (known (statementKind (kindOf r))
+          (λ what. model.statementOf (condition p depth) (statement p depth) what (fieldsOf bs r) (inputAt bs next (i + 1))))
+          (childrenAt (treeAt p bs depth) (kindOf r) at next i ix)
       unfolding kindOf statementKind known model.statementOf fieldsOf parts statementAt statementOf andThen
       statement-of kind.Skip e there = alone 0 _ _ refl refl λ kx s. rw (s, e)
       statement-of (kind.Not q a) e there = alone 1 _ _ refl refl λ kx s. rw (s, e)

@@ -21,7 +21,7 @@ unfoldable pub behindTree : Ran → (ℕ → ℕ → List ℕ → Ran) → Ran
 behindTree (ran (tree.Read at i) ix) f = f at i ix
 behindTree (ran (tree.Refused k) ix) f = ran (tree.Refused k) ix
 
--- the index with a value noted at a slot; a slot outside or a value too large is passed over, and neither occurs
+-- the index with a value noted at a slot. A slot outside, or a value past 65535, would be passed over: reading comes to neither.
 unfoldable pub noted : List ℕ → ℕ → ℕ → List ℕ
 noted ix slot value = pick (ltb slot 544) (pick (ltb value 65536) (set ix slot value) ix) ix
 

@@ -9,21 +9,31 @@ use records::Answer;
 
 // Refusals 1 to 5, 7 and 8.
 const TABLE_STOPS: u8 = 1;
+
 const WRONG_EDITION: u8 = 2;
+
 const MANY_PROCEDURES: u8 = 3;
+
 const WRONG_KIND: u8 = 4;
+
 const WRONG_MAP: u8 = 5;
+
 const TOO_DEEP: u8 = 7;
+
 const BYTES_LEFT: u8 = 8;
 
 // "Byte 0 is the edition, 1. Byte 1 is p, the number of procedures, 0 to 16." "At most 255 records; a tree is at most 32 records deep."
 const EDITION: u8 = 1;
+
 const MOST_PROCEDURES: u8 = 16;
+
 const MOST_RECORDS: usize = 255;
+
 const MOST_DEPTH: u8 = 32;
 
 // How many conditions, and how many statements, stand behind a record of each kind.
 const CONDITIONS: [u8; 12] = [0, 0, 0, 1, 0, 0, 0, 0, 0, 2, 2, 1];
+
 const STATEMENTS: [u8; 12] = [0, 0, 2, 2, 2, 0, 0, 0, 0, 0, 0, 0];
 
 // What reading a tree answers: the place behind it and the number of records so far, or a refusal.
@@ -44,7 +54,7 @@ fn wide(x: u8) -> usize
     x as usize
 }
 
-// Note a value in the index. No slot outside it and no value too large is ever noted: what is read proves it.
+// Note a value in the index. A slot outside it, or a value past 65535, would be passed over: reading comes to neither.
 fn note(index: &mut [u16; 544], slot: usize, value: usize)
     ensures { λ r. ⌜ now (index .exit) ≡ noted (now (index .entry)) slot value ⌝ }
 {
@@ -60,11 +70,7 @@ fn wanted(tests: bool, kind: u8) -> bool
     ensures { λ r. ⌜ r ≡ wanted tests kind ⌝ }
 {
     if tests {
-        if kind < 6 {
-            false
-        } else {
-            kind < 12
-        }
+        if kind < 6 { false } else { kind < 12 }
     } else {
         kind < 6
     }
@@ -78,11 +84,7 @@ fn parts(tests: bool, kind: u8) -> u8
     if 12 <= i {
         return 0;
     }
-    if tests {
-        CONDITIONS[i]
-    } else {
-        STATEMENTS[i]
-    }
+    if tests { CONDITIONS[i] } else { STATEMENTS[i] }
 }
 
 // What comes behind 7 in a record, whose fields stand at `at`: "5, then each field 1 and 6".
@@ -106,7 +108,15 @@ fn refusal(answer: Answer) -> Tree
 }
 
 // A tree of at most `depth` records from its root down, where `records` came before it: a condition, or else a statement.
-fn read_tree(table: &[u8], at: usize, depth: u8, p: u8, records: usize, tests: bool, index: &mut [u16; 544]) -> Tree
+fn read_tree(
+    table: &[u8],
+    at: usize,
+    depth: u8,
+    p: u8,
+    records: usize,
+    tests: bool,
+    index: &mut [u16; 544],
+) -> Tree
     ensures { λ r. ⌜ ran r (now (index .exit)) ≡ treeAt p (now (table .entry)) depth tests at records (now (index .entry)) ⌝ }
 {
     if table.len() <= at {
@@ -135,7 +145,16 @@ fn read_tree(table: &[u8], at: usize, depth: u8, p: u8, records: usize, tests: b
 }
 
 // The children of a record at `at` that stand from `next` on: conditions, then statements. Its start and the record behind them are noted.
-fn read_children(table: &[u8], at: usize, next: usize, depth: u8, p: u8, records: usize, kind: u8, index: &mut [u16; 544]) -> Tree
+fn read_children(
+    table: &[u8],
+    at: usize,
+    next: usize,
+    depth: u8,
+    p: u8,
+    records: usize,
+    kind: u8,
+    index: &mut [u16; 544],
+) -> Tree
     requires { ⌜ records < 255 ⌝ }
     ensures { λ r. ⌜ ran r (now (index .exit)) ≡ childrenAt (treeAt p (now (table .entry)) depth) kind at next records (now (index .entry)) ⌝ }
 {
@@ -155,7 +174,16 @@ fn read_children(table: &[u8], at: usize, next: usize, depth: u8, p: u8, records
 }
 
 // So many trees, one after the other.
-fn read_many(table: &[u8], at: usize, depth: u8, p: u8, records: usize, count: u8, tests: bool, index: &mut [u16; 544]) -> Tree
+fn read_many(
+    table: &[u8],
+    at: usize,
+    depth: u8,
+    p: u8,
+    records: usize,
+    count: u8,
+    tests: bool,
+    index: &mut [u16; 544],
+) -> Tree
     ensures { λ r. ⌜ ran r (now (index .exit)) ≡ many (treeAt p (now (table .entry)) depth tests) count at records (now (index .entry)) ⌝ }
 {
     if count == 0 {
@@ -169,7 +197,14 @@ fn read_many(table: &[u8], at: usize, depth: u8, p: u8, records: usize, count: u
 }
 
 // The bodies of procedures f to p, main at 0: the root of each is noted.
-fn read_bodies(table: &[u8], at: usize, f: usize, p: u8, records: usize, index: &mut [u16; 544]) -> Tree
+fn read_bodies(
+    table: &[u8],
+    at: usize,
+    f: usize,
+    p: u8,
+    records: usize,
+    index: &mut [u16; 544],
+) -> Tree
     ensures { λ r. ⌜ ran r (now (index .exit)) ≡ bodiesAt p (now (table .entry)) (p + 1 - f) f at records (now (index .entry)) ⌝ }
 {
     if wide(p) < f {

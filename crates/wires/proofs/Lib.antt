@@ -1,3 +1,4 @@
 pub mod Bits
 pub mod Blocks
 pub mod Steps
+pub mod Fitting

@@ -21,8 +21,8 @@ use Rattle.model.proofs.Tests.{byEq, byLt, not-not}
 use Rattle.model.proofs.GateLaws.{flipped-same, flipped-other, exchange-left, exchange-right, exchange-other, renamed-at}
 use Rattle.wires.specs.declared.Wires.{Wires}
 use Rattle.wires.specs.States.{stateIn, wiresOf, inState}
-use Rattle.model.proofs.Words.{zero-bit, past-bit}
-use Rattle.wires.proofs.Bits.{tested, shifted, flip-same, flip-other, flip-byte, byte-bit}
+use Rattle.model.proofs.Words.{zero-bit, past-bit, tested, flip-same, flip-other, shifted}
+use Rattle.wires.proofs.Bits.{flip-byte, byte-bit}
 use Rattle.wires.proofs.Blocks.{IsBlock, state-at, state-zero, block-wire, block-is, block-of-state, same-block}
 
 -- what is known of a field of type [u8; 32], from its type
@@ -109,7 +109,7 @@ module _ (wires : Wires) where
       → beside wires (set (wires .bits) ((w - 1) / 8) (bitXor (getD (wires .bits) ((w - 1) / 8) 0) ((1 * 2 ^ ((w - 1) % 8)) % 256)))
       ≡ inState (flipped w now) wires
   flips-bit w h n l = ap (beside wires)
-    (ap (λ (m : ℕ). set (wires .bits) ((w - 1) / 8) (bitXor (getD (wires .bits) ((w - 1) / 8) 0) m)) (shifted ((w - 1) % 8) (omega arith))
+    (ap (λ (m : ℕ). set (wires .bits) ((w - 1) / 8) (bitXor (getD (wires .bits) ((w - 1) / 8) 0) m)) (shifted 8 ((w - 1) % 8) (omega arith))
     ∙ flip-bytes (wires .bits) h (w - 1) (omega arith)
     ∙ ap (λ (v : ℕ). blockOf (flipped v now)) (sym (before w n)))
 

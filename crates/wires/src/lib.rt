@@ -1,5 +1,7 @@
 // The wires of a running circuit, passed by value through each gate.
 ghost use mathlib.Core.Path.{_≡_};
+ghost use Prim.Native.Nat.{_^_};
+ghost use lib.Dec.{ltb};
 ghost use Rattle.model.specs.Meaning.{flipped, stateOf};
 ghost use Rattle.model.specs.Gates.{exchange, renamed};
 ghost use Rattle.wires.specs.States.{stateIn, inState, wiresOf};
@@ -9,6 +11,16 @@ pub struct Wires {
     pub bits: [u8; 32],
     pub data: u8,
     pub ancillas: u8,
+}
+
+// Has a word no bit at n or above?
+pub fn fits(word: u64, n: u8) -> bool
+    ensures { λ r. ⌜ r ≡ ltb word (2 ^ n) ⌝ }
+{
+    if 63 < n {
+        return true;
+    }
+    word >> n == 0
 }
 
 // The wires at the start of a run: the data word in wires 1 to 64, every other wire 0.

@@ -8,7 +8,7 @@
 //! - [`tree`] holds the trees and [`tree::encode`].
 //! - [`programs`] makes programs that are mostly accepted and wild ones that
 //!   mostly are not.
-//! - [`circuits`] makes well-formed circuits.
+//! - [`circuits`] makes well-formed circuits, and circuits of given gates.
 //! - [`damage`] spoils bytes.
 
 #![deny(clippy::unwrap_used, clippy::expect_used, clippy::panic)]
@@ -21,3 +21,6 @@ pub mod tree;
 mod random;
 
 pub use random::Random;
+
+/// PAIRS, a worked program of document 01.
+pub const PAIRS: &[u8] = include_bytes!("../../../examples/pairs.foq");

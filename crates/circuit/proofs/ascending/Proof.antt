@@ -1,4 +1,4 @@
--- `ascending` meets its contract. The loop keeps: the whole part rises from 1 exactly if what is left of it rises from above the last wire. What is left falls.
+-- `ascending` meets its contract. The loop keeps: the whole part rises from above `floor` exactly if what is left rises from above the last wire.
 use mathlib.Core.Path.{_≡_}
 use Rattle.circuit.specs.Checks.{rising}
 use Rattle.circuit.specs.Views.{part}
@@ -7,10 +7,10 @@ use Rattle.circuit.proofs.ascending.Statement.{statement}
 use Rattle.circuit.proofs.ascending.Tie as tie
 
 abbrev Inv-loop : tie.InvT-loop
-Inv-loop bytes from count most low₀ at₀ left₀ low at left = rising 0 most (part bytes from count) ≡ rising low most (part bytes at left)
+Inv-loop bytes from count floor most low₀ at₀ left₀ low at left = rising floor most (part bytes from count) ≡ rising low most (part bytes at left)
 
 abbrev μ-loop : tie.MeasureT-loop
-μ-loop bytes from count most low₀ at₀ left₀ low at left = left
+μ-loop bytes from count floor most low₀ at₀ left₀ low at left = left
 
 pub ascending-spec : {M : Type 1} → statement M
 ascending-spec = tie.close (tie.spec

@@ -7,7 +7,8 @@ use Rattle.circuit.proofs.gates_fill.Statement.{statement}
 use Rattle.circuit.proofs.gates_fill.Tie as tie
 
 abbrev Inv-loop : tie.InvT-loop
-Inv-loop bytes from most count at₀ left₀ at left = fills (readGates most count (inputAt bytes from)) ≡ fills (readGates most left (inputAt bytes at))
+Inv-loop bytes from most count at₀ left₀ at left =
+    fills (readGates most count (inputAt bytes from)) ≡ fills (readGates most left (inputAt bytes at))
 
 abbrev μ-loop : tie.MeasureT-loop
 μ-loop bytes from most count at₀ left₀ at left = left

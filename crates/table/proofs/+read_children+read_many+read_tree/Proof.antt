@@ -1,4 +1,4 @@
--- `table::read_tree`, `table::read_children` and `table::read_many` meet their contracts: the depth falls, and within a depth the count. Assumes nothing.
+-- `table::read_tree`, `table::read_children` and `table::read_many` meet their contracts: the depth falls, and within it the count. Assumes nothing.
 use Rattle.table.proofs.Laws.{trees, children-done}
 use Prim.Native.Nat.{ℕ, _+_, _*_, _<_}
 use borrow.Fn.Kinds.{In}
@@ -84,9 +84,11 @@ pub +read-children+read-many+read-tree-spec : {M : Type 1} → statement M
     (λ c.
     let second = c .before .before .before .before .before in
     let first = second .before .before .before .before .before .before in
-    children-done _ _ _ _ _ _ _ _ _ _ (first .before .before .before .note .ensures) (first .before .before .parts .ensures) (first .read-many .ensures) _ _
-    (second .before .before .before .before .tree .given .1) _ _ _ (second .before .before .parts2 .ensures) (second .read-many2 .ensures) _ _ _
-    (c .before .before .before .tree2 .given .1) (c .note2 .ensures)))
+    children-done _ _ _ _ _ _ _ _ _ _
+    (first .before .before .before .note .ensures) (first .before .before .parts .ensures) (first .read-many .ensures)
+    _ _ (second .before .before .before .before .tree .given .1)
+    _ _ _ (second .before .before .parts2 .ensures) (second .read-many2 .ensures)
+    _ _ _ (c .before .before .before .tree2 .given .1) (c .note2 .ensures)))
     (λ t. read-many-lts.spec (
       read-tree-below t,
       read-tree.Post,

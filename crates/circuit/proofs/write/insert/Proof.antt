@@ -10,7 +10,9 @@ use Rattle.circuit.proofs.write.insert.Statement.{statement}
 use Rattle.circuit.proofs.write.insert.Tie as tie
 
 abbrev Inv-loop : tie.InvT-loop
-Inv-loop wire count wires₀ i₀ carried₀ wires i carried = (count < 33) × (i ≤ count) × (length wires ≡ 33) × (insert wire (take count wires₀) ≡ take i wires ++ (carried ∷ part wires i (count - i)))
+Inv-loop wire count wires₀ i₀ carried₀ wires i carried =
+    (count < 33) × (i ≤ count) × (length wires ≡ 33) ×
+    (insert wire (take count wires₀) ≡ take i wires ++ (carried ∷ part wires i (count - i)))
 
 abbrev μ-loop : tie.MeasureT-loop
 μ-loop wire count wires₀ i₀ carried₀ wires i carried = count - i

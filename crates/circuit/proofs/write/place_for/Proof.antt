@@ -9,7 +9,8 @@ use Rattle.circuit.proofs.write.place_for.Statement.{statement}
 use Rattle.circuit.proofs.write.place_for.Tie as tie
 
 abbrev Inv-loop : tie.InvT-loop
-Inv-loop wire wires count i₀ i = (count ≤ 33) × (length wires ≡ 33) × (placeFor wire (take count wires) ≡ i + placeFor wire (part wires i (count - i)))
+Inv-loop wire wires count i₀ i =
+    (count ≤ 33) × (length wires ≡ 33) × (placeFor wire (take count wires) ≡ i + placeFor wire (part wires i (count - i)))
 
 abbrev μ-loop : tie.MeasureT-loop
 μ-loop wire wires count i₀ i = count - i

@@ -9,7 +9,9 @@ use Rattle.circuit.proofs.write.put_wires.Statement.{statement}
 use Rattle.circuit.proofs.write.put_wires.Tie as tie
 
 abbrev Inv-loop : tie.InvT-loop
-Inv-loop room₀ at wires count place₀ i₀ room place i = (count ≤ 33) × (length wires ≡ 33) × (length room ≡ length room₀) × (sets room₀ place₀ (take count wires) ≡ sets room place (part wires i (count - i)))
+Inv-loop room₀ at wires count place₀ i₀ room place i =
+    (count ≤ 33) × (length wires ≡ 33) × (length room ≡ length room₀) ×
+    (sets room₀ place₀ (take count wires) ≡ sets room place (part wires i (count - i)))
 
 abbrev μ-loop : tie.MeasureT-loop
 μ-loop room₀ at wires count place₀ i₀ room place i = count - i

@@ -1,8 +1,8 @@
 -- `fits` looks for a bit at n or above.
 use borrow.Author.Needs.{needs}
-use Rattle.circuit_run.proofs.Answering.{fitting}
-use Rattle.circuit_run.proofs.fits.Statement.{statement}
-use Rattle.circuit_run.proofs.fits.Tie as tie
+use Rattle.wires.proofs.Fitting.{fitting}
+use Rattle.wires.proofs.fits.Statement.{statement}
+use Rattle.wires.proofs.fits.Tie as tie
 
 pub fits-spec : {M : Type 1} → statement M
 fits-spec = tie.close

@@ -1,0 +1,103 @@
+use Rattle.faults.proofs.Walk.{walking}
+use Prim.Native.Nat.{ℕ, _<_}
+use borrow.Fn.Kinds.{In}
+use borrow.Fn.PlainCycle.{Measures, is, falls, and}
+use Rattle.faults.proofs.touches.Reads as touches
+use Rattle.faults.proofs.touches.Kinds as touches-kinds
+use Rattle.faults.proofs.+touches.Lts-touches as touches-lts
+use Rattle.faults.proofs.called.Reads as called-reads
+use Rattle.faults.proofs.closes.Reads as closes-reads
+use Rattle.faults.proofs.join.Reads as join-reads
+use Rattle.faults.proofs.none.Reads as none-reads
+use Rattle.faults.proofs.one.Reads as one-reads
+use Rattle.step.proofs.all.Reads as all-reads
+use Rattle.step.proofs.holds.Reads as holds-reads
+use Rattle.step.proofs.remaining.Reads as remaining-reads
+use Rattle.step.proofs.step_at.Reads as step-at-reads
+use Rattle.faults.proofs.+touches.{statement}
+use Rattle.faults.proofs.+touches.Tie.{close}
+
+abbrev μ-touches : Measures 3 touches-kinds.ps ℕ
+μ-touches κs a = a .1 .1 .1 .1 .1 .0
+
+abbrev touches-at : ℕ → In 3 touches-kinds.ps
+touches-at t = and 3 touches-kinds.ps (is 3 touches-kinds.ps μ-touches t) touches.Pre
+
+abbrev touches-below : ℕ → In 3 touches-kinds.ps
+touches-below t = and 3 touches-kinds.ps (falls 3 touches-kinds.ps _<_ μ-touches t) touches.Pre
+
+pub +touches-spec : {M : Type 1} → statement M
++touches-spec = close μ-touches λ t. touches-lts.spec (
+  none-reads.Asked,
+  none-reads.Learnt,
+  all-reads.Asked,
+  all-reads.Learnt,
+  step-at-reads.Asked,
+  step-at-reads.Learnt,
+  one-reads.Asked,
+  one-reads.Learnt,
+  touches-below t,
+  touches.Post,
+  join-reads.Asked,
+  join-reads.Learnt,
+  holds-reads.Asked,
+  holds-reads.Learnt,
+  closes-reads.Asked,
+  closes-reads.Learnt,
+  remaining-reads.Asked,
+  remaining-reads.Learnt,
+  called-reads.Asked,
+  called-reads.Learnt,
+)
+    (touches-at t)
+    touches.Post
+    (λ c κs. search walking)
+    (λ c. search walking)
+    (λ c κs. search walking)
+    (λ c κs. search walking)
+    (λ c. search walking)
+    (λ c κs. search walking)
+    (λ c. search walking)
+    (λ c κs. search walking)
+    (λ c. search walking)
+    (λ c. search walking)
+    (λ c κs. search walking)
+    (λ c. search walking)
+    (λ c κs. search walking)
+    (λ c κs. search walking)
+    (λ c. search walking)
+    (λ c. search walking)
+    (λ c κs. search walking)
+    (λ c. search walking)
+    (λ c κs. search walking)
+    (λ c. search walking)
+    (λ c. search walking)
+    (λ c κs. search walking)
+    (λ c. search walking)
+    (λ c. search walking)
+    (λ c κs. search walking)
+    (λ c. search walking)
+    (λ c κs. search walking)
+    (λ c κs. search walking)
+    (λ c κs. search walking)
+    (λ c. search walking)
+    (λ c κs. search walking)
+    (λ c κs. search walking)
+    (λ c. search walking)
+    (λ c κs. search walking)
+    (λ c. search walking)
+    (λ c κs. search walking)
+    (λ c. search walking)
+    (λ c κs. search walking)
+    (λ c. search walking)
+    (λ c κs. search walking)
+    (λ c. search walking)
+    (λ c. search walking)
+    (λ c. search walking)
+    (λ c. search walking)
+    (λ c. search walking)
+    (λ c. search walking)
+    (λ c. search walking)
+    (λ c. search walking)
+    (λ c. search walking)
+    (λ c. search walking)

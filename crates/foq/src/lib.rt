@@ -1,0 +1,60 @@
+// The functions that a station's host calls. Every number, length and content of a slice has its answer.
+ghost use mathlib.Core.Path.{_≡_};
+ghost use lib.ListN.{length};
+ghost use Rattle.model.specs.Answers.{circuitRead, circuitRun, workspaceAfter};
+ghost use Rattle.model.specs.Answers as model;
+ghost use Rattle.circuit.specs.Header.{headerOf};
+ghost use Rattle.circuit_run.specs.Runs.{blockAnswer};
+ghost use Rattle.run.specs.Answers.{answerOf};
+use circuit::CircuitHeader;
+use circuit_run::CircuitBlock;
+use run::Answer;
+
+// "all of it is zero afterwards, at any length"
+fn wipe(workspace: &mut [u8])
+    ensures { λ r. ⌜ now (workspace .exit) ≡ workspaceAfter (now (workspace .entry)) ⌝ }
+{
+    let mut i = 0;
+    while i < workspace.len() {
+        workspace[i] = 0;
+        i += 1;
+    }
+}
+
+// The verdict: 0 for an accepted table, otherwise the refusal's number.
+#[no_mangle]
+pub extern "C" fn foq_verdict(table: &[u8], n: u32, workspace: &mut [u8]) -> u32
+    ensures { λ r. ⌜ r ≡ model.number (model.verdict (now (table .entry)) n (length (now (workspace .entry)))) ⌝ }
+    ensures { λ r. ⌜ now (workspace .exit) ≡ workspaceAfter (now (workspace .entry)) ⌝ }
+{
+    let number = verdict::verdict(table, n, workspace.len());
+    wipe(workspace);
+    number
+}
+
+// The run: the end word, or the refusal's number and 0.
+#[no_mangle]
+pub extern "C" fn foq_run(table: &[u8], n: u32, word: u64, workspace: &mut [u8]) -> Answer
+    ensures { λ r. ⌜ r ≡ answerOf (model.run (now (table .entry)) n word (length (now (workspace .entry)))) ⌝ }
+    ensures { λ r. ⌜ now (workspace .exit) ≡ workspaceAfter (now (workspace .entry)) ⌝ }
+{
+    let answer = run::run(table, n, word, workspace.len());
+    wipe(workspace);
+    answer
+}
+
+// The circuit reader: n, ancillas and gate count, or the refusal's number and zeros.
+#[no_mangle]
+pub extern "C" fn foq_circuit_read(bytes: &[u8]) -> CircuitHeader
+    ensures { λ r. ⌜ r ≡ headerOf (circuitRead (now (bytes .entry))) ⌝ }
+{
+    circuit::read_circuit(bytes)
+}
+
+// The circuit run: the block of wires, or the refusal's number and zeros.
+#[no_mangle]
+pub extern "C" fn foq_circuit_run(bytes: &[u8], word: u64) -> CircuitBlock
+    ensures { λ r. ⌜ r ≡ blockAnswer (circuitRun (now (bytes .entry)) word) ⌝ }
+{
+    circuit_run::run_circuit(bytes, word)
+}

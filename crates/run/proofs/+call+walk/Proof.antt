@@ -1,0 +1,119 @@
+-- `run::walk` and `run::call` meet their contracts: the fuel falls at each call, the depth within a body, and each way out is one law.
+-- Assumes nothing.
+use Prim.Native.Nat.{ℕ, _+_, _*_, _<_}
+use borrow.Fn.Kinds.{In}
+use borrow.Fn.PlainCycle.{Measures, is, falls, and}
+use Rattle.run.proofs.Walks.{calling, walking}
+use Rattle.run.proofs.call.Reads as call
+use Rattle.run.proofs.call.Kinds as call-kinds
+use Rattle.run.proofs.+call+walk.Lts-call as call-lts
+use Rattle.run.proofs.walk.Reads as walk
+use Rattle.run.proofs.walk.Kinds as walk-kinds
+use Rattle.run.proofs.+call+walk.Lts-walk as walk-lts
+use Rattle.run.proofs.bit.Reads as bit-reads
+use Rattle.run.proofs.flip.Reads as flip-reads
+use Rattle.reach.proofs.root.Reads as root-reads
+use Rattle.step.proofs.holds.Reads as holds-reads
+use Rattle.step.proofs.remaining.Reads as remaining-reads
+use Rattle.step.proofs.size.Reads as size-reads
+use Rattle.step.proofs.step_at.Reads as step-at-reads
+use Rattle.run.proofs.+call+walk.{statement}
+use Rattle.run.proofs.+call+walk.Tie.{close}
+
+abbrev μ-call : Measures 2 call-kinds.ps ℕ
+μ-call κs a = a .1 .1 .1 .1 .1 .0 * 256
+
+abbrev μ-walk : Measures 2 walk-kinds.ps ℕ
+μ-walk κs a = a .1 .1 .1 .1 .1 .1 .0 * 256 + a .1 .1 .1 .1 .0
+
+abbrev call-at : ℕ → In 2 call-kinds.ps
+call-at t = and 2 call-kinds.ps (is 2 call-kinds.ps μ-call t) call.Pre
+
+abbrev call-below : ℕ → In 2 call-kinds.ps
+call-below t = and 2 call-kinds.ps (falls 2 call-kinds.ps _<_ μ-call t) call.Pre
+
+abbrev walk-at : ℕ → In 2 walk-kinds.ps
+walk-at t = and 2 walk-kinds.ps (is 2 walk-kinds.ps μ-walk t) walk.Pre
+
+abbrev walk-below : ℕ → In 2 walk-kinds.ps
+walk-below t = and 2 walk-kinds.ps (falls 2 walk-kinds.ps _<_ μ-walk t) walk.Pre
+
+pub +call+walk-spec : {M : Type 1} → statement M
++call+walk-spec = close μ-call μ-walk (λ t. call-lts.spec (
+  size-reads.Asked,
+  size-reads.Learnt,
+  root-reads.Asked,
+  root-reads.Learnt,
+  walk-below t,
+  walk.Post,
+)
+    (call-at t)
+    call.Post
+    (λ c κs. search calling)
+    (λ c. search calling)
+    (λ c. search calling)
+    (λ c. search calling)
+    (λ c κs. search calling)
+    (λ c. search calling)
+    (λ c κs. search calling)
+    (λ c. search calling))
+    λ t. walk-lts.spec (
+      step-at-reads.Asked,
+      step-at-reads.Learnt,
+      flip-reads.Asked,
+      flip-reads.Learnt,
+      walk-below t,
+      walk.Post,
+      holds-reads.Asked,
+      holds-reads.Learnt,
+      bit-reads.Asked,
+      bit-reads.Learnt,
+      remaining-reads.Asked,
+      remaining-reads.Learnt,
+      call-below t,
+      call.Post,
+    )
+    (walk-at t)
+    walk.Post
+    (λ c. search walking)
+    (λ c κs. search walking)
+    (λ c. search walking)
+    (λ c κs. search walking)
+    (λ c. search walking)
+    (λ c. search walking)
+    (λ c κs. search walking)
+    (λ c. search walking)
+    (λ c κs. search walking)
+    (λ c. search walking)
+    (λ c. search walking)
+    (λ c κs. search walking)
+    (λ c. search walking)
+    (λ c κs. search walking)
+    (λ c. search walking)
+    (λ c. search walking)
+    (λ c κs. search walking)
+    (λ c. search walking)
+    (λ c κs. search walking)
+    (λ c. search walking)
+    (λ c κs. search walking)
+    (λ c. search walking)
+    (λ c. search walking)
+    (λ c κs. search walking)
+    (λ c. search walking)
+    (λ c κs. search walking)
+    (λ c κs. search walking)
+    (λ c. search walking)
+    (λ c. search walking)
+    (λ c. search walking)
+    (λ c. search walking)
+    (λ c. search walking)
+    (λ c. search walking)
+    (λ c. search walking)
+    (λ c. search walking)
+    (λ c. search walking)
+    (λ c. search walking)
+    (λ c. search walking)
+    (λ c. search walking)
+    (λ c. search walking)
+    (λ c. search walking)
+    (λ c. search walking)

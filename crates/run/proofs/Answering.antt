@@ -1,0 +1,64 @@
+-- The ways out of `run`: what it has learnt when it answers, and that the answer is document 01's.
+use mathlib.Core.Path.{_≡_, refl, sym, _∙_}
+use mathlib.Core.Bool.{Bool, true, false}
+use mathlib.Core.List.{List}
+use Prim.Native.Nat.{ℕ, _^_, _≤_, _<_, min}
+use native.Mathlib.Omega.{arith}
+use borrow.Author.Needs.{needs}
+use borrow.Author.Tests.{ltb-true, le-leb, lt-leb, not-true, not-false}
+use lib.Dec.{ltb}
+use Rattle.model.specs.Limits.{mostQubits}
+use Rattle.model.specs.Syntax.{Program}
+use Rattle.model.specs.Meaning.{endWord}
+use Rattle.model.specs.Answers.{Outcome, gives, refuses, after, require, accepted, run}
+use Rattle.agreement.proofs.Promise.{Accepted, accepted-is}
+use Rattle.table.specs.Index.{programAt}
+use Rattle.verdict.specs.declared.Judged.{Judged}
+use Rattle.verdict.specs.Judging.{judgedAs}
+use Rattle.verdict.proofs.Ways.{refused-judged, accepted-judged}
+use Rattle.run.specs.declared.Answer.{Answer}
+use Rattle.run.specs.Words.{ranWord}
+use Rattle.run.specs.Answers.{answerOf}
+use Rattle.run.proofs.Following.{ran-min}
+
+module _ (bs ix : List ℕ) (n word space : ℕ) (j : Judged) (is : judgedAs j bs ix ≡ accepted bs n) where
+  abbrev P : Program
+  P = programAt (j .procedures) bs ix
+
+  -- the table is refused
+  pub run-refused : (j .number ≡ 0 → ⊥) → record { number = j .number; value = 0 } ≡ answerOf (run bs n word space)
+  unfolding run after answerOf
+  run-refused some = rw (refused-judged bs ix n space j is some)
+
+  module _ (none : j .number ≡ 0) where
+    judged : accepted bs n ≡ gives P
+    judged = accepted-judged bs ix n space j is none
+
+    range : Accepted n P
+    range = accepted-is bs n P judged
+
+    -- an accepted table has at most 32 qubits
+    pub run-many : 32 < n → record { number = 9; value = 0 } ≡ answerOf (run bs n word space)
+    run-many h = let few = range .few in absurd (beyond few h)
+      where
+        beyond : n ≤ mostQubits → 32 < n → ⊥
+        beyond few h = omega arith
+
+    -- a bit of the word at n or above
+    pub run-high : (b : Bool) → b ≡ ltb word (2 ^ n) → b ≡ false → record { number = 13; value = 0 } ≡ answerOf (run bs n word space)
+    unfolding run after require answerOf
+    run-high b e f = rw (judged, ← e, f)
+
+    module _ (b : Bool) (e : b ≡ ltb word (2 ^ n)) (t : b ≡ true) where
+      -- a workspace that is too short
+      pub run-short : space < 32768 → record { number = 21; value = 0 } ≡ answerOf (run bs n word space)
+      unfolding run after require answerOf
+      run-short h = rw (judged, ← e, t, lt-leb 32768 space h)
+
+      -- the end word
+      pub run-given : 32768 ≤ space → (value : ℕ) → value ≡ ranWord P (min n 32) word → record { number = 0; value = value } ≡ answerOf (run bs n word space)
+      unfolding run after require answerOf
+      run-given h value v = rw (judged, ← e, t, le-leb 32768 space h,
+        ran-min P n word value (range .few) (range .passes12) (ltb-true word (2 ^ n) (sym e ∙ t)) v)
+
+pub ruleset answers = (needs, not-true, not-false, run-refused, run-many, run-high, run-short, run-given)

@@ -1,0 +1,133 @@
+// The run of a word: one walk through the table, along the one path that the word takes.
+ghost use mathlib.Core.Path.{_≡_};
+ghost use Prim.Native.Nat.{min};
+ghost use Rattle.table.specs.Index.{rootOf, programAt};
+ghost use Rattle.step.specs.Steps.{qubitsOf};
+ghost use Rattle.run.specs.Words.{flippedWord, bitOf, walked, called, ranWord};
+ghost use Rattle.run.specs.Answers.{answerOf};
+ghost use Rattle.model.specs.Answers as model;
+use reach::root;
+use step::{all, holds, remaining, size, step_at, Qubits, Step};
+use verdict::judge;
+use wires::fits;
+
+const MOST_QUBITS: u8 = 32;
+const MOST_DEPTH: u8 = 32;
+
+// The word with the bit of a qubit flipped: qubit q is bit q - 1. Numbers that are no qubit's change nothing.
+fn flip(word: u64, q: u8) -> u64
+    ensures { λ r. ⌜ r ≡ flippedWord q word ⌝ }
+{
+    if q == 0 {
+        return word;
+    }
+    if q > MOST_QUBITS {
+        return word;
+    }
+    word ^ (1u64 << (q - 1))
+}
+
+// The bit of a qubit; no bit of a number that is no qubit's.
+fn bit(word: u64, q: u8) -> bool
+    ensures { λ r. ⌜ r ≡ bitOf q word ⌝ }
+{
+    if q == 0 {
+        return false;
+    }
+    if q > MOST_QUBITS {
+        return false;
+    }
+    (word >> (q - 1)) & 1 == 1
+}
+
+// What the statement at record i makes of a word, on the whole list of its procedure. It is followed `depth` records down, and its calls
+// `fuel` deep.
+fn walk(table: &[u8], index: &[u16], p: u8, i: usize, depth: u8, list: Qubits, fuel: u16, word: u64) -> u64
+    ensures { λ r. ⌜ r ≡ walked p (now (table .entry)) (now (index .entry)) depth i (qubitsOf list) fuel word ⌝ }
+{
+    if depth == 0 {
+        return word;
+    }
+    let step = step_at(table, index, p, i, list);
+    match step {
+        Step::Touches(q) => flip(word, q),
+        Step::Sequence(first, second) => {
+            let middle = walk(table, index, p, first, depth - 1, list, fuel, word);
+            walk(table, index, p, second, depth - 1, list, fuel, middle)
+        }
+        Step::Chooses(condition, yes, no) => {
+            if holds(table, index, p, condition, list, depth - 1) {
+                return walk(table, index, p, yes, depth - 1, list, fuel, word);
+            }
+            walk(table, index, p, no, depth - 1, list, fuel, word)
+        }
+        Step::Branches(q, zero, one) => {
+            if bit(word, q) {
+                return walk(table, index, p, one, depth - 1, list, fuel, word);
+            }
+            walk(table, index, p, zero, depth - 1, list, fuel, word)
+        }
+        Step::Calls(f, at) => call(table, index, p, f, remaining(table, at, list), fuel, word),
+        Step::Nothing => word,
+        Step::Holds(_) => word,
+        Step::Both(_, _) => word,
+        Step::Either(_, _) => word,
+        Step::Negates(_) => word,
+    }
+}
+
+// What a call of procedure f makes of a word: its body goes on with the list that the removals left, and with all its depth. No table that was
+// read calls a procedure past p.
+fn call(table: &[u8], index: &[u16], p: u8, f: u8, list: Qubits, fuel: u16, word: u64) -> u64
+    ensures { λ r. ⌜ r ≡ called p (now (table .entry)) (now (index .entry)) f (qubitsOf list) fuel word ⌝ }
+{
+    if size(list) == 0 {
+        return word;
+    }
+    if fuel == 0 {
+        return word;
+    }
+    if f > p {
+        return word;
+    }
+    walk(table, index, p, root(index, f), MOST_DEPTH, list, fuel - 1, word)
+}
+
+// What main makes of a word on n qubits; past 32 there are no more.
+pub fn end_word(table: &[u8], index: &[u16; 544], p: u8, n: u8, word: u64) -> u64
+    ensures { λ r. ⌜ r ≡ ranWord (programAt p (now (table .entry)) (now (index .entry))) (min n 32) word ⌝ }
+{
+    let list = all(n);
+    walk(table, &index[..], p, root(&index[..], 0), MOST_DEPTH, list, p as u16 + size(list) as u16, word)
+}
+
+// A refusal's number and 0, or 0 and the end word.
+#[repr(C)]
+pub struct Answer {
+    pub number: u32,
+    pub value: u64,
+}
+
+// The run: "9; header 1, 2, 3; each record ..; 8; 10 over the whole table, then 11, then 12; 13; 21", then the end word; for a workspace of that length.
+pub fn run(table: &[u8], n: u32, word: u64, space: usize) -> Answer
+    ensures { λ r. ⌜ r ≡ answerOf (model.run (now (table .entry)) n word space) ⌝ }
+{
+    let mut index = [0u16; 544];
+    let judged = judge(table, n, &mut index);
+    let number = judged.number as u32;
+    if number != 0 {
+        return Answer { number, value: 0 };
+    }
+    if 32 < n {
+        return Answer { number: 9, value: 0 };
+    }
+    let qubits = n as u8;
+    if !fits(word, qubits) {
+        return Answer { number: 13, value: 0 };
+    }
+    if space < 32768 {
+        return Answer { number: 21, value: 0 };
+    }
+    let value = end_word(table, &index, judged.procedures, qubits, word);
+    Answer { number: 0, value }
+}

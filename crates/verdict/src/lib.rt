@@ -1,0 +1,68 @@
+// The verdict on a table: accepted, or the one refusal that document 01's order fixes. Everything here works in local memory.
+ghost use mathlib.Core.Path.{_≡_};
+ghost use Rattle.model.specs.Answers.{accepted};
+ghost use Rattle.model.specs.Answers as model;
+ghost use Rattle.verdict.specs.Judging.{judgedAt, judgedAs};
+use table::{Table, read_table};
+use reach::{fill_reach, any_lacks_removal, any_too_wide};
+use faults::faults;
+
+// A refusal's number, or 0 and the number of procedures.
+pub struct Judged {
+    pub number: u8,
+    pub procedures: u8,
+}
+
+// "10 over the whole table, then 11, then 12": a table that was read, by its index.
+fn judge_read(table: &[u8], index: &[u16], p: u8, n: u8) -> u8
+    ensures { λ r. ⌜ r ≡ judgedAt p (now (table .entry)) (now (index .entry)) n ⌝ }
+{
+    let mut matrix = [0u8; 289];
+    fill_reach(table, index, p, &mut matrix);
+    if any_lacks_removal(table, index, p, &matrix) {
+        return 10;
+    }
+    if any_too_wide(table, index, p, &matrix) {
+        return 11;
+    }
+    if faults(table, index, &matrix, p, n) {
+        return 12;
+    }
+    0
+}
+
+// "Order: 9; header 1, 2, 3; each record ..; 8; 10 over the whole table, then 11, then 12". The index is what walkers of the table need afterwards.
+pub fn judge(table: &[u8], n: u32, index: &mut [u16; 544]) -> Judged
+    ensures { λ r. ⌜ judgedAs r (now (table .entry)) (now (index .exit)) ≡ accepted (now (table .entry)) n ⌝ }
+{
+    if n == 0 {
+        return Judged { number: 9, procedures: 0 };
+    }
+    if 32 < n {
+        return Judged { number: 9, procedures: 0 };
+    }
+    let answer = read_table(table, index);
+    match answer {
+        Table::Refused(k) => Judged { number: k, procedures: 0 },
+        Table::Read(p) => {
+            let number = judge_read(table, &index[..], p, n as u8);
+            Judged { number, procedures: p }
+        }
+    }
+}
+
+// The verdict: the order above, then 21 for a workspace of that length.
+pub fn verdict(table: &[u8], n: u32, space: usize) -> u32
+    ensures { λ r. ⌜ r ≡ model.number (model.verdict (now (table .entry)) n space) ⌝ }
+{
+    let mut index = [0u16; 544];
+    let judged = judge(table, n, &mut index);
+    let number = judged.number as u32;
+    if number != 0 {
+        return number;
+    }
+    if space < 32768 {
+        return 21;
+    }
+    0
+}

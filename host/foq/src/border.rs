@@ -1,0 +1,64 @@
+//! The functions of `libfoq.a` over the structs that C sees, as `foq.h`
+//! declares them: a number and, where that is 0, a result; otherwise zeros.
+
+#![allow(unsafe_code)]
+
+/// The length of a block in bytes.
+pub const BLOCK_LENGTH: usize = 32;
+
+/// `foq_circuit`.
+#[repr(C)]
+#[derive(Clone, Copy, Debug, Default, PartialEq, Eq)]
+pub struct Circuit {
+    /// 0 or a refusal's number.
+    pub number: u32,
+    /// The number of data wires.
+    pub qubits: u32,
+    /// The ancilla byte.
+    pub ancillas: u32,
+    /// The number of gates.
+    pub gates: u32,
+}
+
+/// `foq_block`.
+#[repr(C)]
+#[derive(Clone, Copy, Debug, Default, PartialEq, Eq)]
+pub struct Block {
+    /// 0 or a refusal's number.
+    pub number: u32,
+    /// The number of data wires.
+    pub data: u8,
+    /// The number of ancillas.
+    pub ancillas: u8,
+    /// The wires' bits.
+    pub bits: [u8; BLOCK_LENGTH],
+}
+
+/// As `foq.h` declares them.
+mod declared {
+    use super::{Block, Circuit};
+
+    extern "C" {
+        pub fn foq_circuit_read(circuit: *const u8, length: usize) -> Circuit;
+        pub fn foq_circuit_run(circuit: *const u8, length: usize, word: u64) -> Block;
+    }
+}
+
+// Why each call below is sound: a Rust slice is a range that `foq.h` asks for,
+// readable for the call and unchanged meanwhile; two slices of one call never
+// overlap where one of them is written; the structs above are laid out as C
+// lays out those of `foq.h`; the functions keep no pointer, and return.
+
+/// The circuit reader.
+#[must_use]
+pub fn circuit_read(circuit: &[u8]) -> Circuit {
+    // SAFETY: as above; the circuit is only read.
+    unsafe { declared::foq_circuit_read(circuit.as_ptr(), circuit.len()) }
+}
+
+/// The circuit run, from a start word.
+#[must_use]
+pub fn circuit_run(circuit: &[u8], word: u64) -> Block {
+    // SAFETY: as above; the circuit is only read.
+    unsafe { declared::foq_circuit_run(circuit.as_ptr(), circuit.len(), word) }
+}

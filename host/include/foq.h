@@ -1,0 +1,113 @@
+/*
+ * foq.h: the functions of libfoq.a, for C11 and C++.
+ *
+ * Each function takes numbers and slices of bytes, and has an answer for every
+ * number and every content of a slice: number FOQ_SUCCESS and a result, or the
+ * number of one refusal and otherwise zeros. What is said of an answer here is
+ * proved of the code, for every input.
+ *
+ * A slice is two arguments, a pointer and a length in bytes. The caller holds
+ * to this, which no function can test:
+ *
+ *   - The pointer leads to that many bytes of one object, which may be read
+ *     during the call and which nothing else changes meanwhile.
+ *   - A slice of length 0 may have a null pointer.
+ *   - No two slices of one call overlap.
+ *
+ * No function keeps anything from one call to the next, takes memory from the
+ * heap or writes anywhere but into its answer. Calls from several threads at
+ * the same time are allowed.
+ */
+#ifndef FOQ_H
+#define FOQ_H
+
+#include <stddef.h>
+#include <stdint.h>
+
+/* Success. */
+#define FOQ_SUCCESS 0u
+
+/* Refusals from the input. */
+#define FOQ_TABLE_STOPS 1u      /* the table stops too soon */
+#define FOQ_WRONG_EDITION 2u    /* the table's edition is not FOQ_TABLE_EDITION */
+#define FOQ_MANY_PROCEDURES 3u  /* more than FOQ_MOST_PROCEDURES procedures */
+#define FOQ_WRONG_KIND 4u       /* kind unknown, or condition and statement exchanged */
+#define FOQ_WRONG_MAP 5u        /* a map that the record's kind does not permit */
+#define FOQ_WRONG_FIELD 6u      /* a removal count, base or procedure byte */
+#define FOQ_TOO_DEEP 7u         /* a tree too deep, or too many records */
+#define FOQ_BYTES_LEFT 8u       /* bytes left over behind the last body */
+#define FOQ_WRONG_QUBITS 9u     /* n is not 1 to FOQ_MOST_QUBITS */
+#define FOQ_NO_REMOVAL 10u      /* a recursive call without removal */
+#define FOQ_TOO_WIDE 11u        /* a body of width over 1 */
+#define FOQ_ACCESS_FAULT 12u    /* a position outside the list, or a closed qubit touched */
+#define FOQ_HIGH_BIT 13u        /* a start word with a bit at n or above */
+#define FOQ_NOT_WELL_FORMED 14u /* the circuit is not well formed */
+
+/* Refusals from the state. */
+#define FOQ_SHORT_WORKSPACE 21u /* a workspace shorter than FOQ_LEAST_WORKSPACE */
+#define FOQ_MANY_WIRES 22u      /* a wire number above FOQ_MOST_WIRES would be taken */
+#define FOQ_NO_ROOM 23u         /* the header or the next gate would pass the room's end */
+
+/* Limits of a table. */
+#define FOQ_TABLE_EDITION 1u
+#define FOQ_MOST_PROCEDURES 16u
+#define FOQ_MOST_RECORDS 255u
+#define FOQ_MOST_DEPTH 32u
+#define FOQ_MOST_REMOVALS 8u
+
+/* Limits of a circuit; lengths are in bytes. */
+#define FOQ_CIRCUIT_EDITION 1u
+#define FOQ_MOST_QUBITS 32u
+#define FOQ_MOST_WIRES 255u
+#define FOQ_HEADER_LENGTH 7u
+#define FOQ_MOST_CIRCUIT 65536u
+#define FOQ_BLOCK_LENGTH 32u
+
+/* The shortest workspace that is enough. */
+#define FOQ_LEAST_WORKSPACE 32768u
+
+#ifdef __cplusplus
+extern "C" {
+#endif
+
+/* A circuit's header: n, the ancilla byte and the number of gates. */
+typedef struct {
+    uint32_t number;
+    uint32_t qubits;
+    uint32_t ancillas;
+    uint32_t gates;
+} foq_circuit;
+
+/*
+ * The wires of a circuit: n, the ancilla count and one bit for each wire. Data
+ * wires are 1 to n, ancillas follow. Wire w is bit (w - 1) % 8 of byte
+ * (w - 1) / 8, counted from 0 and from the lowest bit. Bits past the last wire
+ * are zero.
+ */
+typedef struct {
+    uint32_t number;
+    uint8_t data;
+    uint8_t ancillas;
+    uint8_t bits[FOQ_BLOCK_LENGTH];
+} foq_block;
+
+/*
+ * Reads a circuit to its end. Gives its header if it is well formed, otherwise
+ * FOQ_NOT_WELL_FORMED.
+ */
+foq_circuit foq_circuit_read(const uint8_t *circuit, size_t length);
+
+/*
+ * Runs a circuit from a start word: data wire i starts with bit i - 1 of the
+ * word, every ancilla with 0, and the gates act in order. Gives the wires at
+ * the end. Refuses with FOQ_NOT_WELL_FORMED exactly where foq_circuit_read
+ * does, and otherwise with FOQ_HIGH_BIT a word with a bit at n or above, bits
+ * 32 to 63 too.
+ */
+foq_block foq_circuit_run(const uint8_t *circuit, size_t length, uint64_t word);
+
+#ifdef __cplusplus
+}
+#endif
+
+#endif
