@@ -1,8 +1,8 @@
 -- The functions that fill the table of rows: one law for each way out, its premises the tests passed and what the calls on that way ensure.
-use mathlib.Core.Path.{_≡_, refl, sym, ap, _∙_}
-use mathlib.Core.Bool.{Bool, true, false, _||_}
+use mathlib.Core.Path.{_≡_, refl, _∙_}
+use mathlib.Core.Bool.{Bool, true, false}
 use mathlib.Core.List.{List}
-use Prim.Native.Nat.{ℕ, zero, suc, _+_, _≤_, _<_, min, zero-le}
+use Prim.Native.Nat.{ℕ, _+_, _≤_, _<_, min, zero-le}
 use native.Mathlib.Nat.{le-refl}
 use native.Mathlib.Numerals.{add-one}
 use native.Mathlib.Omega.{arith}
@@ -13,7 +13,7 @@ use lib.Dec.{lit<}
 use mir.Syntax.{w8, w64}
 use mir.Val.{Fits}
 use Rattle.model.specs.Meaning.{digit}
-use Rattle.table.specs.Index.{startOf, rootOf, statementAt, bodyAt}
+use Rattle.table.specs.Index.{startOf, statementAt}
 use Rattle.reach.specs.Matrix.{recursiveIn}
 use Rattle.faults.specs.declared.Row.{Row}
 use Rattle.faults.specs.Touches.{touches}
@@ -57,7 +57,7 @@ module _ (matrix : List ℕ) (p f n x r : ℕ) (small : n ≤ x) (low : x ≤ p)
     unfolding rankBelow
     rank-more = rw (add-one x, counted, here)
 
-    pub rank-end : p ≤ x → n + r ≡ rankIn matrix p f
+    pub rank-end : p ≤ x → n + r ≡ rankIn matrix f p
     rank-end h = let e : x ≡ p = omega arith in rank-more ∙ rw (add-one x, e)
 
 pub rank-start : (matrix : List ℕ) (f : ℕ) → 0 ≡ rankBelow matrix f 0
@@ -74,11 +74,12 @@ never-past a b x p h l = absurd (never h l)
 module _ (p : ℕ) (bs ix : List ℕ) (f m : ℕ) (known next : List ℕ) where
   -- a row of the table
   pub row-filled : (root : ℕ) (row : Row) → root ≡ startOf ix (512 + f) →
-      row ≡ rowOf (touches (knownTouches known) (statementAt p bs ix 32 root) (min m 32)) → next ≡ stored f m row known → next ≡ filledRow p bs ix f m known
+      row ≡ rowOf (touches (knownTouches known) (statementAt p bs ix 32 root) (min m 32)) →
+      next ≡ stored f m row known → next ≡ filledRow p bs ix f m known
   unfolding filledRow
   row-filled root row at t s = rw (← at, ← t) s
 
-  module _ (matrix : List ℕ) (k r : ℕ) (ranked : r ≡ rankIn matrix p f) where
+  module _ (matrix : List ℕ) (k r : ℕ) (ranked : r ≡ rankIn matrix f p) where
     pub fill-ranked : r ≡ k → next ≡ filledRow p bs ix f m known → next ≡ filledIf p bs ix matrix k f m known
     unfolding filledIf
     fill-ranked e s = rw (← ranked, eq-eqb r k e) s
@@ -130,7 +131,8 @@ module _ (p : ℕ) (bs ix matrix : List ℕ) (first : List ℕ) where
 
 -- main, by the whole table
 pub main-row : (p : ℕ) (bs ix matrix known : List ℕ) (n root : ℕ) (row : Row) (r : Bool) → known ≡ filled p bs ix matrix n (replicate 18513 0) →
-    root ≡ startOf ix 512 → row ≡ rowOf (touches (knownTouches known) (statementAt p bs ix 32 root) (min n 32)) → r ≡ rowIs row 0 → r ≡ faultsAt p bs ix matrix n
+    root ≡ startOf ix 512 → row ≡ rowOf (touches (knownTouches known) (statementAt p bs ix 32 root) (min n 32)) →
+    r ≡ rowIs row 0 → r ≡ faultsAt p bs ix matrix n
 unfolding faultsAt
 main-row p bs ix matrix known n root row r k at t e =
     rw (← k, ← at) (e ∙ rw t (row-at (touches (knownTouches known) (statementAt p bs ix 32 root) (min n 32)) 0 (lit< tt)))

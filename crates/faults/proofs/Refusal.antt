@@ -1,18 +1,17 @@
 -- Refusal 12 by the table of rows: filled in its order it has what every procedure touches at every length, so main's row says what document 01 says.
 use mathlib.Core.Path.{_≡_, refl, sym, ap, _∙_, subst}
 use mathlib.Core.Logic.{_≢_}
-use mathlib.Core.Bool.{Bool, true, false, _||_}
+use mathlib.Core.Bool.{Bool, true, false}
 use mathlib.Core.List.{List}
-use Prim.Native.Nat.{ℕ, zero, suc, _+_, _*_, _≤_, _<_, min, zero-le, suc-le-suc}
+use Prim.Native.Nat.{ℕ, zero, suc, _+_, _≤_, _<_, min, zero-le, suc-le-suc}
 use native.Mathlib.Nat.{not-suc-le-zero, le-refl, le-trans, le-of-suc-le-suc}
 use native.Mathlib.Omega.{arith}
 use borrow.Author.Tests.{lt-ltb, le-ltb, eq-eqb, ne-eqb}
-use lib.ListN.{length, getD, set, replicate, length-set, length-replicate}
+use lib.ListN.{length, getD, replicate, length-set, length-replicate}
 use lib.Seq.{getD-set-same, getD-set-other}
-use lib.Dec.{eqb, ltb}
 use Rattle.model.specs.Meaning.{digit}
-use Rattle.model.specs.Syntax.{Program, count, body}
-use Rattle.model.specs.Reach.{reaches, anyLacksRemoval}
+use Rattle.model.specs.Syntax.{Program, count}
+use Rattle.model.specs.Reach.{anyLacksRemoval}
 use Rattle.model.specs.Faults.{programFaults}
 use Rattle.model.proofs.Tests.{byEq, byLt}
 use Rattle.model.proofs.Calls.{howMany, from, rank, rank-positive, rank-most}
@@ -47,7 +46,8 @@ module _ (base : ℕ) (digits known : List ℕ) where
   unfolding writtenFrom
   written-other zero j h = refl
   written-other (suc n) j h =
-    getD-set-other (writtenFrom base digits n known) (base + n) j (getD digits n 0) 0 (h n (omega arith)) ∙ written-other n j (λ t l. h t (omega arith))
+    getD-set-other (writtenFrom base digits n known) (base + n) j (getD digits n 0) 0 (h n (omega arith))
+      ∙ written-other n j (λ t l. h t (omega arith))
 
 -- rows of different procedures or lengths have no digit in common
 rows-apart : (f m t g n u : ℕ) → m ≤ 32 → n ≤ 32 → t ≤ 32 → u ≤ 32 → place f m + t ≡ place g n + u → (f ≡ g) × (m ≡ n)
@@ -95,7 +95,7 @@ module _ (p : ℕ) (bs ix : List ℕ) (few : p ≤ 16) where
       one true n = omega arith
       one false n = omega arith
 
-  pub rank-is : (f : ℕ) → rankIn matrix p f ≡ rank P f
+  pub rank-is : (f : ℕ) → rankIn matrix f p ≡ rank P f
   unfolding rank
   rank-is f = rank-below f (suc p) ∙ ap (λ (n : ℕ). howMany (from P f) (suc n)) (sym (count-at p bs ix))
 
@@ -136,12 +136,14 @@ module _ (p : ℕ) (bs ix : List ℕ) (few : p ≤ 16) where
             (λ g n pg lg pn l. H .right g n pg (named-low g lg) pn (omega arith) (shorter g n l))
             (λ g pg lg l. H .right g m pg (named-low g lg) pm lm (lower g l)) t)
 
-    -- what is there when length m has come to rank k, and that to procedure f: all shorter lengths, and of length m the lower ranks and rank k up to f
+    -- what is there when length m has come to rank k, and that to procedure f:
+    -- all shorter lengths, and of length m the lower ranks, and rank k up to f
     abbrev Done : ℕ → ℕ → ℕ → ℕ → ℕ → Type 0
     Done m k f g n = m ≤ n → (n ≤ m) × ((rank P g ≤ k) × (k ≤ rank P g → g ≤ f))
 
     module _ (m : ℕ) (pm : 0 < m) (lm : m ≤ 32) where
-      holds-if : (k f : ℕ) (known : List ℕ) → suc f ≤ p → Holds known (Done m k f) → Holds (filledIf p bs ix matrix k (suc f) m known) (Done m k (suc f))
+      holds-if : (k f : ℕ) (known : List ℕ) → suc f ≤ p → Holds known (Done m k f) →
+          Holds (filledIf p bs ix matrix k (suc f) m known) (Done m k (suc f))
       unfolding filledIf
       holds-if k f known l H = rw (rank-is (suc f)) (byEq (rank P (suc f)) k
         (λ e. rw (eq-eqb (rank P (suc f)) k e) (holds-row (suc f) m known (Done m k f) (Done m k (suc f)) (suc-le-suc zero-le) l pm lm
@@ -194,7 +196,8 @@ module _ (p : ℕ) (bs ix : List ℕ) (few : p ≤ 16) where
     holds-lengths zero l = record {
         whole = length-replicate {A = ℕ} allRows 0;
         right = λ g m pg lg pm lm d. absurd (not-suc-le-zero (le-trans pm (le-of-suc-le-suc d))) }
-    holds-lengths (suc n) l = holds-length (suc n) (suc-le-suc zero-le) l (filled p bs ix matrix n (replicate allRows 0)) (holds-lengths n (omega arith))
+    holds-lengths (suc n) l =
+      holds-length (suc n) (suc-le-suc zero-le) l (filled p bs ix matrix n (replicate allRows 0)) (holds-lengths n (omega arith))
 
     -- refusal 12: by the table, main faults where document 01 says so
     pub faults-is : (n : ℕ) → n ≤ 32 → faultsAt p bs ix matrix n ≡ programFaults P n

@@ -2,28 +2,22 @@
 use mathlib.Core.Path.{_≡_, refl, sym, ap, _∙_, subst}
 use mathlib.Core.Logic.{_≢_}
 use mathlib.Core.Bool.{Bool, true, false, _&&_, _||_, or-true, or-false}
-use mathlib.Core.List.{List, [], _∷_, map}
-use Prim.Native.Nat.{ℕ, zero, suc, _+_, _≤_, _<_, zero-le, suc-le-suc}
+use mathlib.Core.List.{List, [], _∷_}
+use Prim.Native.Nat.{ℕ, zero, suc, _+_, _≤_, _<_}
 use native.Mathlib.Nat.{not-suc-le-zero}
 use native.Mathlib.Omega.{arith}
-use borrow.Author.Needs.{needs}
 use borrow.Author.Tests.{lt-ltb, le-ltb, eq-eqb, ne-eqb}
 use lib.ListN.{length, getD, set, replicate, length-set, length-map, List·getD-eq-default}
 use lib.Seq.{getD-set-same, getD-set-other, ext-getD}
-use lib.Dec.{eqb, ltb}
+use lib.Dec.{eqb}
 use Rattle.model.specs.Lists.{range, entry}
 use Rattle.model.specs.Meaning.{digit}
 use Rattle.model.proofs.Tests.{byBool, byEq, byLt, eqb-same}
+use Rattle.model.proofs.Words.{digit-mark}
 use Rattle.model.proofs.ListLaws.{range-length, tabulated}
 use Rattle.faults.specs.declared.Row.{Row}
 use Rattle.faults.specs.Touches.{Touched, touchesNone, touchesOne, joined, closes, anyUpTo, carried, callTouches}
 use Rattle.faults.specs.Rows.{digitsOf, rowOf, rowIs, marked, closedRow, knownTouches, carriedOn}
-
--- the digit of a test says what it said
-digit-mark : (b : Bool) → eqb (digit b) 1 ≡ b
-unfolding digit
-digit-mark true = refl
-digit-mark false = refl
 
 digits-length : (x : Touched) → length (digitsOf x) ≡ 33
 unfolding digitsOf

@@ -1,14 +1,14 @@
 -- What the step of a record says of the positions that the statement there touches, and one law for each way out of the walk over a body.
 use mathlib.Core.Path.{_≡_, refl, sym, ap, _∙_}
-use mathlib.Core.Bool.{Bool, true, false, _||_}
-use mathlib.Core.List.{List, [], _∷_}
-use Prim.Native.Nat.{ℕ, zero, suc, _+_, _-_, _≤_, _<_, min}
+use mathlib.Core.Bool.{Bool, true, false}
+use mathlib.Core.List.{List}
+use Prim.Native.Nat.{ℕ, zero, suc, _-_, _≤_, _<_, min}
 use native.Mathlib.Omega.{arith}
 use borrow.Author.Needs.{needs}
 use lib.ListN.{length}
 use Rattle.model.specs.Syntax.{Statement}
 use Rattle.model.specs.Lists.{qubits, remaining, holds}
-use Rattle.model.proofs.Tests.{byLt, or-false}
+use Rattle.model.proofs.Tests.{or-false}
 use Rattle.model.proofs.ListLaws.{range-length}
 use Rattle.records.specs.declared.Record.{Record}
 use Rattle.records.specs.declared.Record.the-variants as kind
@@ -49,7 +49,8 @@ module _ (o : CallTouches) (p : ℕ) (bs ix : List ℕ) (m d i : ℕ) where
   test j = holds (testAt p bs ix d j) m
 
   touches-of-step : (r : Record) →
-      touches o (statementOf (testAt p bs ix d) (statementAt p bs ix d) bs ix i r) m ≡ touchesBy o bs (qubits m) part test (stepOf bs ix i (qubits m) r)
+      touches o (statementOf (testAt p bs ix d) (statementAt p bs ix d) bs ix i r) m
+      ≡ touchesBy o bs (qubits m) part test (stepOf bs ix i (qubits m) r)
   unfolding touches statementOf stepOf
   touches-of-step kind.Skip = refl
   touches-of-step (kind.Not at a) = refl
@@ -86,7 +87,8 @@ abbrev rowAt : List ℕ → ℕ → List ℕ → List ℕ → ℕ → ℕ → �
 rowAt known p bs ix m depth i = rowOf (touches (knownTouches known) (statementAt p bs ix depth i) (min m 32))
 
 -- deeper than a tree can be
-pub walk-deep : (known : List ℕ) (p : ℕ) (bs ix : List ℕ) (m depth i : ℕ) (row : Row) → depth ≡ 0 → row ≡ rowOf touchesNone → row ≡ rowAt known p bs ix m depth i
+pub walk-deep : (known : List ℕ) (p : ℕ) (bs ix : List ℕ) (m depth i : ℕ) (row : Row) →
+    depth ≡ 0 → row ≡ rowOf touchesNone → row ≡ rowAt known p bs ix m depth i
 unfolding touches statementAt
 walk-deep known p bs ix m depth i row e r = rw e r
 
@@ -153,7 +155,8 @@ module _ (known : List ℕ) (p : ℕ) (bs ix : List ℕ) (m depth i : ℕ) (l : 
     walk-sequence e = rw (by-step, e) together
 
     pub walk-branches : (q : ℕ) (closed : Row) → st ≡ step.Branches q a b → closed ≡ closedRow q both → closed ≡ rowAt known p bs ix m depth i
-    walk-branches q closed e c = rw (by-step, e) (c ∙ rw together (closes-rows (knownTouches known) (statementAt p bs ix (depth - 1) a) (statementAt p bs ix (depth - 1) b) m q))
+    walk-branches q closed e c = rw (by-step, e)
+      (c ∙ rw together (closes-rows (knownTouches known) (statementAt p bs ix (depth - 1) a) (statementAt p bs ix (depth - 1) b) m q))
 
 pub ruleset walking = (needs, walk-deep, walk-nothing, walk-touches, walk-sequence, walk-yes, walk-no, walk-branches, walk-calls,
     walk-holds, walk-both, walk-either, walk-negates)

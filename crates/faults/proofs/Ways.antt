@@ -1,23 +1,24 @@
 -- One law for each way out of a function: its premises are the tests passed and what the calls on that way ensure, in the code's order.
 use mathlib.Core.Path.{_≡_, refl, sym, ap, _∙_}
-use mathlib.Core.Bool.{Bool, true, false, _||_, or-true}
+use mathlib.Core.Bool.{Bool, true, false, _||_}
 use mathlib.Core.List.{List, [], _∷_}
-use Prim.Native.Nat.{ℕ, zero, suc, _+_, _≤_, _<_}
+use Prim.Native.Nat.{ℕ, suc, _+_, _≤_, _<_}
 use native.Mathlib.Numerals.{add-one}
 use native.Mathlib.Omega.{arith}
 use borrow.Author.Needs.{needs}
 use borrow.Author.Tests.{lt-ltb, le-ltb, eq-eqb, ne-eqb}
 use lib.ListN.{length, getD, set, replicate, List·getD-eq-default}
-use lib.Dec.{eqb, ltb}
+use lib.Dec.{eqb}
 use mir.Syntax.{w8, w32}
 use mir.Val.{Fits, toZ}
 use Rattle.model.specs.Lists.{range, position, entry}
 use Rattle.model.specs.Meaning.{digit}
 use Rattle.faults.specs.declared.Row.{Row}
 use Rattle.step.proofs.Values.{byte-signed}
-use Rattle.faults.specs.Touches.{Touched, touchesNone, touchesOne, joined, carried, callTouches}
+use Rattle.faults.specs.Touches.{Touched, touchesNone, touchesOne, callTouches}
 use Rattle.faults.specs.Rows.{digitsOf, rowOf, rowIs, marked, closedRow, place, knownTouches, carriedOn, writtenFrom, stored}
-use Rattle.faults.proofs.RowLaws.{Written, written-none, written-more, written-all, marked-row, carriedBelow, carried-start, carried-more, carried-all}
+use Rattle.faults.proofs.RowLaws.{Written, written-none, written-more, written-all, marked-row}
+use Rattle.faults.proofs.RowLaws.{carriedBelow, carried-start, carried-more, carried-all}
 
 pub none-row : record { at = replicate 33 0 } ≡ rowOf touchesNone
 unfolding digitsOf range digit
@@ -147,8 +148,8 @@ pub store-more : (base t : ℕ) (digits known next : List ℕ) → next ≡ writ
 unfolding writtenFrom
 store-more base t digits known next e = rw (add-one t, e)
 
-pub ruleset rows = (needs, none-row, mark-within, mark-past, touched-past, closes-again, closes-once, one-row, either-first, either-second, either-neither,
-    written-none, written-more, join-end)
+pub ruleset rows = (needs, none-row, mark-within, mark-past, touched-past, closes-again, closes-once, one-row,
+    either-first, either-second, either-neither, written-none, written-more, join-end)
 
 pub ruleset knowing = (needs, known-within, known-past, carry-yes, carry-not, called-empty, called-start, called-more, called-end, called-never,
     store-procedure, store-length, store-end, store-start, store-more)

@@ -22,7 +22,7 @@ rankBelow matrix f (suc x) = rankBelow matrix f x + digit (fromIn matrix f x)
 
 -- the rank of f among the bodies 0 to p
 abbrev pub rankIn : List ℕ → ℕ → ℕ → ℕ
-rankIn matrix p f = rankBelow matrix f (suc p)
+rankIn matrix f p = rankBelow matrix f (suc p)
 
 -- the row of procedure f on lists of length m: what its body touches, by the table so far
 unfoldable pub filledRow : ℕ → List ℕ → List ℕ → ℕ → ℕ → List ℕ → List ℕ
@@ -31,7 +31,7 @@ filledRow p bs ix f m known = stored f m (rowOf (touches (knownTouches known) (b
 module _ (p : ℕ) (bs ix matrix : List ℕ) where
   -- only where f has rank k
   unfoldable pub filledIf : ℕ → ℕ → ℕ → List ℕ → List ℕ
-  filledIf k f m known = pick (eqb (rankIn matrix p f) k) (filledRow p bs ix f m known) known
+  filledIf k f m known = pick (eqb (rankIn matrix f p) k) (filledRow p bs ix f m known) known
 
   -- procedures 1 to n, those of rank k
   unfoldable pub filledRank : ℕ → ℕ → ℕ → List ℕ → List ℕ

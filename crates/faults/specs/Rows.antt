@@ -1,7 +1,7 @@
 -- Rows of positions touched, as the code has them: digits of position 0, which stands for a fault, and of positions 1 to 32.
 use Prim.Native.Nat.{ℕ, zero, suc, _+_, _*_}
 use mathlib.Core.Bool.{false}
-use mathlib.Core.List.{List, [], _∷_, map}
+use mathlib.Core.List.{List, map}
 use lib.ListN.{length, getD, set}
 use lib.Dec.{eqb, ltb}
 use Rattle.model.specs.Lists.{range, entry}

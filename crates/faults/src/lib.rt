@@ -146,7 +146,7 @@ fn store(known: &mut [u8; 18513], f: u8, m: u8, row: Row)
 }
 
 // What the statement at record i touches of a list of m entries, of 32 at most: both branches of a qcase, the chosen branch of an if.
-fn touches(table: &[u8], index: &[u16], known: &[u8; 18513], p: u8, i: usize, depth: u8, m: u8) -> Row
+fn touches(table: &[u8], index: &[u16], p: u8, i: usize, depth: u8, m: u8, known: &[u8; 18513]) -> Row
     ensures {
         λ r. ⌜ r ≡ rowOf (touches (knownTouches (now (known .entry))) (statementAt p (now (table .entry)) (now (index .entry)) depth i) (min m 32)) ⌝
     }
@@ -160,19 +160,19 @@ fn touches(table: &[u8], index: &[u16], known: &[u8; 18513], p: u8, i: usize, de
         Step::Nothing => none(),
         Step::Touches(q) => one(q),
         Step::Sequence(first, second) => {
-            let a = touches(table, index, known, p, first, depth - 1, m);
-            let b = touches(table, index, known, p, second, depth - 1, m);
+            let a = touches(table, index, p, first, depth - 1, m, known);
+            let b = touches(table, index, p, second, depth - 1, m, known);
             join(a, b)
         }
         Step::Chooses(test, yes, no) => {
             if holds(table, index, p, test, list, depth - 1) {
-                return touches(table, index, known, p, yes, depth - 1, m);
+                return touches(table, index, p, yes, depth - 1, m, known);
             }
-            touches(table, index, known, p, no, depth - 1, m)
+            touches(table, index, p, no, depth - 1, m, known)
         }
         Step::Branches(q, zero, one) => {
-            let a = touches(table, index, known, p, zero, depth - 1, m);
-            let b = touches(table, index, known, p, one, depth - 1, m);
+            let a = touches(table, index, p, zero, depth - 1, m, known);
+            let b = touches(table, index, p, one, depth - 1, m, known);
             closes(q, join(a, b))
         }
         Step::Calls(f, at) => called(known, f, remaining(table, at, list)),
@@ -194,8 +194,8 @@ fn reached(matrix: &[u8; 289], f: u8, x: u8) -> usize
 }
 
 // How many of the bodies 0 to p f reaches, itself among them. The rank falls at each call that is not recursive.
-fn rank(matrix: &[u8; 289], p: u8, f: u8) -> usize
-    ensures { λ r. ⌜ r ≡ rankIn (now (matrix .entry)) p f ⌝ }
+fn rank(matrix: &[u8; 289], f: u8, p: u8) -> usize
+    ensures { λ r. ⌜ r ≡ rankIn (now (matrix .entry)) f p ⌝ }
 {
     let mut n: usize = 0;
     for x in 0..=p {
@@ -205,29 +205,29 @@ fn rank(matrix: &[u8; 289], p: u8, f: u8) -> usize
 }
 
 // The row of procedure f on lists of length m: what its body touches, by the table so far.
-fn fill_row(table: &[u8], index: &[u16], known: &mut [u8; 18513], p: u8, f: u8, m: u8)
+fn fill_row(table: &[u8], index: &[u16], p: u8, f: u8, m: u8, known: &mut [u8; 18513])
     ensures {
         λ r. ⌜ now (known .exit) ≡ filledRow p (now (table .entry)) (now (index .entry)) f m (now (known .entry)) ⌝
     }
 {
     let root = start(index, 512 + f as usize);
-    let row = touches(table, index, known, p, root, MOST_DEPTH, m);
+    let row = touches(table, index, p, root, MOST_DEPTH, m, known);
     store(known, f, m, row);
 }
 
 // The same, but only where f has rank k.
-fn fill_if(table: &[u8], index: &[u16], matrix: &[u8; 289], known: &mut [u8; 18513], p: u8, k: usize, f: u8, m: u8)
+fn fill_if(table: &[u8], index: &[u16], p: u8, k: usize, f: u8, m: u8, matrix: &[u8; 289], known: &mut [u8; 18513])
     ensures {
         λ r. ⌜ now (known .exit) ≡ filledIf p (now (table .entry)) (now (index .entry)) (now (matrix .entry)) k f m (now (known .entry)) ⌝
     }
 {
-    if rank(matrix, p, f) == k {
-        fill_row(table, index, known, p, f, m);
+    if rank(matrix, f, p) == k {
+        fill_row(table, index, p, f, m, known);
     }
 }
 
 // All procedures of rank k, on lists of length m.
-fn fill_rank(table: &[u8], index: &[u16], matrix: &[u8; 289], known: &mut [u8; 18513], p: u8, k: usize, m: u8)
+fn fill_rank(table: &[u8], index: &[u16], p: u8, k: usize, m: u8, matrix: &[u8; 289], known: &mut [u8; 18513])
     ensures {
         λ r. ⌜ now (known .exit) ≡ filledRank p (now (table .entry)) (now (index .entry)) (now (matrix .entry)) p k m (now (known .entry)) ⌝
     }
@@ -235,12 +235,12 @@ fn fill_rank(table: &[u8], index: &[u16], matrix: &[u8; 289], known: &mut [u8; 1
     let mut f = 0;
     while f < p {
         f += 1;
-        fill_if(table, index, matrix, known, p, k, f, m);
+        fill_if(table, index, p, k, f, m, matrix, known);
     }
 }
 
 // All procedures, on lists of length m: by rank, so that what a body calls on lists of the same length is there before it.
-fn fill_length(table: &[u8], index: &[u16], matrix: &[u8; 289], known: &mut [u8; 18513], p: u8, m: u8)
+fn fill_length(table: &[u8], index: &[u16], p: u8, m: u8, matrix: &[u8; 289], known: &mut [u8; 18513])
     ensures {
         λ r. ⌜ now (known .exit) ≡ filledLength p (now (table .entry)) (now (index .entry)) (now (matrix .entry)) p m (now (known .entry)) ⌝
     }
@@ -249,12 +249,12 @@ fn fill_length(table: &[u8], index: &[u16], matrix: &[u8; 289], known: &mut [u8;
     let mut k = 0;
     while k < ranks {
         k += 1;
-        fill_rank(table, index, matrix, known, p, k, m);
+        fill_rank(table, index, p, k, m, matrix, known);
     }
 }
 
 // All procedures, on lists of lengths 1 to n, the shortest first.
-fn fill(table: &[u8], index: &[u16], matrix: &[u8; 289], known: &mut [u8; 18513], p: u8, n: u8)
+fn fill(table: &[u8], index: &[u16], p: u8, n: u8, matrix: &[u8; 289], known: &mut [u8; 18513])
     ensures {
         λ r. ⌜ now (known .exit) ≡ filled p (now (table .entry)) (now (index .entry)) (now (matrix .entry)) n (now (known .entry)) ⌝
     }
@@ -262,16 +262,16 @@ fn fill(table: &[u8], index: &[u16], matrix: &[u8; 289], known: &mut [u8; 18513]
     let mut m = 0;
     while m < n {
         m += 1;
-        fill_length(table, index, matrix, known, p, m);
+        fill_length(table, index, p, m, matrix, known);
     }
 }
 
 // Refusal 12: does main fault on n qubits? `matrix` says which procedure reaches which.
-pub fn faults(table: &[u8], index: &[u16], matrix: &[u8; 289], p: u8, n: u8) -> bool
+pub fn faults(table: &[u8], index: &[u16], p: u8, n: u8, matrix: &[u8; 289]) -> bool
     ensures { λ r. ⌜ r ≡ faultsAt p (now (table .entry)) (now (index .entry)) (now (matrix .entry)) n ⌝ }
 {
     let mut known = [0; 18513];
-    fill(table, index, matrix, &mut known, p, n);
+    fill(table, index, p, n, matrix, &mut known);
     let root = start(index, 512);
-    touched(touches(table, index, &known, p, root, MOST_DEPTH, n), 0)
+    touched(touches(table, index, p, root, MOST_DEPTH, n, &known), 0)
 }

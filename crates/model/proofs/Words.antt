@@ -151,3 +151,9 @@ pub same-block : (k a : ℕ) (s t : State) → ((w : ℕ) → a ≤ w → s w �
 unfolding blockFrom
 same-block zero a s t h = refl
 same-block (suc k) a s t h = rw (same-word 8 a s t h, same-block k (a + 8) s t (λ w l. h w (omega arith)))
+
+-- the digit of a test says what it said
+pub digit-mark : (b : Bool) → eqb (digit b) 1 ≡ b
+unfolding digit
+digit-mark true = refl
+digit-mark false = refl

@@ -16,6 +16,7 @@ use Rattle.model.specs.Meaning.{digit}
 use Rattle.model.specs.Syntax.{Program, body}
 use Rattle.model.specs.Reach.{calls, reachesBelow}
 use Rattle.model.proofs.Tests.{byBool, byEq, byLt, eqb-same}
+use Rattle.model.proofs.Words.{digit-mark}
 use Rattle.model.proofs.ListLaws.{range-length, tabulated}
 use Rattle.reach.specs.Matrix.{cell, markAt, mark, carried, joined, extended, through, closed, digitsOf, noMarks}
 
@@ -27,11 +28,6 @@ pub record Shows (m : List ℕ) (R : ℕ → ℕ → Bool) : Type 0 where
 -- it shows any relation that is the same on procedures 0 to 16
 pub shows-as : (m : List ℕ) (R S : ℕ → ℕ → Bool) → ((f g : ℕ) → f ≤ 16 → g ≤ 16 → R f g ≡ S f g) → Shows m R → Shows m S
 shows-as m R S e h = record { whole = h .whole; cells = λ f g lf lg. h .cells f g lf lg ∙ ap digit (e f g lf lg) }
-
-digit-mark : (b : Bool) → eqb (digit b) 1 ≡ b
-unfolding digit
-digit-mark true = refl
-digit-mark false = refl
 
 -- a mark stands where the relation holds
 pub shows-mark-at : (m : List ℕ) (R : ℕ → ℕ → Bool) → Shows m R → (f g : ℕ) → f ≤ 16 → g ≤ 16 → markAt m (cell f g) ≡ R f g

@@ -25,7 +25,7 @@ fn judge_read(table: &[u8], index: &[u16], p: u8, n: u8) -> u8
     if any_too_wide(table, index, p, &matrix) {
         return 11;
     }
-    if faults(table, index, &matrix, p, n) {
+    if faults(table, index, p, n, &matrix) {
         return 12;
     }
     0

@@ -1,3 +1,4 @@
+-- `faults::touches` meets its contract: each step of the walk is the record's, and the depth falls. Assumes nothing.
 use Rattle.faults.proofs.Walk.{walking}
 use Prim.Native.Nat.{ℕ, _<_}
 use borrow.Fn.Kinds.{In}
@@ -18,7 +19,7 @@ use Rattle.faults.proofs.+touches.{statement}
 use Rattle.faults.proofs.+touches.Tie.{close}
 
 abbrev μ-touches : Measures 3 touches-kinds.ps ℕ
-μ-touches κs a = a .1 .1 .1 .1 .1 .0
+μ-touches κs a = a .1 .1 .1 .1 .0
 
 abbrev touches-at : ℕ → In 3 touches-kinds.ps
 touches-at t = and 3 touches-kinds.ps (is 3 touches-kinds.ps μ-touches t) touches.Pre
