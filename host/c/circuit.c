@@ -8,30 +8,11 @@
  *
  * A line that is refused has the refusal's number instead: "refused 14".
  */
-#include <ctype.h>
-#include <errno.h>
-#include <inttypes.h>
-#include <stdio.h>
-#include <stdlib.h>
-
 #include "foq.h"
+#include "program.h"
 
 /* One byte more than a circuit can have: whatever is longer is refused too. */
 static uint8_t input[FOQ_MOST_CIRCUIT + 1];
-
-/* Reads a word, decimal or with 0x hexadecimal; says whether the text is one. */
-static int read_word(const char *text, uint64_t *word)
-{
-    char *end;
-    errno = 0;
-    *word = strtoull(text, &end, 0);
-    return isdigit((unsigned char)*text) && *end == '\0' && errno == 0;
-}
-
-static void print_refusal(uint32_t number)
-{
-    printf("refused %" PRIu32 "\n", number);
-}
 
 static void print_header(foq_circuit header)
 {
@@ -58,15 +39,11 @@ static void print_wires(foq_block block)
 int main(int count, char **arguments)
 {
     uint64_t word;
-    if (count != 2 || !read_word(arguments[1], &word)) {
+    if (count != 2 || !read_number(arguments[1], UINT64_MAX, &word)) {
         fputs("usage: circuit WORD < FILE\n", stderr);
         return EXIT_FAILURE;
     }
-    size_t length = fread(input, 1, sizeof input, stdin);
-    if (ferror(stdin)) {
-        perror("circuit");
-        return EXIT_FAILURE;
-    }
+    size_t length = read_input(input, sizeof input);
     /* An empty slice may be null. */
     const uint8_t *circuit = length == 0 ? NULL : input;
     print_header(foq_circuit_read(circuit, length));

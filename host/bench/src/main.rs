@@ -1,46 +1,99 @@
-//! Times of the product beside the second interpreter's: reading a circuit,
-//! and running it, which reads it too. Both are timed in turn in each of many
-//! rounds; what is printed is the median, in microseconds a call. A ratio of
-//! 1.00 or less means that the product is no slower.
+//! Times of the product beside the second interpreter's: verdict and run of a
+//! table, reading and running a circuit. A run asks for the verdict first, and
+//! a circuit run reads its circuit first. Both sides are timed in turn in each
+//! of many rounds; what is printed is the median, in microseconds a call. A
+//! ratio of 1.00 or less means that the product is no slower.
 
+mod timing;
+
+use foq::LEAST_WORKSPACE;
 use foq_generator::circuits::{circuit, circuit_of, crowded_circuit};
+use foq_generator::tables::{nested_classes, one_in_each_branch, sixteen_in_turn};
 use foq_generator::{Random, PAIRS};
 use foq_reference::{LONGEST_CIRCUIT, SHORTEST_WORKSPACE};
 use std::hint::black_box;
-use std::time::{Duration, Instant};
+use timing::{median, rounds, Round};
 
-/// The rounds of a case.
-const ROUNDS: usize = 101;
-/// About how long each side takes in a round.
-const TURN: Duration = Duration::from_millis(1);
+/// A table, and words to run it from, one after the other.
+struct TableCase {
+    name: &'static str,
+    table: Vec<u8>,
+    n: u32,
+    words: Vec<u64>,
+}
+
+/// Tables of which only the verdict is timed: they have no words.
+fn verdict_cases() -> Vec<TableCase> {
+    let branches = [4, 8, 16, 32].map(|n| ("one call in each branch", one_in_each_branch(), n));
+    let mut tables = vec![
+        ("PAIRS", PAIRS.to_vec(), 32),
+        ("16 procedures in turn", sixteen_in_turn(), 32),
+    ];
+    tables.extend(branches);
+    let case = |(name, table, n)| TableCase {
+        name,
+        table,
+        n,
+        words: vec![],
+    };
+    tables.into_iter().map(case).collect()
+}
+
+/// Tables that are run.
+fn run_cases() -> Vec<TableCase> {
+    let mut random = Random::from_seed(52);
+    let words: Vec<u64> = (0..10_000).map(|_| random.word() >> 32).collect();
+    // Each pair of qubits is alike, so that no call is left out.
+    let pairs = words.iter().map(|word| (word & 0x5555_5555) * 3);
+    vec![
+        TableCase {
+            name: "PAIRS, any words",
+            table: PAIRS.to_vec(),
+            n: 32,
+            words: words.clone(),
+        },
+        TableCase {
+            name: "PAIRS, words of pairs",
+            table: PAIRS.to_vec(),
+            n: 32,
+            words: pairs.collect(),
+        },
+        TableCase {
+            name: "three nested classes",
+            table: nested_classes(3),
+            n: 32,
+            words,
+        },
+    ]
+}
 
 /// A circuit to be read and run.
-struct Case {
+struct CircuitCase {
     name: &'static str,
     circuit: Vec<u8>,
     word: u64,
 }
 
-fn cases() -> [Case; 4] {
+fn circuit_cases() -> [CircuitCase; 4] {
     let mut random = Random::from_seed(51);
     let word = random.word() >> 32;
     [
-        Case {
+        CircuitCase {
             name: "PAIRS, n = 32",
-            circuit: pairs(),
+            circuit: pairs_circuit(),
             word,
         },
-        Case {
+        CircuitCase {
             name: "random gates",
             circuit: circuit(&mut random, 32, 32, LONGEST_CIRCUIT),
             word,
         },
-        Case {
+        CircuitCase {
             name: "every wire in each gate",
             circuit: crowded_circuit(&mut random, 32, 223, LONGEST_CIRCUIT),
             word,
         },
-        Case {
+        CircuitCase {
             name: "223 controls that hold",
             circuit: holding(),
             word,
@@ -49,7 +102,7 @@ fn cases() -> [Case; 4] {
 }
 
 /// The circuit of PAIRS on 32 qubits.
-fn pairs() -> Vec<u8> {
+fn pairs_circuit() -> Vec<u8> {
     foq_reference::compile(PAIRS, 32, LONGEST_CIRCUIT, SHORTEST_WORKSPACE).unwrap()
 }
 
@@ -60,53 +113,17 @@ fn holding() -> Vec<u8> {
     circuit_of(32, 223, &gates)
 }
 
-/// Asserts that both run the circuit, and to the same end.
-fn assert_agreed(case: &Case) {
-    let product = foq::circuit_run(&case.circuit, case.word).unwrap();
-    let second = foq_reference::circuit_run(&case.circuit, case.word).unwrap();
-    assert_eq!(product.bits, second.wires, "{}", case.name);
+/// Prints the medians of the product's and the second interpreter's times,
+/// and of their ratio.
+fn print_row<const CALLS: usize>(title: &str, rounds: &[Round<CALLS>], [ours, theirs]: [usize; 2]) {
+    let product = median(rounds, |round| round[ours]);
+    let second = median(rounds, |round| round[theirs]);
+    let ratio = median(rounds, |round| round[ours] / round[theirs]);
+    println!("{title:44}{product:10.2}{second:10.2}{ratio:7.2}");
 }
 
-/// How long so many calls take.
-fn time(calls: u32, call: impl Fn()) -> Duration {
-    let start = Instant::now();
-    for _ in 0..calls {
-        call();
-    }
-    start.elapsed()
-}
-
-/// How many calls take about a turn.
-fn calls_for_a_turn(call: impl Fn()) -> u32 {
-    let mut calls = 1;
-    while time(calls, &call) < TURN {
-        calls *= 2;
-    }
-    calls
-}
-
-fn median(mut numbers: Vec<f64>) -> f64 {
-    numbers.sort_unstable_by(f64::total_cmp);
-    numbers[numbers.len() / 2]
-}
-
-/// The median microseconds of a call of each, and the median of their ratio.
-fn medians(product: impl Fn(), second: impl Fn()) -> [f64; 3] {
-    let calls = [calls_for_a_turn(&product), calls_for_a_turn(&second)];
-    let mut rounds = [vec![], vec![], vec![]];
-    for _ in 0..ROUNDS {
-        let product = time(calls[0], &product).as_secs_f64() / f64::from(calls[0]);
-        let second = time(calls[1], &second).as_secs_f64() / f64::from(calls[1]);
-        rounds[0].push(1e6 * product);
-        rounds[1].push(1e6 * second);
-        rounds[2].push(product / second);
-    }
-    rounds.map(median)
-}
-
-fn print_row(what: &str, case: &Case, [product, second, ratio]: [f64; 3]) {
-    let (name, bytes) = (case.name, case.circuit.len());
-    println!("{what:5}{name:25}{bytes:7}{product:10.2}{second:10.2}{ratio:7.2}");
+fn title(what: &str, name: &str, n: u32, bytes: usize) -> String {
+    format!("{what:9}{name:25}{n:3}{bytes:7}")
 }
 
 /// Takes a value as if it were used, so that its making is not left out.
@@ -114,24 +131,98 @@ fn used<T>(value: T) {
     black_box(&value);
 }
 
+/// Asserts that both accept the table, and run it to the same ends.
+fn assert_tables_agree(case: &TableCase, workspace: &mut [u8]) {
+    let TableCase { name, table, n, .. } = case;
+    assert_eq!(foq::verdict(table, *n, workspace), Ok(()), "{name}");
+    let number = foq_reference::verdict(table, *n, SHORTEST_WORKSPACE);
+    assert_eq!(number, 0, "{name}");
+    for &word in case.words.iter().take(100) {
+        let product = foq::run(table, *n, word, workspace).unwrap();
+        let second = foq_reference::run(table, *n, word, SHORTEST_WORKSPACE).unwrap();
+        assert_eq!(product, second, "{name}");
+    }
+}
+
+fn print_verdict(case: &TableCase, workspace: &mut [u8]) {
+    let table = || black_box(case.table.as_slice());
+    let n = || black_box(case.n);
+    let rounds = rounds([
+        &mut || used(foq::verdict(table(), n(), workspace)),
+        &mut || used(foq_reference::verdict(table(), n(), SHORTEST_WORKSPACE)),
+    ]);
+    let title = title("verdict", case.name, case.n, case.table.len());
+    print_row(&title, &rounds, [0, 1]);
+}
+
+/// Each side goes through the words in turn. The walk is what a run takes
+/// longer than a verdict.
+fn print_run(case: &TableCase, workspace: &mut [u8]) {
+    let table = || black_box(case.table.as_slice());
+    let n = || black_box(case.n);
+    let (mut ours, mut theirs) = (case.words.iter().cycle(), case.words.iter().cycle());
+    let other_workspace = &mut workspace.to_vec();
+    let rounds = rounds([
+        &mut || used(foq::verdict(table(), n(), workspace)),
+        &mut || used(foq_reference::verdict(table(), n(), SHORTEST_WORKSPACE)),
+        &mut || {
+            let word = *ours.next().unwrap();
+            used(foq::run(table(), n(), word, other_workspace));
+        },
+        &mut || {
+            let word = *theirs.next().unwrap();
+            used(foq_reference::run(table(), n(), word, SHORTEST_WORKSPACE));
+        },
+    ]);
+    let title = |what| title(what, case.name, case.n, case.table.len());
+    print_row(&title("run"), &rounds, [2, 3]);
+    print_row(&title(" verdict"), &rounds, [0, 1]);
+    let [product, second] =
+        [0, 1].map(|side| median(&rounds, |round| round[side + 2] - round[side]));
+    println!("{:44}{product:10.2}{second:10.2}", title(" walk"));
+}
+
+fn print_tables() {
+    let workspace = &mut vec![0; LEAST_WORKSPACE];
+    for case in verdict_cases() {
+        assert_tables_agree(&case, workspace);
+        print_verdict(&case, workspace);
+    }
+    for case in run_cases() {
+        assert_tables_agree(&case, workspace);
+        print_run(&case, workspace);
+    }
+}
+
+/// Asserts that both run the circuit, and to the same end.
+fn assert_circuits_agree(case: &CircuitCase) {
+    let product = foq::circuit_run(&case.circuit, case.word).unwrap();
+    let second = foq_reference::circuit_run(&case.circuit, case.word).unwrap();
+    assert_eq!(product.bits, second.wires, "{}", case.name);
+}
+
+fn print_circuit(case: &CircuitCase) {
+    let circuit = || black_box(case.circuit.as_slice());
+    let word = || black_box(case.word);
+    let rounds = rounds([
+        &mut || used(foq::circuit_read(circuit())),
+        &mut || used(foq_reference::read_circuit(circuit())),
+        &mut || used(foq::circuit_run(circuit(), word())),
+        &mut || used(foq_reference::circuit_run(circuit(), word())),
+    ]);
+    let title = |what| title(what, case.name, 32, case.circuit.len());
+    print_row(&title("read"), &rounds, [0, 1]);
+    print_row(&title("run"), &rounds, [2, 3]);
+}
+
 fn main() {
     println!(
-        "{:30}{:>7}{:>10}{:>10}{:>7}",
-        "", "bytes", "product", "second", "ratio"
+        "{:34}{:>3}{:>7}{:>10}{:>10}{:>7}",
+        "", "n", "bytes", "product", "second", "ratio"
     );
-    for case in cases() {
-        assert_agreed(&case);
-        let circuit = || black_box(case.circuit.as_slice());
-        let word = || black_box(case.word);
-        let read = medians(
-            || used(foq::circuit_read(circuit())),
-            || used(foq_reference::read_circuit(circuit())),
-        );
-        print_row("read", &case, read);
-        let run = medians(
-            || used(foq::circuit_run(circuit(), word())),
-            || used(foq_reference::circuit_run(circuit(), word())),
-        );
-        print_row("run", &case, run);
+    print_tables();
+    for case in circuit_cases() {
+        assert_circuits_agree(&case);
+        print_circuit(&case);
     }
 }

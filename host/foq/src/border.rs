@@ -6,6 +6,19 @@
 /// The length of a block in bytes.
 pub const BLOCK_LENGTH: usize = 32;
 
+/// The shortest workspace that is enough.
+pub const LEAST_WORKSPACE: usize = 32_768;
+
+/// `foq_answer`.
+#[repr(C)]
+#[derive(Clone, Copy, Debug, Default, PartialEq, Eq)]
+pub struct Answer {
+    /// 0 or a refusal's number.
+    pub number: u32,
+    /// The end word.
+    pub value: u64,
+}
+
 /// `foq_circuit`.
 #[repr(C)]
 #[derive(Clone, Copy, Debug, Default, PartialEq, Eq)]
@@ -36,9 +49,24 @@ pub struct Block {
 
 /// As `foq.h` declares them.
 mod declared {
-    use super::{Block, Circuit};
+    use super::{Answer, Block, Circuit};
 
     extern "C" {
+        pub fn foq_verdict(
+            table: *const u8,
+            length: usize,
+            n: u32,
+            workspace: *mut u8,
+            workspace_length: usize,
+        ) -> u32;
+        pub fn foq_run(
+            table: *const u8,
+            length: usize,
+            n: u32,
+            word: u64,
+            workspace: *mut u8,
+            workspace_length: usize,
+        ) -> Answer;
         pub fn foq_circuit_read(circuit: *const u8, length: usize) -> Circuit;
         pub fn foq_circuit_run(circuit: *const u8, length: usize, word: u64) -> Block;
     }
@@ -48,6 +76,38 @@ mod declared {
 // readable for the call and unchanged meanwhile; two slices of one call never
 // overlap where one of them is written; the structs above are laid out as C
 // lays out those of `foq.h`; the functions keep no pointer, and return.
+
+/// The verdict on a table, on n qubits. The workspace is zero afterwards.
+#[must_use]
+pub fn verdict(table: &[u8], n: u32, workspace: &mut [u8]) -> u32 {
+    // SAFETY: as above; the table is only read.
+    unsafe {
+        declared::foq_verdict(
+            table.as_ptr(),
+            table.len(),
+            n,
+            workspace.as_mut_ptr(),
+            workspace.len(),
+        )
+    }
+}
+
+/// The run of a table on n qubits, from a start word. The workspace is zero
+/// afterwards.
+#[must_use]
+pub fn run(table: &[u8], n: u32, word: u64, workspace: &mut [u8]) -> Answer {
+    // SAFETY: as above; the table is only read.
+    unsafe {
+        declared::foq_run(
+            table.as_ptr(),
+            table.len(),
+            n,
+            word,
+            workspace.as_mut_ptr(),
+            workspace.len(),
+        )
+    }
+}
 
 /// The circuit reader.
 #[must_use]

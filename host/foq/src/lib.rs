@@ -7,7 +7,7 @@
 pub mod border;
 mod refusal;
 
-pub use border::BLOCK_LENGTH;
+pub use border::{BLOCK_LENGTH, LEAST_WORKSPACE};
 pub use refusal::Refusal;
 
 /// A circuit's header.
@@ -41,6 +41,29 @@ impl Block {
             None => false,
         }
     }
+}
+
+/// The verdict: whether a table is accepted for n qubits. The workspace is zero
+/// afterwards.
+///
+/// # Errors
+/// [`Refusal::WRONG_QUBITS`]; then 1 to 8 in the order of the bytes; then
+/// [`Refusal::NO_REMOVAL`], [`Refusal::TOO_WIDE`], [`Refusal::ACCESS_FAULT`] and
+/// [`Refusal::SHORT_WORKSPACE`].
+pub fn verdict(table: &[u8], n: u32, workspace: &mut [u8]) -> Result<(), Refusal> {
+    Refusal::unless_success(border::verdict(table, n, workspace))
+}
+
+/// The run: the end word of a table on n qubits from a start word. The
+/// workspace is zero afterwards.
+///
+/// # Errors
+/// Those of [`verdict`], with [`Refusal::HIGH_BIT`] before
+/// [`Refusal::SHORT_WORKSPACE`].
+pub fn run(table: &[u8], n: u32, word: u64, workspace: &mut [u8]) -> Result<u64, Refusal> {
+    let answer = border::run(table, n, word, workspace);
+    Refusal::unless_success(answer.number)?;
+    Ok(answer.value)
 }
 
 /// The circuit reader.

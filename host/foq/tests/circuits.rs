@@ -2,6 +2,9 @@
 //! circuits that are well formed, damaged or at a limit. Each test counts the
 //! inputs of the classes that it is meant to reach, so that it cannot run empty.
 
+mod counts;
+
+use counts::{assert_reached, count, Counts};
 use foq::border;
 use foq_generator::circuits::{circuit, circuit_of, crowded_circuit, sizes};
 use foq_generator::damage::{damaged, single_changes, truncations};
@@ -9,23 +12,6 @@ use foq_generator::{Random, PAIRS};
 use foq_reference::{
     compile, read_circuit, Block, Circuit, Gate, LONGEST_CIRCUIT, SHORTEST_WORKSPACE,
 };
-use std::collections::BTreeMap;
-
-/// How many inputs show each class.
-type Counts = BTreeMap<&'static str, usize>;
-
-fn count(counts: &mut Counts, class: &'static str, shown: bool) {
-    *counts.entry(class).or_default() += usize::from(shown);
-}
-
-/// Asserts that each class has at least so many inputs.
-fn assert_reached(counts: &Counts, least: &[(&str, usize)]) {
-    println!("{counts:#?}");
-    for (class, least) in least {
-        let count = counts.get(class).copied().unwrap_or(0);
-        assert!(count >= *least, "{class}: {count} of {least}");
-    }
-}
 
 /// The answer that C is to see of a circuit read.
 fn header(read: &Result<Circuit, u32>) -> border::Circuit {

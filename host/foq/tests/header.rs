@@ -1,7 +1,7 @@
 //! The constants of `foq.h`, of the bindings and of the definitions that the
 //! proofs cite are the same ones.
 
-use foq::{Refusal, BLOCK_LENGTH};
+use foq::{Refusal, BLOCK_LENGTH, LEAST_WORKSPACE};
 use std::collections::BTreeMap;
 
 const HEADER: &str = include_str!("../../include/foq.h");
@@ -57,7 +57,13 @@ fn the_bindings_have_the_refusals_of_the_header() {
         assert_eq!(defined.get(*name), Some(&refusal.number()));
     }
     assert_eq!(Refusal::ALL.len(), 17);
-    assert_eq!(defined.get("BLOCK_LENGTH"), Some(&(BLOCK_LENGTH as u32)));
+    let lengths = [
+        ("BLOCK_LENGTH", BLOCK_LENGTH),
+        ("LEAST_WORKSPACE", LEAST_WORKSPACE),
+    ];
+    for (name, length) in lengths {
+        assert_eq!(defined.get(name), Some(&(length as u32)));
+    }
 }
 
 #[test]

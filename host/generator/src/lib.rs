@@ -8,6 +8,8 @@
 //! - [`tree`] holds the trees and [`tree::encode`].
 //! - [`programs`] makes programs that are mostly accepted and wild ones that
 //!   mostly are not.
+//! - [`tables`] holds single tables: small ones of every kind, and those at a
+//!   limit.
 //! - [`circuits`] makes well-formed circuits, and circuits of given gates.
 //! - [`damage`] spoils bytes.
 
@@ -16,6 +18,7 @@
 pub mod circuits;
 pub mod damage;
 pub mod programs;
+pub mod tables;
 pub mod tree;
 
 mod random;

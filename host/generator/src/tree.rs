@@ -75,6 +75,44 @@ pub fn qcase(
     Statement::Qcase(removals, position, Box::new(zero), Box::new(one))
 }
 
+/// A NOT at a position of the whole list.
+#[must_use]
+pub fn not(position: i16) -> Statement {
+    Statement::Not(vec![], Number::Constant(position))
+}
+
+/// A qcase on a position of the whole list.
+#[must_use]
+pub fn case(position: i16, zero: Statement, one: Statement) -> Statement {
+    qcase(vec![], Number::Constant(position), zero, one)
+}
+
+/// A call that removes these positions, one after the other.
+#[must_use]
+pub fn call(procedure: u8, removed: &[i16]) -> Statement {
+    let removed = removed.iter().map(|&position| Number::Constant(position));
+    Statement::Call(removed.collect(), procedure)
+}
+
+/// Whether the whole list is longer than this.
+#[must_use]
+pub fn longer_than(size: i16) -> Condition {
+    Condition::Greater(Number::SizePlus(0), Number::Constant(size))
+}
+
+/// The table of a main statement and bodies; procedure 1 stands first.
+#[must_use]
+pub fn table(main: Statement, bodies: &[Statement]) -> Vec<u8> {
+    let bodies = bodies.to_vec();
+    encode(&Program { main, bodies })
+}
+
+/// The table of a procedure 1 that main calls with its whole list.
+#[must_use]
+pub fn procedure(body: Statement) -> Vec<u8> {
+    table(call(1, &[]), &[body])
+}
+
 /// The table of a program. The number of procedures and the counts of
 /// removals are written as their lowest eight bits.
 #[must_use]

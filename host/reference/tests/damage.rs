@@ -4,8 +4,9 @@
 use foq_generator::circuits::circuit;
 use foq_generator::damage::{damaged, single_changes, truncations};
 use foq_generator::programs::{program, wild_program, LARGE, MERGING, SMALL};
-use foq_generator::tree::{choose, encode, qcase, sequence, Condition, Number, Program, Statement};
-use foq_generator::Random;
+use foq_generator::tables::every_kind;
+use foq_generator::tree::encode;
+use foq_generator::{Random, PAIRS};
 use foq_reference::{
     circuit_bytes, circuit_run, compile, listing, plain_verdict, read_circuit, run, verdict,
 };
@@ -41,48 +42,6 @@ fn ask(table: &[u8], n: u32, verdicts: &mut Verdicts) {
     }
 }
 
-/// A table with every kind of record, which swaps and nests.
-fn every_kind() -> Vec<u8> {
-    let (constant, size) = (Number::Constant, Number::SizePlus);
-    let long = Condition::And(
-        Box::new(Condition::Greater(size(0), constant(2))),
-        Box::new(Condition::Not(Box::new(Condition::Or(
-            Box::new(Condition::Equal(size(1), constant(1))),
-            Box::new(Condition::AtLeast(constant(2), size(0))),
-        )))),
-    );
-    let again = |second| Statement::Call(vec![constant(1), constant(second)], 1);
-    let split = qcase(vec![], constant(1), again(1), again(2));
-    let flip = Statement::Not(vec![size(0)], constant(1));
-    let yes = sequence(flip, sequence(split, Statement::Call(vec![], 2)));
-    let main = Statement::Call(vec![], 1);
-    let bodies = vec![
-        choose(long, yes, Statement::Skip),
-        Statement::Not(vec![], size(0)),
-    ];
-    encode(&Program { main, bodies })
-}
-
-/// PAIRS from document 01.
-fn pairs() -> Vec<u8> {
-    let (constant, size) = (Number::Constant, Number::SizePlus);
-    let again = || Statement::Call(vec![constant(1), constant(1)], 1);
-    let skip = || Statement::Skip;
-    let body = choose(
-        Condition::Greater(size(0), constant(1)),
-        qcase(
-            vec![],
-            constant(1),
-            qcase(vec![], constant(2), again(), skip()),
-            qcase(vec![], constant(2), skip(), again()),
-        ),
-        Statement::Not(vec![], constant(1)),
-    );
-    let main = Statement::Call(vec![], 1);
-    let bodies = vec![body];
-    encode(&Program { main, bodies })
-}
-
 /// Asserts that each of these numbers was a verdict.
 fn assert_met(verdicts: &Verdicts, numbers: impl IntoIterator<Item = u32>) {
     println!("{verdicts:?}");
@@ -93,7 +52,7 @@ fn assert_met(verdicts: &Verdicts, numbers: impl IntoIterator<Item = u32>) {
 
 #[test]
 fn every_truncation_stops_too_soon() {
-    for table in [pairs(), every_kind()] {
+    for table in [PAIRS.to_vec(), every_kind()] {
         for truncated in truncations(&table) {
             assert_eq!(verdict(&truncated, 3, WORKSPACE), 1);
             assert_eq!(plain_verdict(&truncated, 3, WORKSPACE), 1);
@@ -106,7 +65,7 @@ fn every_truncation_stops_too_soon() {
 #[test]
 fn every_single_change_has_an_answer() {
     let mut verdicts = Verdicts::new();
-    for table in [pairs(), every_kind()] {
+    for table in [PAIRS.to_vec(), every_kind()] {
         ask(&table, 4, &mut verdicts);
         for changed in single_changes(&table) {
             for n in [1, 2, 3, 4] {
@@ -218,7 +177,7 @@ fn damaged_circuits_have_an_answer() {
             assert_eq!(circuit_run(bytes, 1 << 32), Err(14));
         }
     };
-    let pairs = compile(&pairs(), 5, ROOM, WORKSPACE).unwrap();
+    let pairs = compile(PAIRS, 5, ROOM, WORKSPACE).unwrap();
     single_changes(&pairs).for_each(|changed| read_back(&changed));
     for _ in 0..10_000 {
         let whole = circuit(&mut random, 4, 6, 8);

@@ -1,7 +1,13 @@
 //! The worked programs of document 01, a table for each refusal, and the order
 //! of refusals where two apply.
 
-use foq_generator::tree::{choose, encode, qcase, sequence, Condition, Number, Program, Statement};
+use foq_generator::tables::{
+    closed_through_a_call, full, leaning_right, negations, one_in_each_branch, two_in_sequence,
+    without_removal,
+};
+use foq_generator::tree::{
+    call, case, choose, longer_than, not, procedure, sequence, table, Number, Statement,
+};
 use foq_reference::{
     circuit_run, compile, emission, gate_bound, listing, plain_verdict, read_circuit, read_table,
     run, verdict, Action, Control, Emission,
@@ -23,33 +29,6 @@ fn bytes(hexadecimal: &str) -> Vec<u8> {
     words
         .map(|word| u8::from_str_radix(word, 16).unwrap())
         .collect()
-}
-
-fn table(main: Statement, bodies: &[Statement]) -> Vec<u8> {
-    let bodies = bodies.to_vec();
-    encode(&Program { main, bodies })
-}
-
-fn call(procedure: u8, removed: &[i16]) -> Statement {
-    let removed = removed.iter().map(|&position| Constant(position));
-    Statement::Call(removed.collect(), procedure)
-}
-
-fn not(position: i16) -> Statement {
-    Statement::Not(vec![], Constant(position))
-}
-
-fn case(position: i16, zero: Statement, one: Statement) -> Statement {
-    qcase(vec![], Constant(position), zero, one)
-}
-
-fn longer_than(size: i16) -> Condition {
-    Condition::Greater(SizePlus(0), Constant(size))
-}
-
-/// The table of a procedure 1 that main calls with its whole list.
-fn procedure(body: Statement) -> Vec<u8> {
-    table(call(1, &[]), &[body])
 }
 
 /// The verdict, the same from the quick and the plain look for faults.
@@ -168,15 +147,14 @@ fn the_bound_stops_at_the_largest_number() {
 
 #[test]
 fn self_calls_in_sequence_are_too_wide() {
-    let twice = procedure(sequence(call(1, &[1]), call(1, &[1])));
     for n in [1, 2, 3, 4, 32] {
-        assert_eq!(judged(&twice, n), 11);
+        assert_eq!(judged(&two_in_sequence(), n), 11);
     }
 }
 
 #[test]
 fn self_calls_in_the_branches_of_a_qcase_are_accepted() {
-    let branches = procedure(case(1, call(1, &[1]), call(1, &[1])));
+    let branches = one_in_each_branch();
     for n in 1..=8 {
         assert_eq!(judged(&branches, n), 0);
         compare_all_words(&branches, n);
@@ -186,7 +164,7 @@ fn self_calls_in_the_branches_of_a_qcase_are_accepted() {
 
 #[test]
 fn a_self_call_without_removal_is_refused() {
-    assert_eq!(judged(&procedure(call(1, &[])), 3), 10);
+    assert_eq!(judged(&without_removal(), 3), 10);
     assert_eq!(judged(&procedure(call(1, &[1])), 3), 0);
 }
 
@@ -259,10 +237,9 @@ fn not_is_accepted_at_n_only_within_the_list() {
 
 #[test]
 fn a_closed_qubit_is_found_through_a_call() {
-    let body = case(1, call(1, &[1]), call(1, &[2]));
-    assert_eq!(judged(&procedure(body.clone()), 1), 0);
+    assert_eq!(judged(&closed_through_a_call(), 1), 0);
     for n in 2..=6 {
-        assert_eq!(judged(&procedure(body.clone()), n), 12);
+        assert_eq!(judged(&closed_through_a_call(), n), 12);
     }
 }
 
@@ -474,27 +451,18 @@ fn sixteen_procedures_are_read() {
     assert_eq!(judged(&table(call(17, &[]), &bodies), 3), 6);
 }
 
-/// A sequence leaning right whose deepest records are this deep.
-fn deep(depth: usize) -> Statement {
-    (1..depth).fold(Statement::Skip, |rest, _| sequence(Statement::Skip, rest))
-}
-
 #[test]
 fn trees_are_at_most_32_records_deep() {
+    let deep = |depth| leaning_right(depth, Statement::Skip);
     assert_eq!(judged(&table(deep(32), &[deep(32)]), 3), 0);
     assert_eq!(judged(&table(deep(33), &[]), 3), 7);
     assert_eq!(judged(&table(deep(1), &[deep(33)]), 3), 7);
-    let asks = |depth| {
-        let nots = (2..depth).fold(longer_than(1), |inner, _| Condition::Not(Box::new(inner)));
-        table(choose(nots, Statement::Skip, Statement::Skip), &[])
+    let asks = |depth: usize| {
+        let condition = negations(depth - 1);
+        table(choose(condition, Statement::Skip, Statement::Skip), &[])
     };
     assert_eq!(judged(&asks(32), 3), 0);
     assert_eq!(judged(&asks(33), 3), 7);
-}
-
-/// A full tree of sequences with this many levels, 2^levels − 1 records.
-fn full(levels: usize) -> Statement {
-    (1..levels).fold(Statement::Skip, |half, _| sequence(half.clone(), half))
 }
 
 #[test]

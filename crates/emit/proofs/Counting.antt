@@ -1,0 +1,161 @@
+-- The ways out of `count_calls`: the number of recursive calls does not depend on their ancillas.
+use mathlib.Core.Path.{_≡_, refl, sym, _∙_}
+use mathlib.Core.Bool.{Bool, true, false}
+use mathlib.Core.List.{List, [], _∷_}
+use Prim.Native.Nat.{ℕ, suc, _+_, _-_, _≤_, _<_, min}
+use native.Mathlib.Omega.{arith}
+use borrow.Author.Needs.{needs}
+use borrow.Author.Tests.{lt-ltb, le-ltb}
+use lib.ListN.{length, length-append}
+use Rattle.model.specs.Syntax.{Statement, skip, NOT, sequence, if, qcase, call}
+use Rattle.model.specs.Lists.{remaining, holds}
+use Rattle.model.specs.Reach.{width}
+use Rattle.model.specs.Emission.{invoked, isWide, invocations}
+use Rattle.model.proofs.Tests.{byBool}
+use Rattle.agreement.proofs.Clauses.{invocations-wide, invocations-thin, invocations-yes, invocations-no, invocations-recursive, invocations-other}
+use Rattle.records.specs.Fields.{removalsOf}
+use Rattle.table.specs.Index.{testAt, statementAt}
+use Rattle.step.specs.declared.Step.{Step}
+use Rattle.step.specs.declared.Step.the-variants as step
+use Rattle.step.specs.Steps.{stepAt}
+use Rattle.emit.proofs.Stepping.{at-step, spent-skip}
+
+pub invoked-count : (f g : ℕ) (l : List ℕ) (a b : ℕ) → length (invoked f l a) ≡ length (invoked g l b)
+unfolding invoked
+invoked-count f g [] a b = refl
+invoked-count f g (q ∷ l) a b = refl
+
+-- the number of recursive calls is the same whatever the ancillas
+pub same-count : (r : ℕ → Bool) (s : Statement) (l : List ℕ) (a b : ℕ) → length (invocations r s l a) ≡ length (invocations r s l b)
+unfolding invocations
+same-count r skip l a b = refl
+same-count r (NOT rs q) l a b = refl
+same-count r (sequence s t) l a b = byBool (isWide r s)
+    (λ e. rw (invocations-wide r l a s t e, invocations-wide r l b s t e) (same-count r s l a b))
+    (λ e. rw (invocations-thin r l a s t e, invocations-thin r l b s t e) (same-count r t l a b))
+same-count r (if c s t) l a b = byBool (holds c (length l))
+    (λ e. rw (invocations-yes r l a c s t e, invocations-yes r l b c s t e) (same-count r s l a b))
+    (λ e. rw (invocations-no r l a c s t e, invocations-no r l b c s t e) (same-count r t l a b))
+same-count r (qcase rs q s t) l a b =
+    length-append (invocations r s l a) (invocations r t l (a + length (invocations r s l a)))
+      ∙ both (same-count r s l a b) (same-count r t l (a + length (invocations r s l a)) (b + length (invocations r s l b)))
+      ∙ sym (length-append (invocations r s l b) (invocations r t l (b + length (invocations r s l b))))
+    where
+      both : {w x y z : ℕ} → w ≡ x → y ≡ z → w + y ≡ x + z
+      both e f = rw (e, f)
+same-count r (call rs f) l a b = byBool (r f)
+    (λ e. rw (invocations-recursive r l a rs f e, invocations-recursive r l b rs f e) (invoked-count f f (remaining rs l) a b))
+    (λ e. rw (invocations-other r l a rs f e, invocations-other r l b rs f e))
+
+-- the ways out of `one_unless_empty`
+no-call : (l : List ℕ) → length l ≡ 0 → 0 ≡ min 65535 (length (invoked 0 l 0))
+unfolding invoked
+no-call [] e = refl
+no-call (q ∷ l) e = absurd (not-zero (length l) e)
+  where
+    not-zero : (k : ℕ) → suc k ≡ 0 → ⊥
+    not-zero k e = omega arith
+
+one-call : (l : List ℕ) → (length l ≡ 0 → ⊥) → 1 ≡ min 65535 (length (invoked 0 l 0))
+unfolding invoked
+one-call [] h = absurd (h refl)
+one-call (q ∷ l) h = omega arith
+
+module _ (l : List ℕ) (n : ℕ) (is : n ≡ length l) where
+  pub one-none : n ≡ 0 → 0 ≡ min 65535 (length (invoked 0 l 0))
+  one-none e = no-call l (sym is ∙ e)
+
+  pub one-some : (n ≡ 0 → ⊥) → 1 ≡ min 65535 (length (invoked 0 l 0))
+  one-some h = one-call l (λ e. h (is ∙ e))
+
+module _ (r : ℕ → Bool) (p : ℕ) (bs ix : List ℕ) (i depth : ℕ) (l : List ℕ) where
+  abbrev counted : ℕ → ℕ
+  counted j = length (invocations r (statementAt p bs ix (depth - 1) j) l 0)
+
+  abbrev total : ℕ
+  total = length (invocations r (statementAt p bs ix depth i) l 0)
+
+  idle : statementAt p bs ix depth i ≡ skip → 0 ≡ min 65535 total
+  unfolding invocations
+  idle e = rw e
+
+  pub count-spent : depth ≡ 0 → 0 ≡ min 65535 (length (invocations r (statementAt p bs ix depth i) l 0))
+  count-spent e = idle (spent-skip p bs ix depth i e)
+
+  module _ (found : Step) (nz : depth ≡ 0 → ⊥) (is : found ≡ stepAt p bs ix i l) where
+    pub count-nothing : found ≡ step.Nothing → 0 ≡ min 65535 (length (invocations r (statementAt p bs ix depth i) l 0))
+    count-nothing e = idle (at-step p bs ix depth i l nz is e)
+
+    pub count-touches : (q : ℕ) → found ≡ step.Touches q → 0 ≡ min 65535 (length (invocations r (statementAt p bs ix depth i) l 0))
+    unfolding invocations
+    count-touches q e = let h = at-step p bs ix depth i l nz is e in rw (h .2)
+
+    pub count-holds : (b : Bool) → found ≡ step.Holds b → 0 ≡ min 65535 (length (invocations r (statementAt p bs ix depth i) l 0))
+    count-holds b e = idle (at-step p bs ix depth i l nz is e)
+
+    pub count-both : (a b : ℕ) → found ≡ step.Both a b → 0 ≡ min 65535 (length (invocations r (statementAt p bs ix depth i) l 0))
+    count-both a b e = idle (at-step p bs ix depth i l nz is e)
+
+    pub count-either : (a b : ℕ) → found ≡ step.Either a b → 0 ≡ min 65535 (length (invocations r (statementAt p bs ix depth i) l 0))
+    count-either a b e = idle (at-step p bs ix depth i l nz is e)
+
+    pub count-negates : (a : ℕ) → found ≡ step.Negates a → 0 ≡ min 65535 (length (invocations r (statementAt p bs ix depth i) l 0))
+    count-negates a e = idle (at-step p bs ix depth i l nz is e)
+
+    module _ (a b n : ℕ) where
+      pub count-wide : (w : ℕ) → found ≡ step.Sequence a b → w ≡ min 2 (width r (statementAt p bs ix (depth - 1) a)) → 0 < w →
+          n ≡ min 65535 (length (invocations r (statementAt p bs ix (depth - 1) a) l 0)) →
+          n ≡ min 65535 (length (invocations r (statementAt p bs ix depth i) l 0))
+      count-wide w e k h q =
+        let x = statementAt p bs ix (depth - 1) a in
+        let wide : isWide r x ≡ true = lt-ltb 0 (width r x) (omega arith) in
+        rw (at-step p bs ix depth i l nz is e, invocations-wide r l 0 x (statementAt p bs ix (depth - 1) b) wide) q
+
+      pub count-thin : (w : ℕ) → found ≡ step.Sequence a b → w ≡ min 2 (width r (statementAt p bs ix (depth - 1) a)) → w ≤ 0 →
+          n ≡ min 65535 (length (invocations r (statementAt p bs ix (depth - 1) b) l 0)) →
+          n ≡ min 65535 (length (invocations r (statementAt p bs ix depth i) l 0))
+      count-thin w e k h q =
+        let x = statementAt p bs ix (depth - 1) a in
+        let thin : isWide r x ≡ false = le-ltb 0 (width r x) (omega arith) in
+        rw (at-step p bs ix depth i l nz is e, invocations-thin r l 0 x (statementAt p bs ix (depth - 1) b) thin) q
+
+      pub count-yes : (c : ℕ) (t : Bool) → found ≡ step.Chooses c a b → t ≡ holds (testAt p bs ix (depth - 1) c) (length l) → t ≡ true →
+          n ≡ min 65535 (length (invocations r (statementAt p bs ix (depth - 1) a) l 0)) →
+          n ≡ min 65535 (length (invocations r (statementAt p bs ix depth i) l 0))
+      count-yes c t e h y q =
+        rw (at-step p bs ix depth i l nz is e, invocations-yes r l 0 (testAt p bs ix (depth - 1) c) (statementAt p bs ix (depth - 1) a) (statementAt p bs ix (depth - 1) b) (sym h ∙ y)) q
+
+      pub count-no : (c : ℕ) (t : Bool) → found ≡ step.Chooses c a b → t ≡ holds (testAt p bs ix (depth - 1) c) (length l) → t ≡ false →
+          n ≡ min 65535 (length (invocations r (statementAt p bs ix (depth - 1) b) l 0)) →
+          n ≡ min 65535 (length (invocations r (statementAt p bs ix depth i) l 0))
+      count-no c t e h y q =
+        rw (at-step p bs ix depth i l nz is e, invocations-no r l 0 (testAt p bs ix (depth - 1) c) (statementAt p bs ix (depth - 1) a) (statementAt p bs ix (depth - 1) b) (sym h ∙ y)) q
+
+      pub count-branches : (q first second : ℕ) → found ≡ step.Branches q a b →
+          first ≡ min 65535 (length (invocations r (statementAt p bs ix (depth - 1) a) l 0)) →
+          second ≡ min 65535 (length (invocations r (statementAt p bs ix (depth - 1) b) l 0)) → n ≡ min 65535 (first + second) →
+          n ≡ min 65535 (length (invocations r (statementAt p bs ix depth i) l 0))
+      unfolding invocations
+      count-branches q first second e f g s =
+        let h = at-step p bs ix depth i l nz is e in
+        let x = statementAt p bs ix (depth - 1) a in
+        let y = statementAt p bs ix (depth - 1) b in
+        let m = 0 + length (invocations r x l 0) in
+        let k = same-count r y l m 0 in
+        rw (h .2, length-append (invocations r x l 0) (invocations r y l m)) (omega arith)
+
+    pub count-recursive : (g at n : ℕ) (rest : List ℕ) (b : Bool) → found ≡ step.Calls g at → b ≡ r g → b ≡ true →
+        rest ≡ remaining (removalsOf bs at) l → n ≡ min 65535 (length (invoked 0 rest 0)) →
+        n ≡ min 65535 (length (invocations r (statementAt p bs ix depth i) l 0))
+    count-recursive g at n rest b e h y q k =
+      let c = invoked-count 0 g (remaining (removalsOf bs at) l) 0 0 in
+      rw (at-step p bs ix depth i l nz is e, invocations-recursive r l 0 (removalsOf bs at) g (sym h ∙ y), ← c, ← q) k
+
+    pub count-other : (g at : ℕ) (b : Bool) → found ≡ step.Calls g at → b ≡ r g → b ≡ false →
+        0 ≡ min 65535 (length (invocations r (statementAt p bs ix depth i) l 0))
+    count-other g at b e h y = rw (at-step p bs ix depth i l nz is e, invocations-other r l 0 (removalsOf bs at) g (sym h ∙ y))
+
+pub ruleset counting = (
+    needs, one-none, one-some, count-spent, count-nothing, count-touches, count-holds, count-both, count-either, count-negates, count-wide,
+    count-thin, count-yes, count-no, count-branches, count-recursive, count-other
+  )

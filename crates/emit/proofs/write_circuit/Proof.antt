@@ -1,0 +1,14 @@
+-- `write_circuit` meets its contract: each way out is one law.
+use Rattle.emit.proofs.Compiling.{compiling}
+use borrow.Author.Needs.{needs}
+use Rattle.emit.proofs.write_circuit.Statement.{statement}
+use Rattle.emit.proofs.write_circuit.Tie as tie
+
+pub write-circuit-spec : {M : Type 1} → statement M
+write-circuit-spec = tie.close (tie.spec
+    (λ c κs. search needs)
+    (λ c κs. search needs)
+    (λ c κs. search needs)
+    (λ c. search needs)
+    (λ c. search needs)
+    (λ c. search compiling))

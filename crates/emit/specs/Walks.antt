@@ -1,0 +1,193 @@
+-- What the walkers promise: the events of the definitions are scanned, and the slots of the workspace below the next wire stay as they are.
+use Prim.Native.Nat.{ℕ, zero, suc, _+_, _-_, _≤_, _<_}
+use mathlib.Core.Path.{_≡_}
+use mathlib.Core.Bool.{Bool}
+use mathlib.Core.List.{List, [], _++_}
+use lib.ListN.{length, getD}
+use lib.Dec.{ltb, leb}
+use Rattle.model.specs.Limits.{mostProcedures, mostQubits, mostDepth, headerLength, noRoom}
+use Rattle.model.specs.Syntax.{Program, body}
+use Rattle.model.specs.Lists.{member}
+use Rattle.model.specs.Reach.{recursive}
+use Rattle.model.specs.Gates.{Controls}
+use Rattle.model.specs.Emission.{Event, Chains, startChain, whole, Invocation, invoked, invocations, invokes, left, right, under, Emitted, bodyInvocations, around, bodies, bodiesFrom, chainsWithin, emission, gates, peak}
+use Rattle.model.specs.Circuit.{encodeAll, write}
+use Rattle.model.specs.Answers.{Outcome, gives, require, fitted, fit, circuit, usable, number, valueOr, roomAfter}
+use Rattle.records.specs.Fields.{pick}
+use Rattle.table.specs.Index.{statementAt, programAt}
+use Rattle.reach.specs.Walk.{reachAt}
+use Rattle.emit.specs.declared.Emit.{Emit}
+use Rattle.emit.specs.declared.Compiled.{Compiled}
+use Rattle.emit.specs.Scan.{seen, scan, begun, slotAt, slotOf, heldIn}
+use Rattle.emit.specs.Slots.{appears}
+
+-- the events are scanned; the workspace below the first next wire is as it was
+pub record Follows (write : Bool) (es : List Event) (st : Emit) (room ws : List ℕ) (r : Emit) (room₁ ws₁ : List ℕ) : Type 0 where
+  pub scanned : seen r room₁ ≡ scan write es (seen st room)
+  pub long : length ws₁ ≡ length ws
+  pub rises : st .next ≤ r .next
+  pub low : st .next ≤ 256 → r .next ≤ 256
+  pub kept : (i : ℕ) → i < slotAt (st .next) → getD ws₁ i 0 ≡ getD ws i 0
+
+-- the same, and the slots from the first next wire on hold the new invocations
+pub record Opens (write : Bool) (es : List Event) (news : List Invocation) (st : Emit) (room ws : List ℕ) (r : Emit) (room₁ ws₁ : List ℕ) : Type 0 where
+  pub follows : Follows write es st room ws r room₁ ws₁
+  pub held : r .status ≡ 0 → heldIn ws₁ (st .next) (length news) ≡ news
+
+-- a table of at most 16 procedures with its matrix, wires that are one byte, and a workspace that is long enough
+pub record Ready (bs ix m : List ℕ) (p : ℕ) (st : Emit) (ws : List ℕ) : Type 0 where
+  pub few : p ≤ 16
+  pub reach : m ≡ reachAt p bs ix
+  pub some : 0 < st .next
+  pub low : st .next ≤ 256
+  pub space : 8704 ≤ length ws
+
+-- how deep a body is: nothing where no procedure is f
+abbrev pub bodyDepth : ℕ → ℕ → ℕ
+bodyDepth p f = pick (ltb p f) 0 mostDepth
+
+-- room for the controls of the qcases to come
+pub record Roomy (depth : ℕ) (cs : Controls) : Type 0 where
+  pub ones : length (cs .ones) + depth ≤ 33
+  pub zeros : length (cs .zeros) + depth ≤ 33
+
+-- a call that names a pair
+pub data Invokes (f : ℕ) (l : List ℕ) (cs : Controls) (write : Bool) (st : Emit) (room ws : List ℕ) (r : Emit) (room₁ ws₁ : List ℕ) : Type 0 where
+  fills-slot : (8704 ≤ length ws → Opens write (invokes l cs (st .next)) (invoked f l (st .next)) st room ws r room₁ ws₁) →
+      Invokes f l cs write st room ws r room₁ ws₁
+
+module _ (bs ix : List ℕ) (p k : ℕ) where
+  abbrev pub programIn : Program
+  programIn = programAt p bs ix
+
+  abbrev pub chainsIn : Chains
+  chainsIn = chainsWithin programIn k
+
+  -- the bodies of lists of length m and shorter, where `calls` of length m are still to be looked at
+  unfoldable pub bodiesUpTo : ℕ → List ℕ → List Invocation → List Invocation → ℕ → Emitted
+  bodiesUpTo zero known calls all next = record { events = []; next = next }
+  bodiesUpTo (suc m) known calls all next = bodies programIn chainsIn (suc m) (bodiesFrom programIn chainsIn m) known calls all next
+
+  abbrev pub leftOf : Invocation → ℕ → List Event
+  leftOf d next = left chainsIn (recursive programIn (d .procedure)) (body programIn (d .procedure)) (d .list) (under (d .ancilla)) next
+
+  abbrev pub rightOf : Invocation → ℕ → ℕ → List Event
+  rightOf d next top = right chainsIn (recursive programIn (d .procedure)) (body programIn (d .procedure)) (d .list) (under (d .ancilla)) next top
+
+-- `procedures` are those of the slots from `base` to before `from` with lists of length n
+abbrev pub SeenIn : List ℕ → ℕ → ℕ → ℕ → List ℕ → Type 0
+SeenIn ws base n from procedures = (f : ℕ) → member f procedures ≡ appears ws base (from - base) f n
+
+-- one for each walker
+pub data Whole (bs ix m : List ℕ) (p k : ℕ) (write : Bool) (st : Emit) (room ws : List ℕ) (r : Emit) (room₁ ws₁ : List ℕ)
+    (i depth : ℕ) (l : List ℕ) (cs : Controls) : Type 0 where
+  walks-whole : (Ready bs ix m p st ws → Roomy depth cs →
+      Follows write (whole (chainsIn bs ix p k) (statementAt p bs ix depth i) l cs (st .next)) st room ws r room₁ ws₁) →
+      Whole bs ix m p k write st room ws r room₁ ws₁ i depth l cs
+
+pub data Call (bs ix m : List ℕ) (p k : ℕ) (write : Bool) (st : Emit) (room ws : List ℕ) (r : Emit) (room₁ ws₁ : List ℕ)
+    (f : ℕ) (l : List ℕ) (cs : Controls) : Type 0 where
+  walks-call : (Ready bs ix m p st ws → Follows write (startChain (chainsIn bs ix p k) f l cs (st .next)) st room ws r room₁ ws₁) →
+      Call bs ix m p k write st room ws r room₁ ws₁ f l cs
+
+pub data Left (bs ix m : List ℕ) (p k : ℕ) (write : Bool) (st : Emit) (room ws : List ℕ) (r : Emit) (room₁ ws₁ : List ℕ)
+    (f i depth : ℕ) (l : List ℕ) (cs : Controls) : Type 0 where
+  walks-left : (Ready bs ix m p st ws → Roomy depth cs →
+      Opens write (left (chainsIn bs ix p k) (recursive (programAt p bs ix) f) (statementAt p bs ix depth i) l cs (st .next))
+        (invocations (recursive (programAt p bs ix) f) (statementAt p bs ix depth i) l (st .next)) st room ws r room₁ ws₁) →
+      Left bs ix m p k write st room ws r room₁ ws₁ f i depth l cs
+
+pub data Right (bs ix m : List ℕ) (p k : ℕ) (write : Bool) (st : Emit) (room ws : List ℕ) (r : Emit) (room₁ ws₁ : List ℕ)
+    (f i depth : ℕ) (l : List ℕ) (cs : Controls) (first : ℕ) : Type 0 where
+  walks-right : (Ready bs ix m p st ws → Roomy depth cs →
+      (st .status ≡ 0 → first + length (invocations (recursive (programAt p bs ix) f) (statementAt p bs ix depth i) l first) ≤ 256) →
+      Follows write (right (chainsIn bs ix p k) (recursive (programAt p bs ix) f) (statementAt p bs ix depth i) l cs first (st .next))
+        st room ws r room₁ ws₁) →
+      Right bs ix m p k write st room ws r room₁ ws₁ f i depth l cs first
+
+pub data Fore (bs ix m : List ℕ) (p k : ℕ) (write : Bool) (st : Emit) (room ws : List ℕ) (r : Emit) (room₁ ws₁ : List ℕ)
+    (d : ℕ) : Type 0 where
+  walks-fore : (Ready bs ix m p st ws → d ≤ 255 →
+      Opens write (leftOf bs ix p k (slotOf ws d) (st .next)) (bodyInvocations (programAt p bs ix) (chainsIn bs ix p k) (slotOf ws d) (st .next))
+        st room ws r room₁ ws₁) →
+      Fore bs ix m p k write st room ws r room₁ ws₁ d
+
+pub data Back (bs ix m : List ℕ) (p k : ℕ) (write : Bool) (st : Emit) (room ws : List ℕ) (r : Emit) (room₁ ws₁ : List ℕ)
+    (d first : ℕ) : Type 0 where
+  walks-back : (Ready bs ix m p st ws → d ≤ 255 →
+      (st .status ≡ 0 → first + length (bodyInvocations (programAt p bs ix) (chainsIn bs ix p k) (slotOf ws d) first) ≤ 256) →
+      Follows write (rightOf bs ix p k (slotOf ws d) first (st .next)) st room ws r room₁ ws₁) →
+      Back bs ix m p k write st room ws r room₁ ws₁ d first
+
+pub data Bodies (bs ix m : List ℕ) (p k : ℕ) (write : Bool) (st : Emit) (room ws : List ℕ) (r : Emit) (room₁ ws₁ : List ℕ)
+    (base n j upto : ℕ) : Type 0 where
+  walks-bodies : (Ready bs ix m p st ws → base ≤ j → upto ≤ st .next → base ≤ st .next → (procedures : List ℕ) → SeenIn ws base n j procedures →
+      Follows write (bodiesUpTo bs ix p k n procedures (heldIn ws j (upto - j)) (heldIn ws base (st .next - base)) (st .next) .events)
+        st room ws r room₁ ws₁) →
+      Bodies bs ix m p k write st room ws r room₁ ws₁ base n j upto
+
+pub data Rest (bs ix m : List ℕ) (p k : ℕ) (write : Bool) (st : Emit) (room ws : List ℕ) (r : Emit) (room₁ ws₁ : List ℕ)
+    (base n d upto first : ℕ) : Type 0 where
+  walks-rest : (Ready bs ix m p st ws → base ≤ d → d < upto → upto ≤ first → first ≤ st .next →
+      (st .status ≡ 0 → first + length (bodyInvocations (programAt p bs ix) (chainsIn bs ix p k) (slotOf ws d) first) ≤ 256) →
+      (procedures : List ℕ) → SeenIn ws base n (d + 1) procedures →
+      Follows write
+        (let inner = bodiesUpTo bs ix p k n procedures (heldIn ws (d + 1) (upto - (d + 1))) (heldIn ws base (st .next - base)) (st .next) in
+          inner .events ++ rightOf bs ix p k (slotOf ws d) first (inner .next)) st room ws r room₁ ws₁) →
+      Rest bs ix m p k write st room ws r room₁ ws₁ base n d upto first
+
+pub data Inner (bs ix m : List ℕ) (p k : ℕ) (write : Bool) (st : Emit) (room ws : List ℕ) (r : Emit) (room₁ ws₁ : List ℕ)
+    (base n d upto : ℕ) : Type 0 where
+  walks-inner : (Ready bs ix m p st ws → base ≤ d → d < upto → upto ≤ st .next → (procedures : List ℕ) → SeenIn ws base n (d + 1) procedures →
+      Follows write
+        (let news = bodyInvocations (programAt p bs ix) (chainsIn bs ix p k) (slotOf ws d) (st .next) in
+          let inner = bodiesUpTo bs ix p k n procedures (heldIn ws (d + 1) (upto - (d + 1))) (heldIn ws base (st .next - base) ++ news)
+            (st .next + length news) in
+          leftOf bs ix p k (slotOf ws d) (st .next) ++ (inner .events ++ rightOf bs ix p k (slotOf ws d) (st .next) (inner .next)))
+        st room ws r room₁ ws₁) →
+      Inner bs ix m p k write st room ws r room₁ ws₁ base n d upto
+
+pub data Body (bs ix m : List ℕ) (p k : ℕ) (write : Bool) (st : Emit) (room ws : List ℕ) (r : Emit) (room₁ ws₁ : List ℕ)
+    (base n d upto : ℕ) : Type 0 where
+  walks-body : (Ready bs ix m p st ws → base ≤ d → d < upto → upto ≤ st .next → (procedures : List ℕ) → SeenIn ws base n (d + 1) procedures →
+      Follows write
+        (let news = bodyInvocations (programAt p bs ix) (chainsIn bs ix p k) (slotOf ws d) (st .next) in
+          around (programAt p bs ix) (chainsIn bs ix p k) (slotOf ws d) (heldIn ws (d + 1) (upto - (d + 1))) (st .next)
+            (bodiesUpTo bs ix p k n procedures (heldIn ws (d + 1) (upto - (d + 1))) (heldIn ws base (st .next - base) ++ news)
+              (st .next + length news)) .events)
+        st room ws r room₁ ws₁) →
+      Body bs ix m p k write st room ws r room₁ ws₁ base n d upto
+
+-- main emitted, from its start
+pub data Emits (bs ix m : List ℕ) (p n : ℕ) (write : Bool) (room ws : List ℕ) (r : Emit) (room₁ ws₁ : List ℕ) : Type 0 where
+  walks-main : (p ≤ mostProcedures → m ≡ reachAt p bs ix → n ≤ mostQubits → 8704 ≤ length ws →
+      (seen r room₁ ≡ scan write (emission (programAt p bs ix) n) (seen (begun n) room)) × (length ws₁ ≡ length ws)) →
+      Emits bs ix m p n write room ws r room₁ ws₁
+
+-- what compile answers where the table is accepted and the workspace long enough
+unfoldable pub emissionAnswer : Program → ℕ → ℕ → Outcome (List ℕ)
+emissionAnswer P n room = require (leb headerLength (usable room)) noRoom (fitted (fit (usable room) headerLength (emission P n)) (circuit P n))
+
+-- an answer as a number and a length: "A refusal gives its number and otherwise zeros."
+abbrev pub compiledOf : Outcome (List ℕ) → Compiled
+compiledOf o = record { number = number o; length = length (valueOr [] o) }
+
+-- where an emission ends that fits
+abbrev pub measuredEnd : Program → ℕ → Emit
+measuredEnd P n = record {
+  status = 0; used = 7 + length (encodeAll (gates (emission P n))); gates = length (gates (emission P n));
+  next = n + 1; highest = n + peak [] (emission P n) }
+
+-- a circuit written as it was measured
+pub data Writes (bs ix m : List ℕ) (p n : ℕ) (measured : Emit) (room ws : List ℕ) (r : Compiled) (room₁ ws₁ : List ℕ) : Type 0 where
+  walks-again : (p ≤ mostProcedures → m ≡ reachAt p bs ix → n ≤ mostQubits → 8704 ≤ length ws → headerLength ≤ usable (length room) →
+      fit (usable (length room)) headerLength (emission (programAt p bs ix) n) ≡ 0 → measured ≡ measuredEnd (programAt p bs ix) n →
+      (r ≡ compiledOf (gives (write (circuit (programAt p bs ix) n)))) × (room₁ ≡ roomAfter (gives (write (circuit (programAt p bs ix) n))) room)) →
+      Writes bs ix m p n measured room ws r room₁ ws₁
+
+-- the number, the length and the room of the answer
+pub data Compiles (bs ix m : List ℕ) (p n : ℕ) (room ws : List ℕ) (r : Compiled) (room₁ ws₁ : List ℕ) : Type 0 where
+  walks-twice : (p ≤ mostProcedures → m ≡ reachAt p bs ix → n ≤ mostQubits → 8704 ≤ length ws →
+      (r ≡ compiledOf (emissionAnswer (programAt p bs ix) n (length room)))
+      × (room₁ ≡ roomAfter (emissionAnswer (programAt p bs ix) n (length room)) room)) →
+      Compiles bs ix m p n room ws r room₁ ws₁

@@ -1,0 +1,21 @@
+//! Counts of the inputs of each class that a test is meant to reach.
+
+use std::collections::BTreeMap;
+use std::fmt::Debug;
+
+/// How many inputs show each class.
+pub type Counts<Class = &'static str> = BTreeMap<Class, usize>;
+
+/// Counts an input where it shows the class.
+pub fn count<Class: Ord>(counts: &mut Counts<Class>, class: Class, shown: bool) {
+    *counts.entry(class).or_default() += usize::from(shown);
+}
+
+/// Asserts that each class has at least so many inputs.
+pub fn assert_reached<Class: Ord + Debug>(counts: &Counts<Class>, least: &[(Class, usize)]) {
+    println!("{counts:#?}");
+    for (class, least) in least {
+        let count = counts.get(class).copied().unwrap_or(0);
+        assert!(count >= *least, "{class:?}: {count} of {least}");
+    }
+}
