@@ -8,8 +8,8 @@ use native.Mathlib.Omega.{arith}
 use borrow.Author.Tests.{leb-true, lt-ltb, le-leb, lt-leb}
 use lib.ListN.{length}
 use lib.Dec.{ltb, leb}
-use Rattle.model.specs.Limits.{mostQubits, headerLength, leastWorkspace, blockLength, shortWorkspace, noRoom}
-use Rattle.model.specs.Syntax.{Program}
+use Rattle.model.specs.Limits.{mostProcedures, mostQubits, headerLength, leastWorkspace, blockLength, shortWorkspace, noRoom}
+use Rattle.model.specs.Syntax.{Program, count}
 use Rattle.model.specs.Reading.{Input, Parsed, parsed, refused, readTable}
 use Rattle.model.specs.Faults.{programFaults}
 use Rattle.model.specs.Meaning.{State, stateOf, endState, endWord}
@@ -22,7 +22,7 @@ use Rattle.model.specs.Answers.{Outcome, gives, refuses, after, require, outcom
 use Rattle.model.proofs.Tests.{and-left, and-right, byEq}
 use Rattle.model.proofs.Words.{word-zero, word-wire, same-block}
 use Rattle.model.proofs.Calls.{Named}
-use Rattle.model.proofs.Inversion.{read-named}
+use Rattle.model.proofs.Inversion.{read-named, read-count}
 use Rattle.model.proofs.RoundTrip.{circuitRead-write}
 use Rattle.agreement.proofs.Agreement.{agreement, ancillas-zero}
 use Rattle.agreement.proofs.Bound.{gate-bound}
@@ -96,6 +96,23 @@ accepted-is table n P e =
       passes11 = passed (anyTooWide Q) (eleven .0);
       passes12 = passed (programFaults Q n) (twelve .0) })
 
+-- an accepted table has at most 16 procedures
+few-read : (table : List ℕ) (x : Parsed Program) (P : Program) → readTable table ≡ x → outcome x ≡ gives P → count P ≤ mostProcedures
+unfolding outcome
+few-read table (parsed Q i) P r e = subst (λ (R : Program). count R ≤ mostProcedures) (gives-same e) (read-count table r)
+few-read table (refused k) P r e = not-both e
+
+pub accepted-few : (table : List ℕ) (n : ℕ) (P : Program) → accepted table n ≡ gives P → count P ≤ mostProcedures
+unfolding accepted
+accepted-few table n P e =
+    let range = required (leb 1 n && leb n mostQubits) _ _ e in
+    let reading = gave (outcome (readTable table)) _ (range .1) in
+    let Q = reading .first in
+    let ten = required (not (anyLacksRemoval Q)) _ _ (reading .then-is) in
+    let eleven = required (not (anyTooWide Q)) _ _ (ten .1) in
+    let twelve = required (not (programFaults Q n)) _ _ (eleven .1) in
+    subst (λ (R : Program). count R ≤ mostProcedures) (gives-same (twelve .1)) (few-read table (readTable table) Q refl (reading .first-is))
+
 -- the data wires end as the run leaves them and every other wire at zero
 circuit-ends : (n : ℕ) (P : Program) → Accepted n P → (word : ℕ) → word < 2 ^ n → circuitBlock (circuit P n) word ≡ blockOf (stateOf (endWord P n word))
 unfolding circuitBlock circuit endWord
@@ -157,7 +174,8 @@ compile-promises table n room workspace e =
 
 -- Refusals 22 and 23, for an accepted table and a workspace that is long enough: a room without place for the header, or the first step that does not fit
 module _ (table : List ℕ) (n room workspace : ℕ) (P : Program) (accepts : accepted table n ≡ gives P) (space : leastWorkspace ≤ workspace) where
-  compiles : compile table n room workspace ≡ require (leb headerLength (usable room)) noRoom (fitted (fit (usable room) headerLength (emission P n)) (circuit P n))
+  -- what compile is there
+  pub compiles : compile table n room workspace ≡ require (leb headerLength (usable room)) noRoom (fitted (fit (usable room) headerLength (emission P n)) (circuit P n))
   unfolding compile after require
   compiles = rw (accepts, le-leb leastWorkspace workspace space)
 

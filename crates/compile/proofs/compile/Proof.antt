@@ -1,0 +1,17 @@
+-- `compile` meets its contract.
+use borrow.Author.Needs.{needs}
+use Rattle.compile.proofs.Ways.{answers}
+use Rattle.compile.proofs.compile.Statement.{statement}
+use Rattle.compile.proofs.compile.Tie as tie
+
+pub compile-spec : {M : Type 1} → statement M
+compile-spec = tie.close (tie.spec
+    (λ c κs. search needs)
+    (λ c. search answers)
+    (λ c. search answers)
+    (λ c. search answers)
+    (λ c. search needs)
+    (λ c κs. search needs)
+    (λ c. search needs)
+    (λ c. search needs)
+    (λ c. search answers))
