@@ -10,8 +10,8 @@
  * to this, which no function can test:
  *
  *   - The pointer leads to that many bytes of one object, which may be read
- *     during the call, those of a workspace written too, and which nothing
- *     else changes meanwhile.
+ *     during the call, those of a room or a workspace written too, and which
+ *     nothing else changes meanwhile.
  *   - A slice of length 0 may have a null pointer.
  *   - No two slices of one call overlap.
  *
@@ -19,8 +19,9 @@
  * zero, whatever its length and whatever the answer.
  *
  * No function keeps anything from one call to the next, takes memory from the
- * heap or writes anywhere but into its answer and the workspace. Calls from
- * several threads at the same time are allowed, each with its own workspace.
+ * heap or writes anywhere but into its answer, the room and the workspace.
+ * Calls from several threads at the same time are allowed, each with its own
+ * room and workspace.
  *
  * 512 KiB of stack are enough for a call. That is not proved but measured, on
  * x86-64, at the tables that go deepest: foq_run takes 337 KiB, foq_verdict
@@ -99,7 +100,7 @@ typedef struct {
     uint8_t bits[FOQ_BLOCK_LENGTH];
 } foq_block;
 
-/* An answer with one value: the end word of a run. */
+/* An answer with one value: the end word of a run, or a circuit's length. */
 typedef struct {
     uint32_t number;
     uint64_t value;
@@ -127,6 +128,32 @@ uint32_t foq_verdict(const uint8_t *table, size_t length, uint32_t n,
  */
 foq_answer foq_run(const uint8_t *table, size_t length, uint32_t n,
                    uint64_t word, uint8_t *workspace, size_t workspace_length);
+
+/*
+ * Writes the circuit of a table on n qubits into the room, from its first byte
+ * on, and gives the circuit's length in bytes. What stood behind it stays, and
+ * a refusal leaves the whole room as it was. FOQ_MOST_CIRCUIT bytes are enough
+ * for every circuit; no byte of a longer room past them is written.
+ *
+ * It refuses what foq_verdict refuses, with the same number. After that come
+ * FOQ_NO_ROOM for a room without FOQ_HEADER_LENGTH bytes, and then the first of
+ * the emission's steps that does not fit: FOQ_MANY_WIRES for an ancilla,
+ * FOQ_NO_ROOM for a gate.
+ *
+ * On success, for every start word below 2 to the power n: foq_circuit_run on
+ * these bytes gives a block whose data wires hold the end word that foq_run
+ * gives for the table, and whose every other bit is zero. The ancilla count is
+ * the most ancillas in use at one time, and the number of gates is within
+ * s * (4 + 2n) * (1 + p * r * (c * n)^r), where s counts the table's NOT and
+ * call records, c its call records, p its procedures, and r is the most classes
+ * of mutually reaching procedures on one line of calls from main.
+ *
+ * The emission of a hostile table could be astronomical, but a call ends at the
+ * first step that does not fit: it takes milliseconds at most.
+ */
+foq_answer foq_compile(const uint8_t *table, size_t length, uint32_t n,
+                       uint8_t *room, size_t room_length, uint8_t *workspace,
+                       size_t workspace_length);
 
 /*
  * Reads a circuit to its end. Gives its header if it is well formed, otherwise

@@ -2,10 +2,11 @@
 use Rattle.model.specs.Limits.{mostCircuit, leastWorkspace}
 use Rattle.model.specs.Examples.{pairs, pairsCircuit, needsSwap, swapCircuit}
 use Rattle.model.proofs.Worked.{circuits}
-use Rattle.agreement.proofs.Promise.{Promised, compile-promises}
+use Rattle.model.specs.Demand.{Demand3}
+use Rattle.agreement.proofs.Promise.{compile-promises}
 
-pub pairs-promised : Promised pairs 3 mostCircuit pairsCircuit
-pairs-promised = compile-promises pairs 3 mostCircuit leastWorkspace (circuits .0)
+pub pairs-promised : Demand3 pairs 3 pairsCircuit
+pairs-promised = compile-promises pairs 3 mostCircuit leastWorkspace (circuits .0) .0
 
-pub swap-promised : Promised needsSwap 4 mostCircuit swapCircuit
-swap-promised = compile-promises needsSwap 4 mostCircuit leastWorkspace (circuits .1)
+pub swap-promised : Demand3 needsSwap 4 swapCircuit
+swap-promised = compile-promises needsSwap 4 mostCircuit leastWorkspace (circuits .1) .0

@@ -17,8 +17,8 @@ use Rattle.model.specs.Reach.{anyLacksRemoval, anyTooWide}
 use Rattle.model.specs.Gates.{acts}
 use Rattle.model.specs.Emission.{emission, gates, peak}
 use Rattle.model.specs.Circuit.{Circuit, write, blockOf, circuitBlock}
-use Rattle.model.specs.Bound.{gateBound}
-use Rattle.model.specs.Answers.{Outcome, gives, refuses, after, require, outcome, valueOr, accepted, fit, fitted, circuit, usable, compile, circuitRead, Block, circuitRun}
+use Rattle.model.specs.Answers.{Outcome, gives, refuses, after, require, outcome, valueOr, accepted, fit, fitted, circuit, usable, run, compile, circuitRead, circuitRun}
+use Rattle.model.specs.Demand.{Demand3}
 use Rattle.model.proofs.Tests.{and-left, and-right, byEq}
 use Rattle.model.proofs.Words.{word-zero, word-wire, same-block}
 use Rattle.model.proofs.Calls.{Named}
@@ -128,49 +128,52 @@ run-ends : (n : ℕ) (P : Program) → Accepted n P → (bytes : List ℕ) → c
 unfolding circuitRun after require circuit
 run-ends n P a bytes reads word h = rw (reads, lt-ltb word (2 ^ n) h, circuit-ends n P a word h)
 
--- Demand 3, for every table that compile accepts: the room's bytes are the circuit of the emission; reading them gives it back; from every start word the
--- run of those bytes ends with the end word of the table's own run on the data wires and zero everywhere else; the size is within the bound.
-pub record Promised (table : List ℕ) (n room : ℕ) (bytes : List ℕ) : Type 0 where
-  pub program : Program
-  pub accepts : accepted table n ≡ gives program
-  pub written : bytes ≡ write (circuit program n)
-  pub fitting : length bytes ≤ room
-  pub reads : circuitRead bytes ≡ gives (circuit program n)
-  pub runs : (word : ℕ) → word < 2 ^ n →
-    circuitRun bytes word ≡ gives (record { dataWires = n; ancillas = peak [] (emission program n); bits = blockOf (stateOf (endWord program n word)) })
-  pub bounded : length (gates (emission program n)) ≤ gateBound program n
-
 -- 0 from `fit` is a circuit
 fitted-is : (k : ℕ) (c : Circuit) {bytes : List ℕ} → fitted k c ≡ gives bytes → (k ≡ 0) × (bytes ≡ write c)
 unfolding fitted
 fitted-is zero c e = (refl, sym (gives-same e))
 fitted-is (suc k) c e = not-both e
 
-promised : (table : List ℕ) (n room : ℕ) (P : Program) → accepted table n ≡ gives P → headerLength ≤ usable room →
-    fit (usable room) headerLength (emission P n) ≡ 0 → Promised table n room (write (circuit P n))
-promised table n room P accepts header fits =
-    let a = accepted-is table n P accepts in
-    let good = emission-well-formed P (a .named) (a .passes10) (a .passes11) n (a .some) (a .few) (a .passes12) room header fits in
-    let reads = circuitRead-write (circuit P n) (good .well-formed) in
-    record {
-      program = P;
-      accepts = accepts;
-      written = refl;
-      fitting = good .in-room;
-      reads = reads;
-      runs = run-ends n P a (write (circuit P n)) reads;
-      bounded = gate-bound P (a .named) (a .passes10) (a .passes11) n }
+-- run answers the end word of an accepted table
+run-answers : (table : List ℕ) (n : ℕ) (P : Program) → accepted table n ≡ gives P → (word workspace : ℕ) → word < 2 ^ n → leastWorkspace ≤ workspace →
+    run table n word workspace ≡ gives (endWord P n word)
+unfolding run after require
+run-answers table n P accepts word workspace low space = rw (accepts, lt-ltb word (2 ^ n) low, le-leb leastWorkspace workspace space)
 
-pub compile-promises : (table : List ℕ) (n room workspace : ℕ) {bytes : List ℕ} → compile table n room workspace ≡ gives bytes → Promised table n room bytes
+module _ (table : List ℕ) (n room : ℕ) (P : Program) (accepts : accepted table n ≡ gives P) (header : headerLength ≤ usable room)
+    (fits : fit (usable room) headerLength (emission P n) ≡ 0) where
+  abbrev a : Accepted n P
+  a = accepted-is table n P accepts
+
+  good : FittingCircuit P n room
+  good = emission-well-formed P (a .named) (a .passes10) (a .passes11) n (a .some) (a .few) (a .passes12) room header fits
+
+  promised : Demand3 table n (write (circuit P n))
+  unfolding circuit
+  promised =
+      let reads = circuitRead-write (circuit P n) (good .well-formed) in
+      record {
+        program = P;
+        accepts = accepts;
+        written = refl;
+        reads = reads;
+        bounded = gate-bound P (a .named) (a .passes10) (a .passes11) n;
+        runs = run-ends n P a (write (circuit P n)) reads;
+        answers = run-answers table n P accepts }
+
+-- Demand 3, for every table that compile gives a circuit of; and the circuit has its place in the room.
+pub compile-promises : (table : List ℕ) (n room workspace : ℕ) {bytes : List ℕ} → compile table n room workspace ≡ gives bytes →
+    Demand3 table n bytes × (length bytes ≤ room)
 unfolding compile
 compile-promises table n room workspace e =
     let acceptance = gave (accepted table n) _ e in
     let P = acceptance .first in
     let space = required (leb leastWorkspace workspace) _ _ (acceptance .then-is) in
     let header = required (leb headerLength (usable room)) _ _ (space .1) in
+    let enough = leb-true headerLength (usable room) (header .0) in
     let fits = fitted-is (fit (usable room) headerLength (emission P n)) (circuit P n) (header .1) in
-    subst (Promised table n room) (sym (fits .1))
-      (promised table n room P (acceptance .first-is) (leb-true headerLength (usable room) (header .0)) (fits .0))
+    subst (λ (bs : List ℕ). Demand3 table n bs × (length bs ≤ room)) (sym (fits .1))
+      (promised table n room P (acceptance .first-is) enough (fits .0), good table n room P (acceptance .first-is) enough (fits .0) .in-room)
 
 -- Refusals 22 and 23, for an accepted table and a workspace that is long enough: a room without place for the header, or the first step that does not fit
 module _ (table : List ℕ) (n room workspace : ℕ) (P : Program) (accepts : accepted table n ≡ gives P) (space : leastWorkspace ≤ workspace) where

@@ -85,7 +85,7 @@ read-counts most (suc n) i = each (readGate most i) (λ j. read-counts most n j)
     each (refused k) h = tt
 
 -- a circuit of the gates read behind its header: "no byte is left"
-abbrev closed : ℕ → ℕ → Parsed (List Gate) → Parsed Circuit
+abbrev pub closed : ℕ → ℕ → Parsed (List Gate) → Parsed Circuit
 closed n ancillas p =
     andThen p (λ gs o. provided (eqb (length (o .bytes)) 0) notWellFormed (parsed (record { dataWires = n; ancillas = ancillas; gates = gs }) o))
 
@@ -102,10 +102,11 @@ module _ (n ancillas : ℕ) where
   header-bad (refused k) e = refl
 
 -- the number in bytes 3 to 6
-abbrev countIn : List ℕ → ℕ
+abbrev pub countIn : List ℕ → ℕ
 countIn bs = getD bs 3 0 + 256 * getD bs 4 0 + 65536 * getD bs 5 0 + 16777216 * getD bs 6 0
 
-opened : (bs : List ℕ) → 7 ≤ length bs →
+-- the header's tests of at least 7 bytes, then the gates
+pub opened : (bs : List ℕ) → 7 ≤ length bs →
     circuitOf (inputAt bs 0) ≡ provided (eqb (getD bs 0 0) 1) notWellFormed (provided (leb 1 (getD bs 1 0) && leb (getD bs 1 0) 32) notWellFormed
     (provided (leb (getD bs 1 0 + getD bs 2 0) 255) notWellFormed
     (closed (getD bs 1 0) (getD bs 2 0) (readGates (getD bs 1 0 + getD bs 2 0) (countIn bs) (inputAt bs 7)))))

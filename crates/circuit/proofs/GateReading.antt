@@ -25,7 +25,7 @@ use Rattle.circuit.specs.declared.GateRead.{GateRead}
 use Rattle.circuit.specs.declared.GateRead.the-variants.{Found, NoGate}
 
 -- what was read was parsed, and what was refused ends the reading
-settled-parsed : {A : Type 0} (p : Parsed A) (a : A) (i : Input) → parsed a i ≡ settled p → p ≡ parsed a i
+pub settled-parsed : {A : Type 0} (p : Parsed A) (a : A) (i : Input) → parsed a i ≡ settled p → p ≡ parsed a i
 unfolding settled
 settled-parsed (parsed b j) a i e = sym e
 settled-parsed (refused k) a i e = let z : _≡_ {A = ℕ} 0 1 = cc in absurd (omega arith)

@@ -1,5 +1,5 @@
 -- What the proofs of several functions, and of callers, use.
-mod Parts
+pub mod Parts
 mod WellFormed
 mod Tidy
 mod CheckLaws

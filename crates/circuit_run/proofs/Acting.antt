@@ -15,7 +15,7 @@ use Rattle.wires.proofs.Steps.{is-block, same-state}
 use Rattle.circuit.specs.Views.{part, listIn, controlsIn, gateWith, gateIn}
 use Rattle.circuit.specs.declared.GateAt.{GateAt}
 use Rattle.circuit_run.specs.Runs.{allHold}
-use Rattle.circuit_run.proofs.Places.{part-step, part-none, part-past}
+use Rattle.circuit.proofs.Parts.{part-step, part-none, part-past}
 
 -- no wire: each of them holds the bit asked for
 hold-nil : (asked : Bool) (s : State) → allHold asked [] s ≡ true

@@ -1,30 +1,27 @@
 -- The ways out of the circuit run: its answer is document 01's.
-use mathlib.Core.Path.{_≡_, refl, sym, ap}
-use mathlib.Core.Bool.{Bool, true, false, _&&_}
+use mathlib.Core.Path.{_≡_, sym, ap}
+use mathlib.Core.Bool.{Bool, true, false}
 use mathlib.Core.List.{List}
-use Prim.Native.Nat.{ℕ, _+_, _-_, _*_, _/_, _%_, _^_, _≤_, _<_}
-use native.Mathlib.Nat.{lt-of-lt-of-le, div-eq-of-lt, mod-lt}
+use Prim.Native.Nat.{ℕ, _+_, _-_, _^_, _≤_, _<_}
 use native.Mathlib.Omega.{arith}
 use borrow.Author.Needs.{needs}
-use borrow.Author.Tests.{eq-eqb, ne-eqb, lt-ltb, le-ltb, le-leb, not-true, not-false}
-use lib.Dec.{eqb, ltb, leb}
+use borrow.Author.Tests.{le-leb, not-true, not-false}
+use lib.Dec.{eqb, ltb}
 use lib.ListN.{length, getD}
-use lib.Pow.{pow-mono, split, ones-lt}
 use Rattle.model.specs.Limits.{notWellFormed}
 use Rattle.model.specs.Reading.{Parsed, parsed, refused, andThen, provided}
 use Rattle.model.specs.Meaning.{stateOf}
 use Rattle.model.specs.Gates.{Gate}
-use Rattle.model.specs.Circuit.{Circuit, fourByteNumber, readGates, circuitOf, readCircuit, circuitBlock}
+use Rattle.model.specs.Circuit.{Circuit, readGates, readCircuit, circuitBlock}
 use Rattle.model.specs.Answers.{Outcome, gives, refuses, after, require, wellFormed, circuitRead, circuitRun}
-use Rattle.model.proofs.Tests.{byBool, byLt}
+use Rattle.model.proofs.Tests.{byBool}
 use Rattle.wires.specs.States.{wiresOf}
 use Rattle.wires.specs.declared.Wires.{Wires}
 use Rattle.wires.proofs.Blocks.{start-state}
 use Rattle.circuit.specs.Views.{inputAt}
 use Rattle.circuit.specs.Header.{headerOf, refusedHeader}
 use Rattle.circuit.specs.declared.CircuitHeader.{CircuitHeader}
-use Rattle.circuit.proofs.Reading.{byte-at}
-use Rattle.circuit.proofs.CircuitReading.{refusals}
+use Rattle.circuit.proofs.CircuitReading.{closed, countIn, opened, refusals}
 use Rattle.circuit_run.specs.Runs.{seen, ranOf, refusedBlock, givenBlock, blockAnswer, endAnswer}
 use Rattle.circuit_run.specs.declared.Ran.{Ran}
 use Rattle.circuit_run.specs.declared.CircuitBlock.{CircuitBlock}
@@ -45,31 +42,6 @@ module _ (ran : Ran) (word : ℕ) where
     answer-low f = rw (e, ← l, f)
 
 pub ruleset answering = (needs, not-true, not-false, answer-bad, answer-high, answer-low)
-
--- a circuit of the gates read behind its header: "no byte is left"
-abbrev closed : ℕ → ℕ → Parsed (List Gate) → Parsed Circuit
-closed n ancillas p =
-    andThen p (λ gs o. provided (eqb (length (o .bytes)) 0) notWellFormed (parsed (record { dataWires = n; ancillas = ancillas; gates = gs }) o))
-
--- the number in bytes 3 to 6
-abbrev countIn : List ℕ → ℕ
-countIn bs = getD bs 3 0 + 256 * getD bs 4 0 + 65536 * getD bs 5 0 + 16777216 * getD bs 6 0
-
-opened : (bs : List ℕ) → 7 ≤ length bs →
-    circuitOf (inputAt bs 0) ≡ provided (eqb (getD bs 0 0) 1) notWellFormed (provided (leb 1 (getD bs 1 0) && leb (getD bs 1 0) 32) notWellFormed
-    (provided (leb (getD bs 1 0 + getD bs 2 0) 255) notWellFormed
-    (closed (getD bs 1 0) (getD bs 2 0) (readGates (getD bs 1 0 + getD bs 2 0) (countIn bs) (inputAt bs 7)))))
-unfolding circuitOf fourByteNumber andThen
-opened bs h =
-    rw (
-      byte-at bs 0 (omega arith),
-      byte-at bs 1 (omega arith),
-      byte-at bs 2 (omega arith),
-      byte-at bs 3 (omega arith),
-      byte-at bs 4 (omega arith),
-      byte-at bs 5 (omega arith),
-      byte-at bs 6 (omega arith),
-    )
 
 -- a header that is a refusal's comes of that refusal
 header-refused : (o : Outcome Circuit) → refusedHeader ≡ headerOf o → o ≡ refuses notWellFormed

@@ -25,14 +25,10 @@ use Rattle.circuit.specs.Views.{inputAt, settled, gateIn, gateSeen}
 use Rattle.circuit.specs.declared.GateAt.{GateAt}
 use Rattle.circuit.specs.declared.GateRead.{GateRead}
 use Rattle.circuit.specs.declared.GateRead.the-variants.{Found, NoGate}
+use Rattle.circuit.proofs.GateReading.{settled-parsed}
 use Rattle.circuit_run.specs.Runs.{endedAs, ranOf}
 
--- what was read was parsed, and what was not is a refusal
-settled-parsed : {A : Type 0} (p : Parsed A) (a : A) (i : Input) → parsed a i ≡ settled p → p ≡ parsed a i
-unfolding settled
-settled-parsed (parsed b j) a i e = sym e
-settled-parsed (refused k) a i e = let z : _≡_ {A = ℕ} 0 1 = cc in absurd (omega arith)
-
+-- what was not read ran no gate
 ran-refused : {A : Type 0} (wires : Wires) (p : Parsed A) (f : A → Input → Parsed (List Gate)) → refused notWellFormed ≡ settled p →
     ranOf wires (andThen p f) ≡ none
 unfolding settled andThen ranOf

@@ -33,6 +33,7 @@ pub fn compile(table: &[u8], n: u32, room: &mut [u8], workspace: &mut [u8]) -> C
     if workspace.len() < 32768 {
         return Compiled { number: 21, length: 0 };
     }
+    // An accepted table has at most 32 qubits: this way is never taken, and lets n be a byte.
     if 32 < n {
         return Compiled { number: 9, length: 0 };
     }

@@ -1,11 +1,12 @@
 // The functions that a station's host calls. Every number, length and content of a slice has its answer.
 ghost use mathlib.Core.Path.{_≡_};
 ghost use lib.ListN.{length};
-ghost use Rattle.model.specs.Answers.{circuitRead, circuitRun, workspaceAfter};
+ghost use Rattle.model.specs.Answers.{circuitRead, circuitRun, roomAfter, workspaceAfter};
 ghost use Rattle.model.specs.Answers as model;
 ghost use Rattle.circuit.specs.Header.{headerOf};
 ghost use Rattle.circuit_run.specs.Runs.{blockAnswer};
 ghost use Rattle.run.specs.Answers.{answerOf};
+ghost use Rattle.foq.specs.Compiling.{lengthAnswer, Delivered};
 use circuit::CircuitHeader;
 use circuit_run::CircuitBlock;
 use run::Answer;
@@ -41,6 +42,21 @@ pub extern "C" fn foq_run(table: &[u8], n: u32, word: u64, workspace: &mut [u8])
     let answer = run::run(table, n, word, workspace.len());
     wipe(workspace);
     answer
+}
+
+// Compile: the circuit's length, or the refusal's number and 0. The room is written only on success. Demand 3 holds of what is written there: the
+// circuit ends as the run does from every start word, and its bytes and counts are the emission's.
+#[no_mangle]
+pub extern "C" fn foq_compile(table: &[u8], n: u32, room: &mut [u8], workspace: &mut [u8]) -> Answer
+    ensures { λ r. ⌜ r ≡ lengthAnswer (model.compile (now (table .entry)) n (length (now (room .entry))) (length (now (workspace .entry)))) ⌝ }
+    ensures { λ r. ⌜ now (room .exit) ≡
+        roomAfter (model.compile (now (table .entry)) n (length (now (room .entry))) (length (now (workspace .entry)))) (now (room .entry)) ⌝ }
+    ensures { λ r. ⌜ now (workspace .exit) ≡ workspaceAfter (now (workspace .entry)) ⌝ }
+    ensures { λ r. ⌜ Delivered (now (table .entry)) n r (now (room .exit)) ⌝ }
+{
+    let compiled = compile::compile(table, n, room, workspace);
+    wipe(workspace);
+    Answer { number: compiled.number as u32, value: compiled.length as u64 }
 }
 
 // The circuit reader: n, ancillas and gate count, or the refusal's number and zeros.

@@ -8,4 +8,5 @@ pub mod Figure2
 pub mod Figure3
 pub mod Inversion
 pub mod RoundTrip
+pub mod Decimal
 pub mod Worked

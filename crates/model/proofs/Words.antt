@@ -7,9 +7,11 @@ use native.Mathlib.Numerals.{add-one}
 use native.Mathlib.Omega.{arith}
 use borrow.Author.Tests.{eq-eqb, ne-eqb}
 use lib.Dec.{eqb, lit<}
+use lib.ListN.{getD}
 use lib.Pow.{pow-mono, shr-lt, pow-lt, pow-add, shl-shr, shl-exact}
+use Rattle.model.specs.Limits.{blockLength}
 use Rattle.model.specs.Meaning.{State, bit, stateOf, digit, wordFrom, wordOf}
-use Rattle.model.specs.Circuit.{blockFrom}
+use Rattle.model.specs.Circuit.{blockFrom, blockOf}
 use Rattle.model.proofs.Tests.{byLt}
 use mathlib.Core.Logic.{_≢_}
 use lib.Bits.{bitAnd, bitXor, and-mask, xor-shr, xor-mod, xor-zero-r, shifted-even}
@@ -157,3 +159,16 @@ pub digit-mark : (b : Bool) → eqb (digit b) 1 ≡ b
 unfolding digit
 digit-mark true = refl
 digit-mark false = refl
+
+-- "Wire w is bit (w − 1) mod 8 of byte (w − 1) div 8": bit k of byte j is the wire 8j + k further on
+block-from : (count a : ℕ) (s : State) (j k : ℕ) → j < count → k < 8 → bit (getD (blockFrom count a s) j 0) k ≡ s (a + (8 * j + k))
+unfolding blockFrom
+block-from zero a s j k h l = absurd (omega arith)
+block-from (suc count) a s zero k h l = word-bit 8 a s k l ∙ ap s (let same : a + k ≡ a + (8 * 0 + k) = omega arith in same)
+block-from (suc count) a s (suc j) k h l =
+    block-from count (a + 8) s j k (omega arith) l ∙ ap s (let same : a + 8 + (8 * j + k) ≡ a + (8 * suc j + k) = omega arith in same)
+
+-- so bit k of byte j of a word's block is bit 8j + k of the word: past the word's bits all are zero
+pub block-bit : (word j k : ℕ) → j < blockLength → k < 8 → bit (getD (blockOf (stateOf word)) j 0) k ≡ bit word (8 * j + k)
+unfolding stateOf
+block-bit word j k h l = block-from blockLength 1 (stateOf word) j k h l ∙ ap (stateOf word) (let same : 1 + (8 * j + k) ≡ suc (8 * j + k) = omega arith in same)

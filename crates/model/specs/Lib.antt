@@ -11,4 +11,6 @@ pub mod Emission
 pub mod Circuit
 pub mod Bound
 pub mod Answers
+pub mod Demand
+pub mod Listing
 pub mod Examples

@@ -118,6 +118,7 @@ pub fn run(table: &[u8], n: u32, word: u64, space: usize) -> Answer
     if number != 0 {
         return Answer { number, value: 0 };
     }
+    // An accepted table has at most 32 qubits: this way is never taken, and lets n be a byte.
     if 32 < n {
         return Answer { number: 9, value: 0 };
     }

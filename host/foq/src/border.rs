@@ -6,6 +6,9 @@
 /// The length of a block in bytes.
 pub const BLOCK_LENGTH: usize = 32;
 
+/// The length of the longest circuit in bytes: a room that is always enough.
+pub const MOST_CIRCUIT: usize = 65_536;
+
 /// The shortest workspace that is enough.
 pub const LEAST_WORKSPACE: usize = 32_768;
 
@@ -15,7 +18,7 @@ pub const LEAST_WORKSPACE: usize = 32_768;
 pub struct Answer {
     /// 0 or a refusal's number.
     pub number: u32,
-    /// The end word.
+    /// The end word, or a circuit's length.
     pub value: u64,
 }
 
@@ -67,6 +70,15 @@ mod declared {
             workspace: *mut u8,
             workspace_length: usize,
         ) -> Answer;
+        pub fn foq_compile(
+            table: *const u8,
+            length: usize,
+            n: u32,
+            room: *mut u8,
+            room_length: usize,
+            workspace: *mut u8,
+            workspace_length: usize,
+        ) -> Answer;
         pub fn foq_circuit_read(circuit: *const u8, length: usize) -> Circuit;
         pub fn foq_circuit_run(circuit: *const u8, length: usize, word: u64) -> Block;
     }
@@ -103,6 +115,24 @@ pub fn run(table: &[u8], n: u32, word: u64, workspace: &mut [u8]) -> Answer {
             table.len(),
             n,
             word,
+            workspace.as_mut_ptr(),
+            workspace.len(),
+        )
+    }
+}
+
+/// The circuit of a table on n qubits, into the room. The workspace is zero
+/// afterwards.
+#[must_use]
+pub fn compile(table: &[u8], n: u32, room: &mut [u8], workspace: &mut [u8]) -> Answer {
+    // SAFETY: as above; the table is only read.
+    unsafe {
+        declared::foq_compile(
+            table.as_ptr(),
+            table.len(),
+            n,
+            room.as_mut_ptr(),
+            room.len(),
             workspace.as_mut_ptr(),
             workspace.len(),
         )

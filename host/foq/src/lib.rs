@@ -7,7 +7,7 @@
 pub mod border;
 mod refusal;
 
-pub use border::{BLOCK_LENGTH, LEAST_WORKSPACE};
+pub use border::{BLOCK_LENGTH, LEAST_WORKSPACE, MOST_CIRCUIT};
 pub use refusal::Refusal;
 
 /// A circuit's header.
@@ -64,6 +64,26 @@ pub fn run(table: &[u8], n: u32, word: u64, workspace: &mut [u8]) -> Result<u64,
     let answer = border::run(table, n, word, workspace);
     Refusal::unless_success(answer.number)?;
     Ok(answer.value)
+}
+
+/// Compile: the circuit of a table on n qubits is written into the room, whose
+/// rest stays as it was; a refusal leaves all of it. Gives the circuit's bytes
+/// within the room. The workspace is zero afterwards.
+///
+/// # Errors
+/// Those of [`verdict`]; then [`Refusal::NO_ROOM`] for the header, then
+/// [`Refusal::MANY_WIRES`] or [`Refusal::NO_ROOM`] at the first ancilla or gate
+/// that does not fit.
+pub fn compile<'a>(
+    table: &[u8],
+    n: u32,
+    room: &'a mut [u8],
+    workspace: &mut [u8],
+) -> Result<&'a [u8], Refusal> {
+    let answer = border::compile(table, n, room, workspace);
+    Refusal::unless_success(answer.number)?;
+    let length = usize::try_from(answer.value).expect("a circuit lies within its room");
+    Ok(&room[..length])
 }
 
 /// The circuit reader.

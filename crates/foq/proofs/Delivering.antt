@@ -1,0 +1,72 @@
+-- From the answer and the room of compile to what its export promises.
+use mathlib.Core.Path.{_≡_, refl, sym, ap, subst}
+use mathlib.Core.List.{List, []}
+use Prim.Native.Nat.{ℕ, zero, suc, _≤_}
+use native.Mathlib.Omega.{arith}
+use borrow.Author.Needs.{needs}
+use lib.ListN.{length, take, drop}
+use lib.Seq.{take-append-seam}
+use Rattle.model.specs.Limits.{success}
+use Rattle.model.specs.Answers.{Outcome, gives, refuses, after, number, valueOr, compile, roomAfter, workspaceAfter}
+use Rattle.model.specs.Demand.{Demand3}
+use Rattle.agreement.proofs.Promise.{compile-promises}
+use Rattle.run.specs.declared.Answer.{Answer}
+use Rattle.run.specs.Answers.{answerOf}
+use Rattle.emit.specs.declared.Compiled.{Compiled}
+use Rattle.emit.specs.Walks.{compiledOf}
+use Rattle.compile.specs.Compiling.{Answered, answered}
+use Rattle.compile.specs.Compiling as compiling
+use Rattle.compile.proofs.Numbered.{Numbered, compile-numbered}
+use Rattle.foq.specs.Compiling.{lengthAnswer, Delivered}
+
+-- the two halves of an answer
+abbrev answerIn : Answered → Compiled
+answerIn (answered r room) = r
+
+abbrev roomIn : Answered → List ℕ
+roomIn (answered r room) = room
+
+-- what is exported of an answer
+abbrev exported : Compiled → Answer
+exported r = record { number = r .number; value = r .length }
+
+exported-is : (o : Outcome (List ℕ)) → exported (compiledOf o) ≡ lengthAnswer o
+unfolding answerOf after number valueOr
+exported-is (gives bytes) = refl
+exported-is (refuses k) = refl
+
+-- the bytes before the rest are those given
+given-bytes : (bytes room : List ℕ) → take (length bytes) (roomAfter (gives bytes) room) ≡ bytes
+unfolding roomAfter
+given-bytes bytes room = take-append-seam bytes (drop (length bytes) room)
+
+delivers : (table : List ℕ) (n space workspace : ℕ) (room : List ℕ) (o : Outcome (List ℕ)) → compile table n space workspace ≡ o →
+    Delivered table n (exported (compiledOf o)) (roomAfter o room)
+unfolding number valueOr
+delivers table n space workspace room (gives bytes) e zero-is =
+    subst (Demand3 table n) (sym (given-bytes bytes room)) (compile-promises table n space workspace e .0)
+delivers table n space workspace room (refuses k) e zero-is =
+    let some : 1 ≤ k = rw e at (compile-numbered table n space workspace) in absurd (omega arith)
+
+module _ (table room : List ℕ) (n workspace : ℕ) (r : Compiled) (room₁ : List ℕ)
+    (is : answered r room₁ ≡ compiling.answerOf (compile table n (length room) workspace) room) where
+  abbrev o : Outcome (List ℕ)
+  o = compile table n (length room) workspace
+
+  pub room-is : room₁ ≡ roomAfter o room
+  room-is = ap roomIn is
+
+  answer-same : r ≡ compiledOf o
+  answer-same = ap answerIn is
+
+  pub answer-is : exported r ≡ lengthAnswer o
+  answer-is = rw answer-same (exported-is o)
+
+  pub answer-delivers : Delivered table n (exported r) room₁
+  answer-delivers = rw (answer-same, room-is) (delivers table n (length room) workspace room o refl)
+
+-- a workspace that compile left as long as it was, wiped
+pub wiped : (workspace left zeros : List ℕ) → length left ≡ length workspace → zeros ≡ workspaceAfter left → zeros ≡ workspaceAfter workspace
+wiped workspace left zeros same is = rw (is, same)
+
+pub ruleset delivering = (needs, room-is, answer-is, answer-delivers, wiped)
