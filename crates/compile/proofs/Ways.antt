@@ -16,8 +16,8 @@ use Rattle.reach.proofs.Marks.{count-at}
 use Rattle.verdict.specs.declared.Judged.{Judged}
 use Rattle.verdict.specs.Judging.{judgedAs}
 use Rattle.verdict.proofs.Ways.{refused-judged, accepted-judged}
-use Rattle.emit.specs.declared.Compiled.{Compiled}
-use Rattle.emit.specs.Walks.{Compiles, walks-twice, emissionAnswer, compiledOf}
+use Rattle.compile.specs.declared.Compiled.{Compiled}
+use Rattle.compile.specs.Passes.{Compiles, walks-twice, emissionAnswer, compiledOf}
 use Rattle.compile.specs.Compiling.{Answered, answered, answerOf}
 
 -- the matrix is that of reach

@@ -1,13 +1,77 @@
 // Compile: the circuit of a table, or the one refusal that document 01's order fixes.
 ghost use mathlib.Core.Path.{_≡_};
+ghost use Prim.Native.Nat.{_-_};
 ghost use lib.ListN.{length};
 ghost use Rattle.model.specs.Answers as model;
 ghost use Rattle.reach.specs.Walk.{reachAt};
-ghost use Rattle.emit.specs.Walks.{Compiles};
+ghost use Rattle.events.specs.Scan.{wireOf};
+ghost use Rattle.compile.specs.Passes.{Writes, Compiles};
 ghost use Rattle.compile.specs.Compiling.{answered, answerOf};
-use emit::{compile_emission, Compiled};
+use circuit::write::put_header;
+use events::{Emit, wire};
+use emit::emit_main;
 use reach::fill_reach;
 use verdict::judge;
+
+// What compile answers: 0 or the number that refuses, and the circuit's length in bytes.
+pub struct Compiled {
+    pub number: u8,
+    pub length: usize,
+}
+
+// How many ancillas were in use at most? The highest wire is data where there was none.
+fn ancillas(n: u8, highest: u16) -> u8
+    ensures { λ r. ⌜ r ≡ wireOf (highest - n) ⌝ }
+{
+    let data = n as u16;
+    if highest < data {
+        return 0;
+    }
+    wire(highest - data)
+}
+
+// A circuit that fits, as it was measured, is written: its header, then its gates.
+fn write_circuit(
+    table: &[u8],
+    index: &[u16],
+    p: u8,
+    matrix: &[u8; 289],
+    n: u8,
+    measured: Emit,
+    room: &mut [u8],
+    ws: &mut [u8],
+) -> Compiled
+    ensures { λ r. ⌜ Writes (now (table .entry)) (now (index .entry)) (now (matrix .entry)) p n measured (now (room .entry)) (now (ws .entry))
+        r (now (room .exit)) (now (ws .exit)) ⌝ }
+{
+    put_header(room, n, ancillas(n, measured.highest), measured.gates);
+    let written = emit_main(table, index, p, matrix, n, true, room, ws);
+    Compiled { number: 0, length: written.used }
+}
+
+// An emission is measured, and written where it fits. "The room is written only on success, its rest unchanged."
+fn compile_emission(
+    table: &[u8],
+    index: &[u16],
+    p: u8,
+    matrix: &[u8; 289],
+    n: u8,
+    room: &mut [u8],
+    ws: &mut [u8],
+) -> Compiled
+    ensures { λ r. ⌜ Compiles (now (table .entry)) (now (index .entry)) (now (matrix .entry)) p n (now (room .entry)) (now (ws .entry))
+        r (now (room .exit)) (now (ws .exit)) ⌝ }
+{
+    if room.len() < 7 {
+        return Compiled { number: 23, length: 0 };
+    }
+    let measured = emit_main(table, index, p, matrix, n, false, room, ws);
+    let status = measured.status;
+    if status != 0 {
+        return Compiled { number: status, length: 0 };
+    }
+    write_circuit(table, index, p, matrix, n, measured, room, ws)
+}
 
 // The circuit of a table that was judged, by its index.
 fn compile_judged(table: &[u8], index: &[u16; 544], p: u8, n: u8, room: &mut [u8], workspace: &mut [u8]) -> Compiled

@@ -22,13 +22,15 @@ use Rattle.model.proofs.Calls.{body-out}
 use Rattle.agreement.proofs.Peak.{bodies-stacked, bodiesFrom-stacked, chains-stacked}
 use Rattle.table.specs.Index.{startOf, statementAt, programAt}
 use Rattle.reach.proofs.Marks.{count-at, body-at}
-use Rattle.emit.specs.declared.Emit.{Emit}
-use Rattle.emit.specs.Scan.{Seen, seen, emitOf, freed, placed, stored, scan, slotProcedure, slotList, wireOf, slotOf, heldIn}
-use Rattle.emit.specs.Slots.{appears, seekOf}
-use Rattle.emit.specs.Walks.{Follows, Opens, Ready, Roomy, bodyDepth, chainsIn, bodiesUpTo, leftOf, rightOf, SeenIn, Invokes, Call, walks-call, Left, Right, Fore, walks-fore, Back, walks-back, Bodies, walks-bodies, Rest, walks-rest, Inner, walks-inner, Body, walks-body}
-use Rattle.emit.proofs.ScanLaws.{scan-append, scan-stopped, scan-places, scan-no-gate, scan-many, scan-frees, nextAfter, stacked-after}
-use Rattle.emit.proofs.Entering.{scan-nothing}
-use Rattle.emit.proofs.Following.{only-reverse, entries-only, gates-next, follows-none, follows-stopped, follows-gates, follows-next, follows-if, follows-as, follows-append, ready-then, slot-kept, held-kept, appears-kept, held-append}
+use Rattle.events.specs.declared.Emit.{Emit}
+use Rattle.events.specs.Scan.{Seen, seen, emitOf, freed, placed, stored, scan, slotProcedure, slotList, wireOf, slotOf, heldIn}
+use Rattle.events.specs.Slots.{appears, seekOf}
+use Rattle.events.specs.Follows.{Follows, Opens, Invokes}
+use Rattle.emit.specs.Walks.{Ready, Roomy, bodyDepth, chainsIn, bodiesUpTo, leftOf, rightOf, SeenIn, Call, walks-call, Left, Right, Fore, walks-fore, Back, walks-back, Bodies, walks-bodies, Rest, walks-rest, Inner, walks-inner, Body, walks-body}
+use Rattle.events.proofs.ScanLaws.{scan-append, scan-stopped, scan-places, scan-no-gate, scan-many, scan-frees, nextAfter, stacked-after}
+use Rattle.events.proofs.Entering.{scan-nothing}
+use Rattle.events.proofs.Following.{only-reverse, entries-only, gates-next, follows-none, follows-stopped, follows-gates, follows-next, follows-if, follows-as, follows-append, slot-kept, held-kept, appears-kept, held-append}
+use Rattle.emit.proofs.Stepping.{ready-then}
 use Rattle.emit.proofs.Stepping.{spent-skip}
 use Rattle.emit.proofs.Walking.{left-next}
 use Rattle.emit.proofs.Lefts.{was-ok, use-left, use-invokes}

@@ -21,12 +21,14 @@ use Rattle.step.specs.declared.Step.the-variants as step
 use Rattle.step.specs.Steps.{stepAt}
 use Rattle.reach.specs.Matrix.{recursiveIn}
 use Rattle.reach.proofs.Filled.{recursive-entry}
-use Rattle.emit.specs.declared.Emit.{Emit}
-use Rattle.emit.specs.Scan.{Seen, seen, emitOf, scan, heldIn}
-use Rattle.emit.specs.Walks.{Follows, Opens, Ready, Roomy, Invokes, fills-slot, chainsIn, Whole, Call, Left, walks-left}
-use Rattle.emit.proofs.ScanLaws.{scan-was}
+use Rattle.events.specs.declared.Emit.{Emit}
+use Rattle.events.specs.Scan.{Seen, seen, emitOf, scan, heldIn}
+use Rattle.events.specs.Follows.{Follows, Opens, Invokes, fills-slot}
+use Rattle.emit.specs.Walks.{Ready, Roomy, chainsIn, Whole, Call, Left, walks-left}
+use Rattle.events.proofs.ScanLaws.{scan-was}
 use Rattle.emit.proofs.Stepping.{at-step, spent-skip}
-use Rattle.emit.proofs.Following.{follows-none, follows-stopped, follows-gates, follows-next, follows-if, follows-append, ready-then, held-kept, held-append}
+use Rattle.events.proofs.Following.{follows-none, follows-stopped, follows-gates, follows-next, follows-if, follows-append, held-kept, held-append}
+use Rattle.emit.proofs.Stepping.{ready-then}
 use Rattle.emit.proofs.Walking.{within-is, roomy-less, roomy-asking, whole-next, left-next, use-whole, use-call}
 
 -- the matrix says which calls of f are recursive

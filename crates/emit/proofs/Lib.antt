@@ -1,13 +1,8 @@
-pub mod ScanLaws
-pub mod Leaves
-pub mod Entering
-pub mod Following
 pub mod Stepping
 pub mod Counting
-pub mod Invoking
 pub mod Walking
 pub mod Lefts
 pub mod Rights
 pub mod Seeking
 pub mod Chaining
-pub mod Compiling
+pub mod Main

@@ -21,12 +21,14 @@ use Rattle.step.specs.declared.Step.{Step}
 use Rattle.step.specs.declared.Step.the-variants as step
 use Rattle.step.specs.Steps.{stepAt}
 use Rattle.reach.specs.Matrix.{recursiveIn}
-use Rattle.emit.specs.declared.Emit.{Emit}
-use Rattle.emit.specs.Scan.{seen, scan, wireOf}
-use Rattle.emit.specs.Walks.{Follows, Ready, Roomy, chainsIn, Whole, Right, walks-right}
+use Rattle.events.specs.declared.Emit.{Emit}
+use Rattle.events.specs.Scan.{seen, scan, wireOf}
+use Rattle.events.specs.Follows.{Follows}
+use Rattle.emit.specs.Walks.{Ready, Roomy, chainsIn, Whole, Right, walks-right}
 use Rattle.emit.proofs.Stepping.{at-step, spent-skip}
 use Rattle.emit.proofs.Counting.{same-count}
-use Rattle.emit.proofs.Following.{OnlyGates, follows-none, follows-stopped, follows-gates, follows-next, follows-if, follows-as, follows-append, ready-then}
+use Rattle.events.proofs.Following.{OnlyGates, follows-none, follows-stopped, follows-gates, follows-next, follows-if, follows-as, follows-append}
+use Rattle.emit.proofs.Stepping.{ready-then}
 use Rattle.emit.proofs.Walking.{within-is, roomy-less, roomy-asking, right-next, use-whole}
 use Rattle.emit.proofs.Lefts.{recursive-is, wide-so, wide-not, was-ok}
 

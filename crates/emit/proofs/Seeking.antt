@@ -13,10 +13,10 @@ use Rattle.model.specs.Emission.{Chains, Invocation, Emitted, bodyInvocations, 
 use Rattle.model.proofs.Tests.{byBool, byEq, clash}
 use Rattle.agreement.proofs.Clauses.{opens, bodies-here, bodies-past}
 use Rattle.records.specs.Fields.{pick}
-use Rattle.emit.specs.Scan.{slotLength, slotProcedure, slotOf, heldIn}
-use Rattle.emit.specs.Slots.{pairAt, appears, opensAt, seekOf}
+use Rattle.events.specs.Scan.{slotLength, slotProcedure, slotOf, heldIn}
+use Rattle.events.specs.Slots.{pairAt, appears, opensAt, seekOf}
 use Rattle.emit.specs.Walks.{SeenIn}
-use Rattle.emit.proofs.Entering.{bytes-length}
+use Rattle.events.proofs.Entering.{bytes-length}
 
 or-none : (a : Bool) → a || false ≡ a
 or-none true = refl

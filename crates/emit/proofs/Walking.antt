@@ -21,12 +21,14 @@ use Rattle.table.specs.Index.{testAt, statementAt, programAt}
 use Rattle.step.specs.declared.Step.{Step}
 use Rattle.step.specs.declared.Step.the-variants as step
 use Rattle.step.specs.Steps.{stepAt}
-use Rattle.emit.specs.declared.Emit.{Emit}
-use Rattle.emit.specs.Scan.{seen, scan}
-use Rattle.emit.specs.Walks.{Follows, Ready, Roomy, chainsIn, Whole, walks-whole, Call, walks-call}
-use Rattle.emit.proofs.ScanLaws.{nextAfter, stacked-after}
+use Rattle.events.specs.declared.Emit.{Emit}
+use Rattle.events.specs.Scan.{seen, scan}
+use Rattle.events.specs.Follows.{Follows}
+use Rattle.emit.specs.Walks.{Ready, Roomy, chainsIn, Whole, walks-whole, Call, walks-call}
+use Rattle.events.proofs.ScanLaws.{nextAfter, stacked-after}
 use Rattle.emit.proofs.Stepping.{at-step, spent-skip}
-use Rattle.emit.proofs.Following.{follows-none, follows-stopped, follows-gates, follows-next, follows-if, follows-as, follows-append, ready-then}
+use Rattle.events.proofs.Following.{follows-none, follows-stopped, follows-gates, follows-next, follows-if, follows-as, follows-append}
+use Rattle.emit.proofs.Stepping.{ready-then}
 
 -- controls within their room
 insert-length : (w : ℕ) (l : List ℕ) → length (insert w l) ≡ suc (length l)

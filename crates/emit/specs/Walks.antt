@@ -1,38 +1,23 @@
--- What the walkers promise: the events of the definitions are scanned, and the slots of the workspace below the next wire stay as they are.
+-- What the walkers promise: each follows the events that the definitions have for it.
 use Prim.Native.Nat.{ℕ, zero, suc, _+_, _-_, _≤_, _<_}
 use mathlib.Core.Path.{_≡_}
 use mathlib.Core.Bool.{Bool}
 use mathlib.Core.List.{List, [], _++_}
-use lib.ListN.{length, getD}
-use lib.Dec.{ltb, leb}
-use Rattle.model.specs.Limits.{mostProcedures, mostQubits, mostDepth, headerLength, noRoom}
+use lib.ListN.{length}
+use lib.Dec.{ltb}
+use Rattle.model.specs.Limits.{mostProcedures, mostQubits, mostDepth}
 use Rattle.model.specs.Syntax.{Program, body}
 use Rattle.model.specs.Lists.{member}
 use Rattle.model.specs.Reach.{recursive}
 use Rattle.model.specs.Gates.{Controls}
-use Rattle.model.specs.Emission.{Event, Chains, startChain, whole, Invocation, invoked, invocations, invokes, left, right, under, Emitted, bodyInvocations, around, bodies, bodiesFrom, chainsWithin, emission, gates, peak}
-use Rattle.model.specs.Circuit.{encodeAll, write}
-use Rattle.model.specs.Answers.{Outcome, gives, require, fitted, fit, circuit, usable, number, valueOr, roomAfter}
+use Rattle.model.specs.Emission.{Event, Chains, startChain, whole, Invocation, invocations, left, right, under, Emitted, bodyInvocations, around, bodies, bodiesFrom, chainsWithin, emission}
 use Rattle.records.specs.Fields.{pick}
 use Rattle.table.specs.Index.{statementAt, programAt}
 use Rattle.reach.specs.Walk.{reachAt}
-use Rattle.emit.specs.declared.Emit.{Emit}
-use Rattle.emit.specs.declared.Compiled.{Compiled}
-use Rattle.emit.specs.Scan.{seen, scan, begun, slotAt, slotOf, heldIn}
-use Rattle.emit.specs.Slots.{appears}
-
--- the events are scanned; the workspace below the first next wire is as it was
-pub record Follows (write : Bool) (es : List Event) (st : Emit) (room ws : List ℕ) (r : Emit) (room₁ ws₁ : List ℕ) : Type 0 where
-  pub scanned : seen r room₁ ≡ scan write es (seen st room)
-  pub long : length ws₁ ≡ length ws
-  pub rises : st .next ≤ r .next
-  pub low : st .next ≤ 256 → r .next ≤ 256
-  pub kept : (i : ℕ) → i < slotAt (st .next) → getD ws₁ i 0 ≡ getD ws i 0
-
--- the same, and the slots from the first next wire on hold the new invocations
-pub record Opens (write : Bool) (es : List Event) (news : List Invocation) (st : Emit) (room ws : List ℕ) (r : Emit) (room₁ ws₁ : List ℕ) : Type 0 where
-  pub follows : Follows write es st room ws r room₁ ws₁
-  pub held : r .status ≡ 0 → heldIn ws₁ (st .next) (length news) ≡ news
+use Rattle.events.specs.declared.Emit.{Emit}
+use Rattle.events.specs.Scan.{seen, scan, begun, slotOf, heldIn}
+use Rattle.events.specs.Slots.{appears}
+use Rattle.events.specs.Follows.{Follows, Opens}
 
 -- a table of at most 16 procedures with its matrix, wires that are one byte, and a workspace that is long enough
 pub record Ready (bs ix m : List ℕ) (p : ℕ) (st : Emit) (ws : List ℕ) : Type 0 where
@@ -50,11 +35,6 @@ bodyDepth p f = pick (ltb p f) 0 mostDepth
 pub record Roomy (depth : ℕ) (cs : Controls) : Type 0 where
   pub ones : length (cs .ones) + depth ≤ 33
   pub zeros : length (cs .zeros) + depth ≤ 33
-
--- a call that names a pair
-pub data Invokes (f : ℕ) (l : List ℕ) (cs : Controls) (write : Bool) (st : Emit) (room ws : List ℕ) (r : Emit) (room₁ ws₁ : List ℕ) : Type 0 where
-  fills-slot : (8704 ≤ length ws → Opens write (invokes l cs (st .next)) (invoked f l (st .next)) st room ws r room₁ ws₁) →
-      Invokes f l cs write st room ws r room₁ ws₁
 
 module _ (bs ix : List ℕ) (p k : ℕ) where
   abbrev pub programIn : Program
@@ -163,31 +143,3 @@ pub data Emits (bs ix m : List ℕ) (p n : ℕ) (write : Bool) (room ws : List �
   walks-main : (p ≤ mostProcedures → m ≡ reachAt p bs ix → n ≤ mostQubits → 8704 ≤ length ws →
       (seen r room₁ ≡ scan write (emission (programAt p bs ix) n) (seen (begun n) room)) × (length ws₁ ≡ length ws)) →
       Emits bs ix m p n write room ws r room₁ ws₁
-
--- what compile answers where the table is accepted and the workspace long enough
-unfoldable pub emissionAnswer : Program → ℕ → ℕ → Outcome (List ℕ)
-emissionAnswer P n room = require (leb headerLength (usable room)) noRoom (fitted (fit (usable room) headerLength (emission P n)) (circuit P n))
-
--- an answer as a number and a length: "A refusal gives its number and otherwise zeros."
-abbrev pub compiledOf : Outcome (List ℕ) → Compiled
-compiledOf o = record { number = number o; length = length (valueOr [] o) }
-
--- where an emission ends that fits
-abbrev pub measuredEnd : Program → ℕ → Emit
-measuredEnd P n = record {
-  status = 0; used = 7 + length (encodeAll (gates (emission P n))); gates = length (gates (emission P n));
-  next = n + 1; highest = n + peak [] (emission P n) }
-
--- a circuit written as it was measured
-pub data Writes (bs ix m : List ℕ) (p n : ℕ) (measured : Emit) (room ws : List ℕ) (r : Compiled) (room₁ ws₁ : List ℕ) : Type 0 where
-  walks-again : (p ≤ mostProcedures → m ≡ reachAt p bs ix → n ≤ mostQubits → 8704 ≤ length ws → headerLength ≤ usable (length room) →
-      fit (usable (length room)) headerLength (emission (programAt p bs ix) n) ≡ 0 → measured ≡ measuredEnd (programAt p bs ix) n →
-      (r ≡ compiledOf (gives (write (circuit (programAt p bs ix) n)))) × (room₁ ≡ roomAfter (gives (write (circuit (programAt p bs ix) n))) room)) →
-      Writes bs ix m p n measured room ws r room₁ ws₁
-
--- the number, the length and the room of the answer
-pub data Compiles (bs ix m : List ℕ) (p n : ℕ) (room ws : List ℕ) (r : Compiled) (room₁ ws₁ : List ℕ) : Type 0 where
-  walks-twice : (p ≤ mostProcedures → m ≡ reachAt p bs ix → n ≤ mostQubits → 8704 ≤ length ws →
-      (r ≡ compiledOf (emissionAnswer (programAt p bs ix) n (length room)))
-      × (room₁ ≡ roomAfter (emissionAnswer (programAt p bs ix) n (length room)) room)) →
-      Compiles bs ix m p n room ws r room₁ ws₁

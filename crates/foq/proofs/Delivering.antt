@@ -12,8 +12,8 @@ use Rattle.model.specs.Demand.{Demand3}
 use Rattle.agreement.proofs.Promise.{compile-promises}
 use Rattle.run.specs.declared.Answer.{Answer}
 use Rattle.run.specs.Answers.{answerOf}
-use Rattle.emit.specs.declared.Compiled.{Compiled}
-use Rattle.emit.specs.Walks.{compiledOf}
+use Rattle.compile.specs.declared.Compiled.{Compiled}
+use Rattle.compile.specs.Passes.{compiledOf}
 use Rattle.compile.specs.Compiling.{Answered, answered}
 use Rattle.compile.specs.Compiling as compiling
 use Rattle.compile.proofs.Numbered.{Numbered, compile-numbered}

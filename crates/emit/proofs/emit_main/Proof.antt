@@ -1,5 +1,5 @@
 -- `emit_main` meets its contract: each way out is one law.
-use Rattle.emit.proofs.Compiling.{compiling}
+use Rattle.emit.proofs.Main.{emitting}
 use borrow.Author.Needs.{needs}
 use Rattle.emit.proofs.emit_main.Statement.{statement}
 use Rattle.emit.proofs.emit_main.Tie as tie
@@ -13,4 +13,4 @@ emit-main-spec = tie.close (tie.spec
     (λ c κs. search needs)
     (λ c. search needs)
     (λ c. search needs)
-    (λ c. search compiling))
+    (λ c. search emitting))

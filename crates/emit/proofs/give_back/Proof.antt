@@ -1,9 +1,0 @@
--- `give_back` meets its contract: each way out is one law.
-use Rattle.emit.proofs.Leaves.{takings}
-use Rattle.emit.proofs.give_back.Statement.{statement}
-use Rattle.emit.proofs.give_back.Tie as tie
-
-pub give-back-spec : {M : Type 1} → statement M
-give-back-spec = tie.close (tie.spec
-    (λ c. search takings)
-    (λ c. search takings))

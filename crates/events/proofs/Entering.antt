@@ -1,0 +1,200 @@
+-- The ways out of the functions that emit entry gates, in order or reversed.
+use mathlib.Core.Path.{_≡_, refl, sym, ap, _∙_}
+use mathlib.Core.Bool.{Bool, true, false, _&&_}
+use mathlib.Core.List.{List, [], _∷_, _++_, map, reverse, reverse-cons, reverse-append}
+use Prim.Native.Nat.{ℕ, zero, suc, _+_, _-_, _*_, _≤_, _<_}
+use native.Mathlib.Numerals.{add-one}
+use native.Mathlib.Omega.{arith}
+use borrow.Author.Needs.{needs}
+use borrow.Author.Tests.{eq-eqb, ne-eqb}
+use lib.ListN.{length, getD, drop}
+use lib.Seq.{drop-cons}
+use lib.Dec.{eqb}
+use Rattle.model.specs.Gates.{Controls, Gate, flip, swapOf, exchange}
+use Rattle.model.specs.Emission.{Event, places, under, swaps, entryGates, samePair, allEntryGates}
+use Rattle.model.proofs.Tests.{byBool}
+use Rattle.records.specs.Fields.{pick}
+use Rattle.events.specs.declared.Emit.{Emit}
+use Rattle.events.specs.Scan.{Seen, seen, scan, bytesFrom, slotLength, slotProcedure, slotList, wireOf, slotOf, heldIn}
+use Rattle.events.specs.Slots.{pairAt, turned, entryAt}
+use Rattle.events.proofs.ScanLaws.{scan-append}
+use Rattle.events.proofs.Leaves.{drop-past, further, spent}
+
+pub scan-nothing : (write : Bool) (x : Seen) → x ≡ scan write [] x
+unfolding scan
+scan-nothing write x = refl
+
+-- one gate, then others; others reversed, then the gate
+pub scan-first : (write : Bool) (g : Event) (es : List Event) (x y z : Seen) → y ≡ scan write (g ∷ []) x → z ≡ scan write es y → z ≡ scan write (g ∷ es) x
+scan-first write g es x y z p q = rw (q, p) (sym (scan-append write (g ∷ []) es x))
+
+pub scan-last : (write : Bool) (g : Event) (es : List Event) (x y z : Seen) → y ≡ scan write (reverse es) x → z ≡ scan write (g ∷ []) y →
+    z ≡ scan write (reverse (g ∷ es)) x
+scan-last write g es x y z p q = rw (q, p, reverse-cons g es) (sym (scan-append write (reverse es) (g ∷ []) x))
+
+-- the clauses of `swaps` at position k
+swaps-nil : (e : ℕ) (ks : List ℕ) → swaps e ks [] ≡ []
+unfolding swaps
+swaps-nil e [] = refl
+swaps-nil e (k ∷ ks) = refl
+
+swaps-equal : (e k w : ℕ) (ks ws : List ℕ) → eqb w k ≡ true → swaps e (k ∷ ks) (w ∷ ws) ≡ swaps e ks ws
+unfolding swaps
+swaps-equal e k w ks ws q = rw (q, swaps)
+
+swaps-unequal : (e k w : ℕ) (ks ws : List ℕ) → eqb w k ≡ false →
+    swaps e (k ∷ ks) (w ∷ ws) ≡ places (swapOf (under e) w k) ∷ swaps e ks (map (exchange w k) ws)
+unfolding swaps
+swaps-unequal e k w ks ws q = rw (q, swaps)
+
+drop-map : (f : ℕ → ℕ) (n : ℕ) (l : List ℕ) → drop n (map f l) ≡ map f (drop n l)
+drop-map f zero l = refl
+drop-map f (suc n) [] = refl
+drop-map f (suc n) (x ∷ l) = drop-map f n l
+
+nothing-turned : (back write : Bool) (x : Seen) → x ≡ scan write (turned back []) x
+nothing-turned true write x = scan-nothing write x
+nothing-turned false write x = scan-nothing write x
+
+module _ (e : ℕ) (F L : List ℕ) (k : ℕ) (back write : Bool) (st : Emit) (room : List ℕ) (m : ℕ) (first : m ≡ length F) where
+  swaps-left-none : m ≤ k → swaps e (drop k F) (drop k L) ≡ []
+  unfolding swaps
+  swaps-left-none h = let g : length F ≤ k = omega arith in rw (drop-past F k g)
+
+  pub swaps-no-first : m ≤ k → seen st room ≡ scan write (turned back (swaps e (drop k F) (drop k L))) (seen st room)
+  swaps-no-first h = rw (swaps-left-none h) (nothing-turned back write (seen st room))
+
+  module _ (n : ℕ) (later : n ≡ length L) where
+    pub swaps-no-later : n ≤ k → seen st room ≡ scan write (turned back (swaps e (drop k F) (drop k L))) (seen st room)
+    swaps-no-later h = let g : length L ≤ k = omega arith in rw (drop-past L k g, swaps-nil e (drop k F)) (nothing-turned back write (seen st room))
+
+    module _ (lf : k < m) (ll : k < n) (to from : ℕ) (is-to : to ≡ getD F k 0) (is-from : from ≡ getD L k 0) where
+      at-first : drop k F ≡ to ∷ drop (k + 1) F
+      at-first = let a : k < length F = omega arith in rw (is-to, add-one k) (drop-cons F k 0 a)
+
+      at-later : drop k L ≡ from ∷ drop (k + 1) L
+      at-later = let b : k < length L = omega arith in rw (is-from, add-one k) (drop-cons L k 0 b)
+
+      swaps-same : from ≡ to → swaps e (drop k F) (drop k L) ≡ swaps e (drop (k + 1) F) (drop (k + 1) L)
+      swaps-same q = rw (at-first, at-later) (swaps-equal e to from (drop (k + 1) F) (drop (k + 1) L) (eq-eqb from to q))
+
+      swaps-differ : (from ≡ to → ⊥) → (M : List ℕ) → M ≡ map (exchange from to) L →
+          swaps e (drop k F) (drop k L) ≡ places (swapOf (under e) from to) ∷ swaps e (drop (k + 1) F) (drop (k + 1) M)
+      swaps-differ q M is-m = rw (at-first, at-later, is-m, drop-map (exchange from to) (k + 1) L)
+        (swaps-unequal e to from (drop (k + 1) F) (drop (k + 1) L) (ne-eqb from to q))
+
+      pub swaps-on : (x : Seen) → from ≡ to → x ≡ scan write (turned back (swaps e (drop (k + 1) F) (drop (k + 1) L))) (seen st room) →
+          x ≡ scan write (turned back (swaps e (drop k F) (drop k L))) (seen st room)
+      swaps-on x q p = rw (swaps-same q) p
+
+      module _ (M : List ℕ) (q : from ≡ to → ⊥) (is-m : M ≡ map (exchange from to) L) where
+        pub swaps-back : (x y : Seen) → back ≡ true →
+            x ≡ scan write (turned back (swaps e (drop (k + 1) F) (drop (k + 1) M))) (seen st room) →
+            y ≡ scan write (places (swapOf (under e) from to) ∷ []) x →
+            y ≡ scan write (turned back (swaps e (drop k F) (drop k L))) (seen st room)
+        swaps-back x y b p r =
+          rw (swaps-differ q M is-m, b) (scan-last write (places (swapOf (under e) from to)) (swaps e (drop (k + 1) F) (drop (k + 1) M)) (seen st room) x y
+            (rw b at p) r)
+
+        pub swaps-forth : (x y : Seen) → back ≡ false → x ≡ scan write (places (swapOf (under e) from to) ∷ []) (seen st room) →
+            y ≡ scan write (turned back (swaps e (drop (k + 1) F) (drop (k + 1) M))) x →
+            y ≡ scan write (turned back (swaps e (drop k F) (drop k L))) (seen st room)
+        swaps-forth x y b p r =
+          rw (swaps-differ q M is-m, b) (scan-first write (places (swapOf (under e) from to)) (swaps e (drop (k + 1) F) (drop (k + 1) M)) (seen st room) x y
+            p (rw b at r))
+
+pub ruleset swapping = (needs, swaps-no-first, swaps-no-later, swaps-on, swaps-back, swaps-forth)
+
+-- the ways out of `emit_flip` and `emit_swap`
+pub flip-emitted : (write : Bool) (cs : Controls) (t : ℕ) (g : Gate) (x y : Seen) → g ≡ flip cs t → y ≡ scan write (places g ∷ []) x →
+    y ≡ scan write (places (flip cs t) ∷ []) x
+flip-emitted write cs t g x y e q = rw (← e) q
+
+pub swap-emitted : (write : Bool) (e u v : ℕ) (cs : Controls) (g : Gate) (x y : Seen) → cs ≡ under e → g ≡ swapOf cs u v →
+    y ≡ scan write (places g ∷ []) x → y ≡ scan write (places (swapOf (under e) u v) ∷ []) x
+swap-emitted write e u v cs g x y p r q = rw (← p, ← r) q
+
+pub ruleset emitting = (needs, flip-emitted, swap-emitted)
+
+-- the ways out of `emit_gates`
+module _ (ws : List ℕ) (d e : ℕ) (back write : Bool) (st : Emit) (room F L : List ℕ) (u v : ℕ) (cs : Controls)
+    (is-f : F ≡ slotList ws d) (is-l : L ≡ slotList ws e) (is-u : u ≡ wireOf e) (is-cs : cs ≡ under u) (is-v : v ≡ wireOf d) where
+  pub gates-back : (y z : Seen) → back ≡ true → y ≡ scan write (turned back (swaps u (drop 0 F) (drop 0 L))) (seen st room) →
+      z ≡ scan write (places (flip cs v) ∷ []) y →
+      z ≡ scan write (turned back (entryGates (slotOf ws d) (slotOf ws e))) (seen st room)
+  unfolding entryGates slotOf
+  gates-back y z b p q =
+    rw b (scan-last write (places (flip (under (wireOf e)) (wireOf d))) (swaps (wireOf e) (slotList ws d) (slotList ws e)) (seen st room) y z
+      (rw (b, is-u, is-f, is-l) at p) (rw (is-cs, is-u, is-v) at q))
+
+  pub gates-forth : (y z : Seen) → back ≡ false → y ≡ scan write (places (flip cs v) ∷ []) (seen st room) →
+      z ≡ scan write (turned back (swaps u (drop 0 F) (drop 0 L))) y →
+      z ≡ scan write (turned back (entryGates (slotOf ws d) (slotOf ws e))) (seen st room)
+  unfolding entryGates slotOf
+  gates-forth y z b p q =
+    rw b (scan-first write (places (flip (under (wireOf e)) (wireOf d))) (swaps (wireOf e) (slotList ws d) (slotList ws e)) (seen st room) y z
+      (rw (is-cs, is-u, is-v) at p) (rw (b, is-u, is-f, is-l) at q))
+
+-- the ways out of `emit_entry`
+module _ (ws : List ℕ) (d e : ℕ) (back write : Bool) (st : Emit) (room : List ℕ) (f m : ℕ) (b : Bool)
+    (is-f : f ≡ slotProcedure ws d) (is-m : m ≡ slotLength ws d) (is-b : b ≡ pairAt ws e f m) where
+  pub entry-same : (y : Seen) → b ≡ true → y ≡ scan write (turned back (entryGates (slotOf ws d) (slotOf ws e))) (seen st room) →
+      y ≡ scan write (turned back (entryAt ws d e)) (seen st room)
+  unfolding entryAt
+  entry-same y t p = rw (← is-f, ← is-m, ← is-b, t) p
+
+  pub entry-other : b ≡ false → seen st room ≡ scan write (turned back (entryAt ws d e)) (seen st room)
+  unfolding entryAt
+  entry-other t = rw (← is-f, ← is-m, ← is-b, t) (nothing-turned back write (seen st room))
+
+pub ruleset gating = (needs, gates-back, gates-forth, entry-same, entry-other)
+
+-- the ways out of `emit_entries`
+pub bytes-length : (bs : List ℕ) (at n : ℕ) → length (bytesFrom bs at n) ≡ n
+unfolding bytesFrom
+bytes-length bs at zero = refl
+bytes-length bs at (suc n) = ap suc (bytes-length bs (at + 1) n)
+
+pair-is : (ws : List ℕ) (d e : ℕ) → samePair (slotOf ws d) (slotOf ws e) ≡ pairAt ws e (slotProcedure ws d) (slotLength ws d)
+unfolding samePair slotOf pairAt
+pair-is ws d e = rw (bytes-length ws (34 * d + 2) (slotLength ws d), bytes-length ws (34 * e + 2) (slotLength ws e))
+    (both (eqb (slotProcedure ws e) (slotProcedure ws d)) (eqb (slotLength ws e) (slotLength ws d)))
+    where
+      both : (a b : Bool) → a && b ≡ pick a b false
+      both true b = refl
+      both false b = refl
+
+entries-cons : (ws : List ℕ) (d e n : ℕ) →
+    allEntryGates (slotOf ws d) (heldIn ws e (suc n)) ≡ entryAt ws d e ++ allEntryGates (slotOf ws d) (heldIn ws (e + 1) n)
+unfolding heldIn allEntryGates entryAt
+entries-cons ws d e n = byBool (pairAt ws e (slotProcedure ws d) (slotLength ws d))
+    (λ t. rw (t, pair-is ws d e ∙ t, allEntryGates))
+    (λ t. rw (t, pair-is ws d e ∙ t, allEntryGates))
+
+module _ (ws : List ℕ) (d e upto : ℕ) (back write : Bool) (st : Emit) (room : List ℕ) where
+  none-held : upto ≤ e → allEntryGates (slotOf ws d) (heldIn ws e (upto - e)) ≡ []
+  unfolding allEntryGates heldIn
+  none-held h = rw (spent upto e h)
+
+  pub entries-none : upto ≤ e → seen st room ≡ scan write (turned back (allEntryGates (slotOf ws d) (heldIn ws e (upto - e)))) (seen st room)
+  entries-none h = rw (none-held h) (nothing-turned back write (seen st room))
+
+  pub entries-back : (x y : Seen) → e < upto → back ≡ true →
+      x ≡ scan write (turned back (allEntryGates (slotOf ws d) (heldIn ws (e + 1) (upto - (e + 1))))) (seen st room) →
+      y ≡ scan write (turned back (entryAt ws d e)) x →
+      y ≡ scan write (turned back (allEntryGates (slotOf ws d) (heldIn ws e (upto - e)))) (seen st room)
+  entries-back x y h b p q =
+    let E = entryAt ws d e in
+    let R = allEntryGates (slotOf ws d) (heldIn ws (e + 1) (upto - (e + 1))) in
+    rw (further upto e h, entries-cons ws d e (upto - (e + 1)), b, reverse-append E R, scan-append write (reverse R) (reverse E) (seen st room),
+      ← (rw b at p)) (rw b at q)
+
+  pub entries-forth : (x y : Seen) → e < upto → back ≡ false → x ≡ scan write (turned back (entryAt ws d e)) (seen st room) →
+      y ≡ scan write (turned back (allEntryGates (slotOf ws d) (heldIn ws (e + 1) (upto - (e + 1))))) x →
+      y ≡ scan write (turned back (allEntryGates (slotOf ws d) (heldIn ws e (upto - e)))) (seen st room)
+  entries-forth x y h b p q =
+    let E = entryAt ws d e in
+    let R = allEntryGates (slotOf ws d) (heldIn ws (e + 1) (upto - (e + 1))) in
+    rw (further upto e h, entries-cons ws d e (upto - (e + 1)), b, scan-append write E R (seen st room), ← (rw b at p)) (rw b at q)
+
+pub ruleset entering = (needs, entries-none, entries-back, entries-forth)

@@ -1,0 +1,97 @@
+-- An emission as the code keeps it: what each event does to the state of the walk and to the room, and the slots of the workspace.
+use Prim.Native.Nat.{ℕ, zero, suc, _+_, _*_, max, min}
+use mathlib.Core.Bool.{Bool}
+use mathlib.Core.List.{List, [], _∷_}
+use lib.ListN.{length, getD}
+use lib.Seq.{sets}
+use lib.Dec.{eqb, ltb, leb}
+use Rattle.model.specs.Limits.{mostWires, mostCircuit, mostQubits, manyWires, noRoom}
+use Rattle.model.specs.Syntax.{Program}
+use Rattle.model.specs.Emission.{Event, takes, places, frees, Invocation, invocation, emission, gates, peak}
+use Rattle.model.specs.Circuit.{encode, encodeAll}
+use Rattle.model.specs.Answers.{usable}
+use Rattle.records.specs.Fields.{pick}
+use Rattle.events.specs.declared.Emit.{Emit}
+
+-- what is seen of an emission: where it stands, and the room
+pub data Seen : Type 0 where
+  seen : Emit → List ℕ → Seen
+
+abbrev pub emitOf : Seen → Emit
+emitOf (seen st room) = st
+
+abbrev pub roomOf : Seen → List ℕ
+roomOf (seen st room) = room
+
+-- the state behind a refusal, an ancilla taken, ancillas given back from one on, and a gate of some bytes
+abbrev pub stopped : Emit → ℕ → Emit
+stopped st k = record { status = k; used = st .used; gates = st .gates; next = st .next; highest = st .highest }
+
+abbrev pub taken : Emit → ℕ → Emit
+taken st w = record { status = 0; used = st .used; gates = st .gates; next = w + 1; highest = max (st .highest) w }
+
+abbrev pub freed : Emit → ℕ → Emit
+freed st a = record { status = 0; used = st .used; gates = st .gates; next = a; highest = st .highest }
+
+abbrev pub placed : Emit → ℕ → Emit
+placed st n = record { status = 0; used = st .used + n; gates = st .gates + 1; next = st .next; highest = st .highest }
+
+-- bytes stored from a place on, where the room is to be written
+abbrev pub stored : Bool → List ℕ → ℕ → List ℕ → List ℕ
+stored write room at bytes = pick write (sets room at bytes) room
+
+-- one event where nothing was refused: "22 or 23 at the first ancilla or gate that does not fit". A room holds fewer than 65,536 gates.
+unfoldable pub goes : Bool → Event → Emit → List ℕ → Seen
+goes write (takes w) st room = pick (ltb mostWires w) (seen (stopped st manyWires) room) (seen (taken st w) room)
+goes write (places g) st room =
+    pick (leb (st .used + length (encode g)) (usable (length room)))
+    (pick (ltb (st .gates) mostCircuit)
+    (seen (placed st (length (encode g))) (stored write room (st .used) (encode g)))
+    (seen (stopped st noRoom) room))
+    (seen (stopped st noRoom) room)
+goes write (frees a) st room = seen (freed st a) room
+
+-- the events in order; a refusal absorbs what follows it
+unfoldable pub scan : Bool → List Event → Seen → Seen
+scan write [] x = x
+scan write (e ∷ es) (seen st room) = scan write es (pick (eqb (st .status) 0) (goes write e st room) (seen st room))
+
+-- an emission with n qubits starts behind the header, with wire n + 1
+abbrev pub begun : ℕ → Emit
+begun n = record { status = 0; used = 7; gates = 0; next = n + 1; highest = n }
+
+-- where one ends that fits
+abbrev pub emissionEnd : Program → ℕ → Emit
+emissionEnd P n = record {
+  status = 0; used = 7 + length (encodeAll (gates (emission P n))); gates = length (gates (emission P n));
+  next = n + 1; highest = n + peak [] (emission P n) }
+
+-- n bytes from a place on, 0 past the end
+unfoldable pub bytesFrom : List ℕ → ℕ → ℕ → List ℕ
+bytesFrom bs at zero = []
+bytesFrom bs at (suc n) = getD bs at 0 ∷ bytesFrom bs (at + 1) n
+
+-- an ancilla's slot of the workspace holds the invocation that took it: procedure, length, 32 entries
+abbrev pub slotAt : ℕ → ℕ
+slotAt a = 34 * a
+
+abbrev pub slotLength : List ℕ → ℕ → ℕ
+slotLength ws a = min (getD ws (slotAt a + 1) 0) mostQubits
+
+abbrev pub slotProcedure : List ℕ → ℕ → ℕ
+slotProcedure ws a = getD ws (slotAt a) 0
+
+abbrev pub slotList : List ℕ → ℕ → List ℕ
+slotList ws a = bytesFrom ws (slotAt a + 2) (slotLength ws a)
+
+-- the wire of an ancilla. None is above 255: for such the code has 0.
+abbrev pub wireOf : ℕ → ℕ
+wireOf a = pick (ltb mostWires a) 0 a
+
+unfoldable pub slotOf : List ℕ → ℕ → Invocation
+slotOf ws a = invocation (slotProcedure ws a) (slotList ws a) (wireOf a)
+
+-- the invocations in n slots, from ancilla a on
+unfoldable pub heldIn : List ℕ → ℕ → ℕ → List Invocation
+heldIn ws a zero = []
+heldIn ws a (suc n) = slotOf ws a ∷ heldIn ws (a + 1) n

@@ -1,0 +1,381 @@
+// The events of an emission: an ancilla taken, a gate placed, ancillas given back; and the runs of them that ask no table: swaps, the gates of an entry,
+// the two ends of a call. Ancillas keep their invocations in slots of the workspace, in which the next body is sought.
+ghost use mathlib.Core.Path.{_≡_};
+ghost use mathlib.Core.List.{[], _∷_, map};
+ghost use Prim.Native.Nat.{_+_, _-_, max};
+ghost use lib.ListN.{getD, drop};
+ghost use lib.Seq.{sets};
+ghost use lib.Dec.{leb};
+ghost use Rattle.model.specs.Gates.{exchange, flip, swapOf};
+ghost use Rattle.model.specs.Emission as model;
+ghost use Rattle.model.specs.Emission.{places, frees, swaps, entryGates, allEntryGates, returns};
+ghost use Rattle.model.specs.Answers.{usable};
+ghost use Rattle.circuit.specs.Writing.{controlsFrom, gateFrom};
+ghost use Rattle.step.specs.Steps.{qubitsOf};
+ghost use Rattle.events.specs.Scan.{seen, stopped, scan, slotLength, slotProcedure, slotList, wireOf, slotOf, heldIn};
+ghost use Rattle.events.specs.Slots.{filled, taking, returned, pairAt, appears, opensAt, seekOf, turned, entryAt};
+ghost use Rattle.events.specs.Follows.{Invokes};
+use circuit::write::{ControlLists, NewGate, asking, no_controls, flip_of, swap_of, gate_length, put, put_pair, put_gate};
+use step::{Qubits, size};
+
+// Where an emission stands: 0 or the number that refuses it, bytes used, gates placed, the next wire, and the highest wire taken.
+pub struct Emit {
+    pub status: u8,
+    pub used: usize,
+    pub gates: u32,
+    pub next: u16,
+    pub highest: u16,
+}
+
+// A refusal; nothing else changes.
+fn stop(st: Emit, number: u8) -> Emit
+    ensures { λ r. ⌜ r ≡ stopped st number ⌝ }
+{
+    Emit { status: number, used: st.used, gates: st.gates, next: st.next, highest: st.highest }
+}
+
+// "room past 65,536 bytes is not used"
+fn usable(room: usize) -> usize
+    ensures { λ r. ⌜ r ≡ usable room ⌝ }
+{
+    if room < 65536 { room } else { 65536 }
+}
+
+// Is there room for so many bytes more?
+fn in_room(room: usize, used: usize, length: usize) -> bool
+    ensures { λ r. ⌜ r ≡ leb (used + length) (usable room) ⌝ }
+{
+    let most = usable(room);
+    if most < length {
+        return false;
+    }
+    used <= most - length
+}
+
+// A gate is placed, or 23. Only a writing pass touches the room.
+fn place(gate: NewGate, write: bool, room: &mut [u8], st: Emit) -> Emit
+    ensures { λ r. ⌜ seen r (now (room .exit)) ≡ scan write (places (gateFrom gate) ∷ []) (seen st (now (room .entry))) ⌝ }
+{
+    if st.status != 0 {
+        return st;
+    }
+    let length = gate_length(gate);
+    let used = st.used;
+    let gates = st.gates;
+    if 65536 <= gates {
+        return stop(st, 23);
+    }
+    if in_room(room.len(), used, length) {
+        let more = Emit { status: 0, used: used + length, gates: gates + 1, next: st.next, highest: st.highest };
+        if write {
+            put_gate(room, used, gate);
+            return more;
+        }
+        return more;
+    }
+    stop(st, 23)
+}
+
+// A NOT is placed.
+pub fn emit_flip(controls: ControlLists, target: u8, write: bool, room: &mut [u8], st: Emit) -> Emit
+    ensures { λ r. ⌜ seen r (now (room .exit)) ≡ scan write (places (flip (controlsFrom controls) target) ∷ []) (seen st (now (room .entry))) ⌝ }
+{
+    place(flip_of(controls, target), write, room, st)
+}
+
+// A swap under an ancilla is placed.
+fn emit_swap(e: u8, first: u8, second: u8, write: bool, room: &mut [u8], st: Emit) -> Emit
+    ensures { λ r. ⌜ seen r (now (room .exit)) ≡ scan write (places (swapOf (model.under e) first second) ∷ []) (seen st (now (room .entry))) ⌝ }
+{
+    place(swap_of(under(e), first, second), write, room, st)
+}
+
+// The ancillas from a on are given back.
+fn give_back(st: Emit, a: u16) -> Emit
+    ensures { λ r. ⌜ r ≡ returned a st ⌝ }
+{
+    if st.status != 0 {
+        return st;
+    }
+    Emit { status: 0, used: st.used, gates: st.gates, next: a, highest: st.highest }
+}
+
+// The wire of an ancilla.
+pub fn wire(a: u16) -> u8
+    ensures { λ r. ⌜ r ≡ wireOf a ⌝ }
+{
+    if 255 < a { 0 } else { a as u8 }
+}
+
+// The byte at a place, 0 past the end.
+fn byte(s: &[u8], at: usize) -> u8
+    ensures { λ r. ⌜ r ≡ getD (now (s .entry)) at 0 ⌝ }
+{
+    if at < s.len() { s[at] } else { 0 }
+}
+
+// The procedure in a slot.
+pub fn procedure(ws: &[u8], a: u16) -> u8
+    ensures { λ r. ⌜ r ≡ slotProcedure (now (ws .entry)) a ⌝ }
+{
+    byte(ws, 34 * a as usize)
+}
+
+// The length of the list in a slot.
+fn list_size(ws: &[u8], a: u16) -> u8
+    ensures { λ r. ⌜ r ≡ slotLength (now (ws .entry)) a ⌝ }
+{
+    let n = byte(ws, 34 * a as usize + 1);
+    if n < 32 { n } else { 32 }
+}
+
+// The list in a slot.
+pub fn load(ws: &[u8], a: u16) -> Qubits
+    ensures { λ r. ⌜ qubitsOf r ≡ slotList (now (ws .entry)) a ⌝ }
+{
+    let from = 34 * a as usize + 2;
+    let len = list_size(ws, a);
+    let mut at = [0; 32];
+    let mut i = 0;
+    while i < 32 {
+        at[i] = byte(ws, from + i);
+        i += 1;
+    }
+    Qubits { at, len }
+}
+
+// The entry of a list behind i others, 0 where there is none.
+fn entry_at(list: Qubits, i: u8) -> u8
+    ensures { λ r. ⌜ r ≡ getD (qubitsOf list) i 0 ⌝ }
+{
+    if size(list) <= i {
+        return 0;
+    }
+    let k = i as usize;
+    list.at[k]
+}
+
+// The entries of a list from the i-th on are stored from a place on, as far as the workspace reaches.
+fn put_entries(ws: &mut [u8], at: usize, list: Qubits, i: u8)
+    ensures { λ r. ⌜ now (ws .exit) ≡ sets (now (ws .entry)) at (drop i (qubitsOf list)) ⌝ }
+{
+    if size(list) <= i {
+        return;
+    }
+    if ws.len() <= at {
+        return;
+    }
+    put(ws, at, entry_at(list, i));
+    put_entries(ws, at + 1, list, i + 1);
+}
+
+// An invocation is put into the slot of its ancilla.
+fn fill_slot(ws: &mut [u8], a: u16, f: u8, list: Qubits)
+    ensures { λ r. ⌜ now (ws .exit) ≡ filled (now (ws .entry)) a f (qubitsOf list) ⌝ }
+{
+    put_pair(ws, 34 * a as usize, f, size(list));
+    put_entries(ws, 34 * a as usize + 2, list, 0);
+}
+
+fn larger(a: u16, b: u16) -> u16
+    ensures { λ r. ⌜ r ≡ max a b ⌝ }
+{
+    if a < b { b } else { a }
+}
+
+// The next ancilla is taken for a call of f with a list, or 22.
+fn take(f: u8, list: Qubits, ws: &mut [u8], st: Emit) -> Emit
+    ensures { λ r. ⌜ seen r (now (ws .exit)) ≡ taking f (qubitsOf list) st (now (ws .entry)) ⌝ }
+{
+    if st.status != 0 {
+        return st;
+    }
+    let next = st.next;
+    if 255 < next {
+        return stop(st, 22);
+    }
+    fill_slot(ws, next, f, list);
+    Emit { status: 0, used: st.used, gates: st.gates, next: next + 1, highest: larger(st.highest, next) }
+}
+
+// Is slot a of the pair of f and length m?
+fn pair_at(ws: &[u8], a: u16, f: u8, m: u8) -> bool
+    ensures { λ r. ⌜ r ≡ pairAt (now (ws .entry)) a f m ⌝ }
+{
+    if procedure(ws, a) == f {
+        return list_size(ws, a) == m;
+    }
+    false
+}
+
+// Is one of the slots from `from` on, before `upto`, of that pair?
+fn appears(ws: &[u8], from: u16, upto: u16, f: u8, m: u8) -> bool
+    ensures { λ r. ⌜ r ≡ appears (now (ws .entry)) from (upto - from) f m ⌝ }
+{
+    if upto <= from {
+        return false;
+    }
+    if pair_at(ws, from, f, m) {
+        return true;
+    }
+    appears(ws, from + 1, upto, f, m)
+}
+
+// Does slot e of a chain from `base` on open the body of its pair, with lists of length m?
+fn opens(ws: &[u8], base: u16, m: u8, e: u16) -> bool
+    ensures { λ r. ⌜ r ≡ opensAt (now (ws .entry)) base m e ⌝ }
+{
+    if list_size(ws, e) == m {
+        return !appears(ws, base, e, procedure(ws, e), m);
+    }
+    false
+}
+
+// The first slot from e on, before `upto`, that does, otherwise `upto`.
+pub fn seek(ws: &[u8], base: u16, m: u8, e: u16, upto: u16) -> u16
+    ensures { λ r. ⌜ r ≡ seekOf (now (ws .entry)) base m e (upto - e) ⌝ }
+{
+    if upto <= e {
+        return e;
+    }
+    if opens(ws, base, m, e) {
+        return e;
+    }
+    seek(ws, base, m, e + 1, upto)
+}
+
+// The one control of a body, or of an entry.
+pub fn under(a: u8) -> ControlLists
+    ensures { λ r. ⌜ controlsFrom r ≡ model.under a ⌝ }
+{
+    asking(no_controls(), a, true)
+}
+
+// The two wires exchanged, every other wire itself.
+fn exchange(u: u8, v: u8, w: u8) -> u8
+    ensures { λ r. ⌜ r ≡ exchange u v w ⌝ }
+{
+    if w == u {
+        return v;
+    }
+    if w == v {
+        return u;
+    }
+    w
+}
+
+// Two wires exchanged in a list.
+fn exchanged(list: Qubits, u: u8, v: u8) -> Qubits
+    ensures { λ r. ⌜ qubitsOf r ≡ map (exchange u v) (qubitsOf list) ⌝ }
+{
+    let old = list.at;
+    let mut at = [0; 32];
+    let mut i = 0;
+    while i < 32 {
+        at[i] = exchange(u, v, old[i]);
+        i += 1;
+    }
+    Qubits { at, len: list.len }
+}
+
+// "for k = 1 up to the length, swap, under the entry ancilla, the wire now holding the k-th qubit of the later list with the k-th wire of the first
+// list, unless equal": from k on, in order or reversed.
+fn emit_swaps(e: u8, first: Qubits, later: Qubits, k: u8, back: bool, write: bool, room: &mut [u8], st: Emit) -> Emit
+    ensures { λ r. ⌜ seen r (now (room .exit)) ≡
+        scan write (turned back (swaps e (drop k (qubitsOf first)) (drop k (qubitsOf later)))) (seen st (now (room .entry))) ⌝ }
+{
+    if size(first) <= k {
+        return st;
+    }
+    if size(later) <= k {
+        return st;
+    }
+    let to = entry_at(first, k);
+    let from = entry_at(later, k);
+    if from == to {
+        return emit_swaps(e, first, later, k + 1, back, write, room, st);
+    }
+    let moved = exchanged(later, from, to);
+    if back {
+        let rest = emit_swaps(e, first, moved, k + 1, back, write, room, st);
+        return emit_swap(e, from, to, write, room, rest);
+    }
+    let here = emit_swap(e, from, to, write, room, st);
+    emit_swaps(e, first, moved, k + 1, back, write, room, here)
+}
+
+// "flip the body's ancilla under the entry ancilla; then" the swaps: from slot e to the body of slot d, in order or reversed.
+fn emit_gates(ws: &[u8], d: u16, e: u16, back: bool, write: bool, room: &mut [u8], st: Emit) -> Emit
+    ensures { λ r. ⌜ seen r (now (room .exit)) ≡
+        scan write (turned back (entryGates (slotOf (now (ws .entry)) d) (slotOf (now (ws .entry)) e))) (seen st (now (room .entry))) ⌝ }
+{
+    let first = load(ws, d);
+    let later = load(ws, e);
+    let a = wire(e);
+    let controls = under(a);
+    let target = wire(d);
+    if back {
+        let swapped = emit_swaps(a, first, later, 0, back, write, room, st);
+        return emit_flip(controls, target, write, room, swapped);
+    }
+    let flipped = emit_flip(controls, target, write, room, st);
+    emit_swaps(a, first, later, 0, back, write, room, flipped)
+}
+
+// These, if the slots are of one pair.
+fn emit_entry(ws: &[u8], d: u16, e: u16, back: bool, write: bool, room: &mut [u8], st: Emit) -> Emit
+    ensures { λ r. ⌜ seen r (now (room .exit)) ≡ scan write (turned back (entryAt (now (ws .entry)) d e)) (seen st (now (room .entry))) ⌝ }
+{
+    if pair_at(ws, e, procedure(ws, d), list_size(ws, d)) {
+        return emit_gates(ws, d, e, back, write, room, st);
+    }
+    st
+}
+
+// "Before the shared body's left part, for each such call in order" the entry gates; behind its right part "the same gates come in reverse".
+pub fn emit_entries(ws: &[u8], d: u16, e: u16, upto: u16, back: bool, write: bool, room: &mut [u8], st: Emit) -> Emit
+    ensures { λ r. ⌜ seen r (now (room .exit)) ≡
+        scan write (turned back (allEntryGates (slotOf (now (ws .entry)) d) (heldIn (now (ws .entry)) e (upto - e)))) (seen st (now (room .entry))) ⌝ }
+{
+    if upto <= e {
+        return st;
+    }
+    if back {
+        let rest = emit_entries(ws, d, e + 1, upto, back, write, room, st);
+        return emit_entry(ws, d, e, back, write, room, rest);
+    }
+    let here = emit_entry(ws, d, e, back, write, room, st);
+    emit_entries(ws, d, e + 1, upto, back, write, room, here)
+}
+
+// A call that names a pair takes the next ancilla and flips it under the controls in force. "A call with an empty list emits nothing"
+pub fn invoke(f: u8, list: Qubits, controls: ControlLists, write: bool, room: &mut [u8], ws: &mut [u8], st: Emit) -> Emit
+    ensures { λ r. ⌜ Invokes f (qubitsOf list) (controlsFrom controls) write st (now (room .entry)) (now (ws .entry)) r (now (room .exit)) (now (ws .exit)) ⌝ }
+{
+    if size(list) == 0 {
+        return st;
+    }
+    let a = wire(st.next);
+    let taken = take(f, list, ws, st);
+    emit_flip(controls, a, write, room, taken)
+}
+
+// A chain's end: its first ancilla is flipped back, and all its ancillas are given back.
+pub fn finish(base: u16, controls: ControlLists, write: bool, room: &mut [u8], st: Emit) -> Emit
+    ensures { λ r. ⌜ seen r (now (room .exit)) ≡
+        scan write (places (flip (controlsFrom controls) (wireOf base)) ∷ frees base ∷ []) (seen st (now (room .entry))) ⌝ }
+{
+    let flipped = emit_flip(controls, wire(base), write, room, st);
+    give_back(flipped, base)
+}
+
+// A recursive call's ancilla is flipped "again at its place in the right". "A call with an empty list emits nothing"
+pub fn flip_again(list: Qubits, controls: ControlLists, a: u16, write: bool, room: &mut [u8], st: Emit) -> Emit
+    ensures { λ r. ⌜ seen r (now (room .exit)) ≡ scan write (returns (qubitsOf list) (controlsFrom controls) (wireOf a)) (seen st (now (room .entry))) ⌝ }
+{
+    let m = size(list);
+    if m == 0 {
+        return st;
+    }
+    emit_flip(controls, wire(a), write, room, st)
+}
