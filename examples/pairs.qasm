@@ -1,0 +1,14 @@
+OPENQASM 3.0;
+include "stdgates.inc";
+qubit[3] q;
+qubit[3] anc;
+reset anc;
+x anc[0];
+ctrl(1) @ negctrl(2) @ x anc[0], q[0], q[1], anc[1];
+ctrl(3) @ x q[0], q[1], anc[0], anc[2];
+ctrl(1) @ x anc[2], anc[1];
+ctrl(1) @ x anc[1], q[2];
+ctrl(1) @ x anc[2], anc[1];
+ctrl(3) @ x q[0], q[1], anc[0], anc[2];
+ctrl(1) @ negctrl(2) @ x anc[0], q[0], q[1], anc[1];
+x anc[0];

@@ -1,0 +1,200 @@
+//! The program `foq` at work: what it prints and writes, and its exit status.
+
+use foq_generator::tables::{two_in_sequence, without_removal};
+use foq_generator::PAIRS;
+use std::fs;
+use std::path::{Path, PathBuf};
+use std::process::{Command, Output};
+
+/// The path of an example, as an argument.
+fn example(file: &str) -> String {
+    let examples = Path::new(env!("CARGO_MANIFEST_DIR")).join("../../examples");
+    examples.join(file).to_str().unwrap().to_string()
+}
+
+/// A path for a file of a test, which is not there yet.
+fn fresh(file: &str) -> PathBuf {
+    let path = Path::new(env!("CARGO_TARGET_TMPDIR")).join(file);
+    let _ = fs::remove_file(&path);
+    path
+}
+
+/// The path of a file with these contents, as an argument.
+fn file(name: &str, contents: &[u8]) -> String {
+    let path = fresh(name);
+    fs::write(&path, contents).unwrap();
+    path.to_str().unwrap().to_string()
+}
+
+/// Runs `foq` with these arguments.
+fn foq(arguments: &[&str]) -> Output {
+    Command::new(env!("CARGO_BIN_EXE_foq"))
+        .args(arguments)
+        .output()
+        .unwrap()
+}
+
+/// Asserts that `foq` ends well with exactly this output.
+fn prints(arguments: &[&str], expected: &[u8]) {
+    let output = foq(arguments);
+    assert_eq!(output.status.code(), Some(0), "{arguments:?}: {output:?}");
+    assert_eq!(output.stdout, expected, "{arguments:?}");
+    assert_eq!(output.stderr, b"", "{arguments:?}");
+}
+
+/// Asserts that `foq` fails with this status and these words, and prints
+/// nothing else.
+fn fails(arguments: &[&str], status: i32, words: &str) {
+    let output = foq(arguments);
+    assert_eq!(
+        output.status.code(),
+        Some(status),
+        "{arguments:?}: {output:?}"
+    );
+    assert_eq!(output.stdout, b"", "{arguments:?}");
+    let said = String::from_utf8(output.stderr).unwrap();
+    assert!(said.starts_with("foq: ") && said.contains(words), "{said}");
+}
+
+#[test]
+fn tables_and_texts_are_judged_run_and_compiled_alike() {
+    let listing = fs::read(example("pairs.listing")).unwrap();
+    let qasm = fs::read(example("pairs.qasm")).unwrap();
+    for pairs in &[example("pairs.foq"), example("pairs.foq.txt")] {
+        prints(&["verdict", pairs, "3"], b"accepted\n");
+        prints(&["run", pairs, "3", "3"], b"7\n");
+        prints(&["run", pairs, "3", "0x3"], b"0x7\n");
+        prints(&["run", pairs, "3", "0b111"], b"0b011\n");
+        prints(&["list", pairs, "3"], &listing);
+        prints(&["qasm", pairs, "3"], &qasm);
+    }
+}
+
+#[test]
+fn circuits_go_to_a_file_or_to_standard_output() {
+    let pairs = example("pairs.foq.txt");
+    let printed = foq(&["compile", &pairs, "3"]).stdout;
+    let circuit = foq::circuit_read(&printed).unwrap();
+    assert_eq!((circuit.qubits, circuit.ancillas, circuit.gates), (3, 3, 9));
+    let out = fresh("pairs.circuit");
+    prints(&["compile", &pairs, "3", out.to_str().unwrap()], b"");
+    assert_eq!(fs::read(&out).unwrap(), printed);
+}
+
+#[test]
+fn texts_and_tables_are_turned_into_each_other() {
+    let out = fresh("assembled.foq");
+    prints(
+        &["assemble", &example("pairs.foq.txt"), out.to_str().unwrap()],
+        b"",
+    );
+    assert_eq!(fs::read(&out).unwrap(), PAIRS);
+    let text = foq(&["disassemble", out.to_str().unwrap()]).stdout;
+    let again = fresh("again.foq");
+    let text = file("disassembled.txt", &text);
+    prints(&["assemble", &text, again.to_str().unwrap()], b"");
+    assert_eq!(fs::read(&again).unwrap(), PAIRS);
+    // A refused table has a text all the same.
+    let wide = file("wide.foq", &two_in_sequence());
+    assert_eq!(foq(&["disassemble", &wide]).status.code(), Some(0));
+}
+
+#[test]
+fn help_is_printed() {
+    let output = foq(&["--help"]);
+    assert_eq!(output.status.code(), Some(0));
+    let help = String::from_utf8(output.stdout).unwrap();
+    for command in [
+        "verdict",
+        "run",
+        "compile",
+        "list",
+        "qasm",
+        "assemble",
+        "disassemble",
+    ] {
+        assert!(help.contains(&format!("foq {command} FILE")), "{command}");
+    }
+}
+
+/// Asserts that `foq` ends with a refusal in these words.
+fn refused(arguments: &[&str], words: &str) {
+    fails(arguments, 1, words);
+}
+
+#[test]
+fn refusals_end_with_status_1_in_words() {
+    let pairs = &example("pairs.foq");
+    refused(&["verdict", pairs, "0"], "refusal 9: n is not 1 to 32");
+    refused(&["run", pairs, "3", "8"], "refusal 13: a start word");
+    let empty = &file("empty", b"");
+    refused(&["verdict", empty, "3"], "refusal 1: the table stops");
+    refused(&["disassemble", empty], "refusal 1: ");
+    let edition = &file("edition_2", &[2, 0, 0, 0]);
+    refused(&["verdict", edition, "3"], "refusal 2: ");
+    let kind = &file("kind_12", &[1, 0, 0, 12]);
+    refused(&["disassemble", kind], "refusal 4: ");
+    let endless = &file("endless", &without_removal());
+    refused(&["list", endless, "3"], "refusal 10: ");
+    let wide = &file("wide", &two_in_sequence());
+    refused(&["qasm", wide, "3"], "refusal 11: ");
+    let long = &example("chained_substring.foq");
+    refused(&["compile", long, "32"], "refusal 23: ");
+}
+
+#[test]
+fn a_refused_compile_writes_no_file() {
+    let fault = &file("fault.txt", b":: q[4] *= NOT;");
+    let out = fresh("not_written");
+    let words = "refusal 12: a position outside the list";
+    refused(&["compile", fault, "3", out.to_str().unwrap()], words);
+    assert!(!out.exists());
+}
+
+/// Asserts that `foq` ends with words on its arguments or its text.
+fn misused(arguments: &[&str], words: &str) {
+    fails(arguments, 2, words);
+}
+
+#[test]
+fn wrong_arguments_end_with_status_2() {
+    let pairs = &example("pairs.foq");
+    misused(&[], "a command is missing; `foq --help` says more");
+    misused(&["draw", pairs, "3"], "draw is no command, or none with 2");
+    misused(&["verdict", pairs], "or none with 1 arguments");
+    misused(&["--help", pairs], "or none with 1 arguments");
+    misused(&["verdict", pairs, "three"], "three is no number of qubits");
+    for word in ["", "0x", "0b2", "-1", "+1", "0x+1", "18446744073709551616"] {
+        misused(&["run", pairs, "3", word], "is no word of at most 64 bits");
+    }
+    let text = &example("pairs.foq.txt");
+    misused(&["disassemble", text], "pairs.foq.txt is a text already");
+    misused(&["assemble", pairs, "out"], "pairs.foq is no text");
+}
+
+#[test]
+fn files_that_cannot_be_read_or_written_end_with_status_2() {
+    let missing = fresh("missing/file");
+    let missing = missing.to_str().unwrap();
+    misused(&["verdict", missing, "3"], "missing/file: ");
+    let pairs = &example("pairs.foq.txt");
+    misused(&["compile", pairs, "3", missing], "missing/file: ");
+    misused(&["assemble", pairs, missing], "missing/file: ");
+}
+
+#[test]
+fn wrong_texts_end_with_status_2() {
+    let bad = &file("bad.txt", b"\n:: q[1] *= NOT");
+    let words = "bad.txt: line 2, column 15: expected `;`, found the end of the text";
+    misused(&["verdict", bad, "3"], words);
+    let latin = &file("latin.txt", b":: skip;\n/* M\xe4rz */");
+    let words = "latin.txt: line 2, column 5: a byte that is not UTF-8";
+    misused(&["list", latin, "3"], words);
+}
+
+#[test]
+fn the_deepest_text_is_walked() {
+    let deep = format!(":: {}skip;{}", "{".repeat(999), "}".repeat(999));
+    let deep = &file("deep.txt", deep.as_bytes());
+    prints(&["verdict", deep, "1"], b"accepted\n");
+}

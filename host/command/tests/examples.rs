@@ -1,0 +1,137 @@
+//! The examples: each text assembles to its table, each table lists as stored,
+//! and each program computes what its text says.
+
+use foq::{LEAST_WORKSPACE, MOST_CIRCUIT};
+use foq_command::bytes::encode;
+use foq_command::circuit;
+use foq_command::listing::listing;
+use foq_command::text::parse;
+use std::collections::BTreeSet;
+use std::fs;
+use std::path::PathBuf;
+
+/// The path of an example.
+fn example(file: &str) -> PathBuf {
+    let examples = PathBuf::from(env!("CARGO_MANIFEST_DIR")).join("../../examples");
+    examples.join(file)
+}
+
+/// The table of an example.
+fn table(name: &str) -> Vec<u8> {
+    fs::read(example(&format!("{name}.foq"))).unwrap()
+}
+
+/// The names of all examples.
+fn names() -> BTreeSet<String> {
+    let files = fs::read_dir(example("")).unwrap();
+    let names = files.map(|file| {
+        let name = file.unwrap().file_name().into_string().unwrap();
+        name.split('.').next().unwrap().to_string()
+    });
+    names.collect()
+}
+
+/// The listing of a table on n qubits.
+fn listed(table: &[u8], n: u32) -> String {
+    let mut room = vec![0; MOST_CIRCUIT];
+    let bytes = foq::compile(table, n, &mut room, &mut [0; LEAST_WORKSPACE]).unwrap();
+    listing(&circuit::read(bytes).unwrap())
+}
+
+#[test]
+fn text_table_and_listing_say_the_same() {
+    let names = names();
+    let known = [
+        "adder",
+        "chained_substring",
+        "pairs",
+        "palindrome",
+        "two_ones",
+    ];
+    assert_eq!(names, known.map(String::from).into());
+    for name in names {
+        let text = fs::read_to_string(example(&format!("{name}.foq.txt"))).unwrap();
+        assert!(text.starts_with("/* "), "{name} starts without a comment");
+        assert_eq!(encode(&parse(&text).unwrap()), table(&name), "{name}");
+        let stored = fs::read_to_string(example(&format!("{name}.listing"))).unwrap();
+        let n = stored.split(' ').next().unwrap().parse().unwrap();
+        assert_eq!(listed(&table(&name), n), stored, "{name}");
+    }
+}
+
+/// The end word of an example's run on n qubits.
+fn end(table: &[u8], n: u32, word: u64) -> u64 {
+    foq::run(table, n, word, &mut [0; LEAST_WORKSPACE]).unwrap()
+}
+
+/// Asserts of a program, on 1 to 10 qubits, that it flips the last qubit where
+/// the qubits before it, first to last, are as described, and nothing else.
+/// There are words of both sorts.
+fn flips_last_where(name: &str, described: fn(&[bool]) -> bool) {
+    let table = table(name);
+    let mut flipped = 0;
+    let mut kept = 0;
+    for n in 1..=10 {
+        for word in 0..1 << n {
+            let before: Vec<bool> = (0..n - 1).map(|bit| word >> bit & 1 == 1).collect();
+            let flips = described(&before);
+            let expected = word ^ u64::from(flips) << (n - 1);
+            assert_eq!(end(&table, n, word), expected, "{name}, n {n}, {word}");
+            flipped += u32::from(flips);
+            kept += u32::from(!flips);
+        }
+    }
+    assert!(flipped > 0 && kept > 0, "{name}: {flipped} and {kept}");
+}
+
+#[test]
+fn pairs_flips_behind_a_row_of_pairs() {
+    let all_pairs = |bits: &[bool]| {
+        bits.chunks(2)
+            .all(|pair| pair.len() == 2 && pair[0] == pair[1])
+    };
+    flips_last_where("pairs", all_pairs);
+}
+
+#[test]
+fn palindrome_flips_behind_a_palindrome() {
+    flips_last_where("palindrome", |bits| bits.iter().eq(bits.iter().rev()));
+}
+
+#[test]
+fn two_ones_flips_behind_two_ones() {
+    flips_last_where("two_ones", |bits| {
+        bits.iter().filter(|bit| **bit).count() == 2
+    });
+}
+
+#[test]
+fn chained_substring_flips_behind_001_and_later_11() {
+    flips_last_where("chained_substring", |bits| {
+        let bits: String = bits
+            .iter()
+            .map(|bit| if *bit { '1' } else { '0' })
+            .collect();
+        bits.split_once("001")
+            .is_some_and(|(_, behind)| behind.contains("11"))
+    });
+}
+
+#[test]
+fn adder_adds() {
+    let table = table("adder");
+    for k in 0..=3 {
+        let n = 3 * k + 1;
+        for (pairs, carry) in (0..1 << (2 * k)).flat_map(|pairs| [(pairs, 0), (pairs, 1)]) {
+            let bit = |place: u32| pairs >> place & 1;
+            let a: u64 = (0..k).map(|place| bit(2 * place) << place).sum();
+            let b: u64 = (0..k).map(|place| bit(2 * place + 1) << place).sum();
+            let sum = a + b + carry;
+            // The lowest bit of the sum is the last qubit.
+            let shown = (0..=k).map(|place| (sum >> place & 1) << (n - 1 - place));
+            let expected = pairs + shown.sum::<u64>();
+            let start = pairs + (carry << (n - 1));
+            assert_eq!(end(&table, n, start), expected, "{a} + {b} + {carry}");
+        }
+    }
+}
