@@ -1,9 +1,14 @@
-//! Times of the product beside the second interpreter's: verdict and run of a
-//! table, reading and running a circuit. A run asks for the verdict first, and
-//! a circuit run reads its circuit first. Both sides are timed in turn in each
-//! of many rounds; what is printed is the median, in microseconds a call. A
-//! ratio of 1.00 or less means that the product is no slower.
+//! Times of the product beside the second interpreter's: verdict, run and
+//! compile of a table, reading and running a circuit. Run and compile ask for
+//! the verdict first, and a circuit run reads its circuit first. Both sides are
+//! timed in turn in each of many rounds; what is printed is the median, in
+//! microseconds a call. A ratio of 1.00 or less means that the product is no
+//! slower. Behind that stands how circuits grow with n.
 
+mod compiling;
+mod growth;
+mod rows;
+mod sequential;
 mod timing;
 
 use foq::LEAST_WORKSPACE;
@@ -11,8 +16,9 @@ use foq_generator::circuits::{circuit, circuit_of, crowded_circuit};
 use foq_generator::tables::{nested_classes, one_in_each_branch, sixteen_in_turn};
 use foq_generator::{Random, PAIRS};
 use foq_reference::{LONGEST_CIRCUIT, SHORTEST_WORKSPACE};
+use rows::{print_rest, print_row, title, used};
 use std::hint::black_box;
-use timing::{median, rounds, Round};
+use timing::rounds;
 
 /// A table, and words to run it from, one after the other.
 struct TableCase {
@@ -113,24 +119,6 @@ fn holding() -> Vec<u8> {
     circuit_of(32, 223, &gates)
 }
 
-/// Prints the medians of the product's and the second interpreter's times,
-/// and of their ratio.
-fn print_row<const CALLS: usize>(title: &str, rounds: &[Round<CALLS>], [ours, theirs]: [usize; 2]) {
-    let product = median(rounds, |round| round[ours]);
-    let second = median(rounds, |round| round[theirs]);
-    let ratio = median(rounds, |round| round[ours] / round[theirs]);
-    println!("{title:44}{product:10.2}{second:10.2}{ratio:7.2}");
-}
-
-fn title(what: &str, name: &str, n: u32, bytes: usize) -> String {
-    format!("{what:9}{name:25}{n:3}{bytes:7}")
-}
-
-/// Takes a value as if it were used, so that its making is not left out.
-fn used<T>(value: T) {
-    black_box(&value);
-}
-
 /// Asserts that both accept the table, and run it to the same ends.
 fn assert_tables_agree(case: &TableCase, workspace: &mut [u8]) {
     let TableCase { name, table, n, .. } = case;
@@ -177,9 +165,7 @@ fn print_run(case: &TableCase, workspace: &mut [u8]) {
     let title = |what| title(what, case.name, case.n, case.table.len());
     print_row(&title("run"), &rounds, [2, 3]);
     print_row(&title(" verdict"), &rounds, [0, 1]);
-    let [product, second] =
-        [0, 1].map(|side| median(&rounds, |round| round[side + 2] - round[side]));
-    println!("{:44}{product:10.2}{second:10.2}", title(" walk"));
+    print_rest(&title(" walk"), &rounds, [2, 3], [0, 1]);
 }
 
 fn print_tables() {
@@ -221,8 +207,10 @@ fn main() {
         "", "n", "bytes", "product", "second", "ratio"
     );
     print_tables();
+    compiling::print();
     for case in circuit_cases() {
         assert_circuits_agree(&case);
         print_circuit(&case);
     }
+    growth::print();
 }

@@ -3,9 +3,13 @@
 //! as zeros. Each test counts the tables of the classes that it is meant to
 //! reach, so that it cannot run empty.
 
+mod answers;
 mod counts;
 mod lent;
+mod stack;
+mod steps;
 
+use answers::{answer, tables_in_order};
 use counts::{assert_reached, count, Counts};
 use foq::border::{self, Answer};
 use foq_generator::damage::damaged;
@@ -14,11 +18,12 @@ use foq_generator::tables::{
     closed_through_a_call, deepest, every_kind, leaning_left, leaning_right, nested_classes,
     one_in_each_branch, sixteen_in_turn, two_in_turn,
 };
-use foq_generator::tree::{call, encode, not, sequence, table, Statement};
+use foq_generator::tree::{encode, table, Statement};
 use foq_generator::{Random, PAIRS};
 use foq_reference::{emission, read_table, run, LONGEST_CIRCUIT, SHORTEST_WORKSPACE};
 use lent::{Workspace, LENGTHS};
-use std::thread;
+use stack::on_that_stack;
+use steps::count_steps;
 
 /// Asks the product and the second interpreter.
 struct Both {
@@ -71,31 +76,11 @@ impl Both {
         count(counts, "accepted", true);
         count(counts, "changes a word", changed);
         *counts.entry("runs").or_default() += runs;
-        count_steps(table, n, counts);
+        let program = read_table(table).unwrap();
+        if let Ok(emitted) = emission(&program, n, LONGEST_CIRCUIT) {
+            count_steps(&emitted.tally, counts);
+        }
     }
-}
-
-/// The answer that C is to see.
-fn answer(ran: Result<u64, u32>) -> Answer {
-    match ran {
-        Ok(value) => Answer { number: 0, value },
-        Err(number) => Answer { number, value: 0 },
-    }
-}
-
-/// Counts the classes of the calls that the emission of an accepted table
-/// comes through, where its circuit fits a room.
-fn count_steps(table: &[u8], n: u32, counts: &mut Counts) {
-    let program = read_table(table).unwrap();
-    let Ok(emitted) = emission(&program, n, LONGEST_CIRCUIT) else {
-        return;
-    };
-    let tally = emitted.tally;
-    let nested = tally.nested_left + tally.nested_right;
-    count(counts, "calls", tally.chains > 0);
-    count(counts, "mutual recursion", tally.mutual > 0);
-    count(counts, "branches that meet", tally.entries > 0);
-    count(counts, "calls inside calls", nested > 0);
 }
 
 /// Every word on n qubits.
@@ -244,46 +229,6 @@ fn tables_of_known_shape_run_alike() {
     assert_eq!(counts["accepted"], tables.len() * 33 + 3);
 }
 
-/// Tables with the defect of their number and, behind it in the order, as
-/// many others as can stand beside it.
-fn tables_in_order() -> Vec<(u32, Vec<u8>)> {
-    let wide = || sequence(call(1, &[1]), call(1, &[1]));
-    let unremoved = || call(2, &[]);
-    let wrong = table(not(0), &[wide(), unremoved()]);
-    let left_over = [&wrong[..], &[0]].concat();
-    // The last record of all, a call, has a procedure byte past p.
-    let mut field = left_over.clone();
-    field[wrong.len() - 1] = 9;
-    let field_stops = &wrong[..wrong.len() - 1];
-    // Behind 32 sequences one record more is too deep.
-    let deep = |record: &[u8]| {
-        let chain = [0, 2, 0, 0].repeat(31);
-        [&[1, 0], &chain[..], &[0, 2], record].concat()
-    };
-    vec![
-        (1, vec![]),
-        (1, vec![7]),
-        (2, vec![7, 17, 0x80, 12]),
-        (3, vec![1, 17, 0x80, 12]),
-        (1, vec![1, 0]),
-        (1, deep(&[0x80])),
-        (4, deep(&[0x80, 12])),
-        (7, deep(&[0x81, 1, 0])),
-        (5, vec![1, 0, 0x81, 1, 0]),
-        (5, vec![1, 0, 0x83, 1]),
-        (1, vec![1, 0, 3, 1]),
-        (6, vec![1, 0, 3, 1, 9, 2]),
-        (6, vec![1, 0, 3, 1, 1, 2]),
-        (6, field),
-        (1, field_stops.to_vec()),
-        (8, left_over),
-        (10, wrong),
-        (11, table(not(0), &[wide()])),
-        (12, table(not(0), &[])),
-        (0, table(not(1), &[])),
-    ]
-}
-
 #[test]
 fn the_first_refusal_in_the_order_is_given() {
     let mut both = Both::new();
@@ -375,15 +320,6 @@ fn every_bit_at_n_or_above_is_refused() {
         numbers,
         Counts::from([(0, 2 * 528), (13, 2 * (32 * 64 - 528))])
     );
-}
-
-/// The stack that `foq.h` says is enough.
-const STACK: usize = 512 << 10;
-
-/// What a call gives on a thread with that stack.
-fn on_that_stack<T: Send>(call: impl FnOnce() -> T + Send) -> T {
-    let builder = thread::Builder::new().stack_size(STACK);
-    thread::scope(|scope| builder.spawn_scoped(scope, call).unwrap().join().unwrap())
 }
 
 #[test]

@@ -10,6 +10,8 @@
 //!   mostly are not.
 //! - [`tables`] holds single tables: small ones of every kind, and those at a
 //!   limit.
+//! - [`published`] holds programs of source 002, [`emissions`] tables whose
+//!   emission is at a limit.
 //! - [`circuits`] makes well-formed circuits, and circuits of given gates.
 //! - [`damage`] spoils bytes.
 
@@ -17,7 +19,9 @@
 
 pub mod circuits;
 pub mod damage;
+pub mod emissions;
 pub mod programs;
+pub mod published;
 pub mod tables;
 pub mod tree;
 

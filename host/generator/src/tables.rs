@@ -7,7 +7,7 @@ use crate::tree::{
 use Number::{Constant, SizePlus};
 
 /// "p, the number of procedures, 0 to 16".
-const MOST_PROCEDURES: u8 = 16;
+pub(crate) const MOST_PROCEDURES: u8 = 16;
 /// "a tree is at most 32 records deep".
 const DEEPEST: usize = 32;
 
@@ -81,6 +81,11 @@ pub fn eight_removals() -> Vec<u8> {
 /// goes through some n to the power `classes` calls.
 #[must_use]
 pub fn nested_classes(classes: u8) -> Vec<u8> {
+    table(call(1, &[]), &nested_bodies(classes))
+}
+
+/// The bodies of [`nested_classes`].
+pub(crate) fn nested_bodies(classes: u8) -> Vec<Statement> {
     let body = |own: u8| {
         let again = sequence(not(1), call(own, &[1]));
         if own == classes {
@@ -88,8 +93,7 @@ pub fn nested_classes(classes: u8) -> Vec<u8> {
         }
         sequence(call(own + 1, &[]), again)
     };
-    let bodies: Vec<Statement> = (1..=classes).map(body).collect();
-    table(call(1, &[]), &bodies)
+    (1..=classes).map(body).collect()
 }
 
 /// Sixteen procedures of which each calls the next and the one after it, from

@@ -58,6 +58,20 @@ pub fn sequence(first: Statement, second: Statement) -> Statement {
     Statement::Sequence(Box::new(first), Box::new(second))
 }
 
+/// The statements one after another, in a tree of sequences that is as low as
+/// can be.
+#[must_use]
+pub fn in_order(mut statements: Vec<Statement>) -> Statement {
+    match statements.len() {
+        0 => Statement::Skip,
+        1 => statements.remove(0),
+        length => {
+            let rest = statements.split_off(length / 2);
+            sequence(in_order(statements), in_order(rest))
+        }
+    }
+}
+
 /// An if.
 #[must_use]
 pub fn choose(condition: Condition, yes: Statement, no: Statement) -> Statement {
