@@ -1,4 +1,4 @@
-/* What the C programs here share: their arguments, their input, a refusal. */
+/* What the C programs here share: arguments, files, and the end on an error. */
 #ifndef PROGRAM_H
 #define PROGRAM_H
 
@@ -21,20 +21,33 @@ static inline int read_number(const char *text, uint64_t most, uint64_t *number)
            *number <= most;
 }
 
-/* Reads standard input, of which at most this many bytes; gives their number. */
-static inline size_t read_input(uint8_t *bytes, size_t most)
+/* Ends the program unless this holds, with a word of what went wrong. */
+static inline void expect(int holds, const char *what)
 {
-    size_t length = fread(bytes, 1, most, stdin);
-    if (ferror(stdin)) {
-        perror("standard input");
+    if (!holds) {
+        fprintf(stderr, "%s\n", what);
         exit(EXIT_FAILURE);
     }
-    return length;
 }
 
-static inline void print_refusal(uint32_t number)
+/* Ends the program, with what the system says of a file. */
+static inline void fail(const char *file)
 {
-    printf("refused %" PRIu32 "\n", number);
+    perror(file);
+    exit(EXIT_FAILURE);
+}
+
+/* Reads a file, of which at most this many bytes; gives their number. */
+static inline size_t read_file(const char *name, uint8_t *bytes, size_t most)
+{
+    FILE *file = fopen(name, "rb");
+    if (file == NULL)
+        fail(name);
+    size_t length = fread(bytes, 1, most, file);
+    if (ferror(file))
+        fail(name);
+    fclose(file);
+    return length;
 }
 
 #endif

@@ -1,6 +1,36 @@
 /*
  * foq.h: the functions of libfoq.a, for C11 and C++.
  *
+ * A table of bytes holds a FOQ program. foq_verdict says whether it is accepted,
+ * foq_run runs it from a basis state, and foq_compile translates it into a
+ * circuit, which foq_circuit_read looks through and foq_circuit_run runs. Here a
+ * program that flips qubit 2 of three is run from the word 5, and so is its
+ * circuit:
+ *
+ *     #include <stdio.h>
+ *     #include "foq.h"
+ *
+ *     static const uint8_t table[] = {FOQ_TABLE_EDITION, 0, FOQ_MAP_A,
+ *                                     FOQ_KIND_NOT, FOQ_BASE_CONSTANT, 2, 0};
+ *     static uint8_t room[FOQ_MOST_CIRCUIT];
+ *     static uint8_t workspace[FOQ_LEAST_WORKSPACE];
+ *
+ *     int main(void)
+ *     {
+ *         foq_answer run = foq_run(table, sizeof table, 3, 5, workspace,
+ *                                  sizeof workspace);
+ *         foq_answer circuit =
+ *             foq_compile(table, sizeof table, 3, room, sizeof room, workspace,
+ *                         sizeof workspace);
+ *         if (run.number != FOQ_SUCCESS || circuit.number != FOQ_SUCCESS)
+ *             return 1;
+ *         foq_block block = foq_circuit_run(room, circuit.value, 5);
+ *         printf("%d and %d\n", (int)run.value, block.bits[0]);
+ *         return 0;
+ *     }
+ *
+ * It prints "7 and 7".
+ *
  * Each function takes numbers and slices of bytes, and has an answer for every
  * number and every content of a slice: number FOQ_SUCCESS and a result, or the
  * number of one refusal and otherwise zeros. What is said of an answer here is
@@ -23,9 +53,14 @@
  * Calls from several threads at the same time are allowed, each with its own
  * room and workspace.
  *
- * 512 KiB of stack are enough for a call. That is not proved but measured, on
- * x86-64, at the tables that go deepest: foq_run takes 337 KiB, foq_verdict
- * 44 KiB, the others 1 KiB.
+ * FOQ_ENOUGH_STACK bytes of stack are enough for a call. That is not proved but
+ * measured, on x86-64, at the deepest tables that could be made:
+ *
+ *     foq_verdict       44 KiB
+ *     foq_run          337 KiB
+ *     foq_compile      341 KiB
+ *     foq_circuit_read   1 KiB
+ *     foq_circuit_run    1 KiB
  */
 #ifndef FOQ_H
 #define FOQ_H
@@ -57,29 +92,81 @@
 #define FOQ_MANY_WIRES 22u      /* a wire number above FOQ_MOST_WIRES would be taken */
 #define FOQ_NO_ROOM 23u         /* the header or the next gate would pass the room's end */
 
-/* Limits of a table. */
+/*
+ * A table is its edition, the number p of procedures, then the main statement
+ * and the bodies of procedures 1 to p. Each of these is a tree of records in
+ * preorder: a record's children follow it, first child first.
+ */
 #define FOQ_TABLE_EDITION 1u
 #define FOQ_MOST_PROCEDURES 16u
 #define FOQ_MOST_RECORDS 255u
-#define FOQ_MOST_DEPTH 32u
+#define FOQ_MOST_DEPTH 32u /* records from the root of a tree down */
+
+/*
+ * A record is a map, a kind, then the fields whose bit stands in the map, in
+ * this order. Removals are a count, 1 to FOQ_MOST_REMOVALS, and that many
+ * numbers; a procedure is one byte, 1 to p.
+ */
+#define FOQ_MAP_REMOVALS 1u
+#define FOQ_MAP_A 2u
+#define FOQ_MAP_B 4u
+#define FOQ_MAP_PROCEDURE 8u
 #define FOQ_MOST_REMOVALS 8u
 
-/* Limits of a circuit; lengths are in bytes. */
+/* A number is a base and a signed 16-bit constant, low byte first. */
+#define FOQ_BASE_CONSTANT 0u /* the constant alone */
+#define FOQ_BASE_SIZE 1u     /* added to the size of the procedure's whole list */
+
+/* Statements. NOT, qcase and call may carry removals, no other kind may. */
+#define FOQ_KIND_SKIP 0u
+#define FOQ_KIND_NOT 1u      /* a: the position of the qubit that is flipped */
+#define FOQ_KIND_SEQUENCE 2u /* two statements */
+#define FOQ_KIND_IF 3u       /* a condition, then the statements for yes and no */
+#define FOQ_KIND_QCASE 4u    /* a: a qubit's position; the statements for 0 and 1 */
+#define FOQ_KIND_CALL 5u     /* a procedure */
+
+/* Conditions. */
+#define FOQ_KIND_GREATER 6u   /* a > b */
+#define FOQ_KIND_AT_LEAST 7u  /* a >= b */
+#define FOQ_KIND_EQUAL 8u     /* a = b */
+#define FOQ_KIND_AND 9u       /* two conditions */
+#define FOQ_KIND_OR 10u       /* two conditions */
+#define FOQ_KIND_NEGATION 11u /* one condition */
+
+/*
+ * A circuit is its edition, n, the ancilla count, the gate count in four bytes,
+ * lowest first, then the gates; in all at most FOQ_MOST_CIRCUIT bytes.
+ */
 #define FOQ_CIRCUIT_EDITION 1u
 #define FOQ_MOST_QUBITS 32u
-#define FOQ_MOST_WIRES 255u
+#define FOQ_MOST_WIRES 255u /* n and the ancillas together */
 #define FOQ_HEADER_LENGTH 7u
 #define FOQ_MOST_CIRCUIT 65536u
+
+/*
+ * A gate is a map, the target wire, then what the map's bits say, in this
+ * order: a count of wires and the wires that must hold 1; the same for 0; the
+ * second wire of a swap, higher than the target. Without that bit it is a NOT.
+ * Wires ascend in each list, and no wire occurs twice in a gate.
+ */
+#define FOQ_GATE_ON_ONE 1u
+#define FOQ_GATE_ON_ZERO 2u
+#define FOQ_GATE_SWAP 4u
+
+/* The bytes that hold the wires of a running circuit. */
 #define FOQ_BLOCK_LENGTH 32u
 
-/* The shortest workspace that is enough. */
+/* The shortest workspace that is enough, in bytes. */
 #define FOQ_LEAST_WORKSPACE 32768u
+
+/* Stack for a call, in bytes. */
+#define FOQ_ENOUGH_STACK 524288u
 
 #ifdef __cplusplus
 extern "C" {
 #endif
 
-/* A circuit's header: n, the ancilla byte and the number of gates. */
+/* A circuit's header: n, the ancilla count and the number of gates. */
 typedef struct {
     uint32_t number;
     uint32_t qubits;
@@ -131,25 +218,29 @@ foq_answer foq_run(const uint8_t *table, size_t length, uint32_t n,
 
 /*
  * Writes the circuit of a table on n qubits into the room, from its first byte
- * on, and gives the circuit's length in bytes. What stood behind it stays, and
- * a refusal leaves the whole room as it was. FOQ_MOST_CIRCUIT bytes are enough
- * for every circuit; no byte of a longer room past them is written.
+ * on, whatever stood there, and gives the circuit's length in bytes. What stood
+ * behind it stays, and a refusal leaves the whole room as it was.
+ * FOQ_MOST_CIRCUIT bytes are enough for every circuit; no byte of a longer room
+ * past them is written.
  *
  * It refuses what foq_verdict refuses, with the same number. After that come
  * FOQ_NO_ROOM for a room without FOQ_HEADER_LENGTH bytes, and then the first of
  * the emission's steps that does not fit: FOQ_MANY_WIRES for an ancilla,
  * FOQ_NO_ROOM for a gate.
  *
- * On success, for every start word below 2 to the power n: foq_circuit_run on
- * these bytes gives a block whose data wires hold the end word that foq_run
- * gives for the table, and whose every other bit is zero. The ancilla count is
- * the most ancillas in use at one time, and the number of gates is within
- * s * (4 + 2n) * (1 + p * r * (c * n)^r), where s counts the table's NOT and
- * call records, c its call records, p its procedures, and r is the most classes
- * of mutually reaching procedures on one line of calls from main.
+ * On success the bytes are exactly the emission of document 01, and for every
+ * start word below 2 to the power n foq_circuit_run gives a block for them whose
+ * data wires hold the end word that foq_run gives for the table, and whose every
+ * other bit is zero. The ancilla count is the most ancillas in use at one time,
+ * and the number of gates is within s * (4 + 2n) * (1 + p * r * (c * n)^r), where
+ * s counts the table's NOT and call records, c its call records, p its
+ * procedures, and r is the most classes of mutually reaching procedures on one
+ * line of calls from main.
  *
  * The emission of a hostile table could be astronomical, but a call ends at the
- * first step that does not fit: it takes milliseconds at most.
+ * first step that does not fit. On one machine PAIRS took a fifth of a
+ * millisecond and the slowest table that is known eleven seconds: a host that
+ * takes tables from strangers compiles them where it can stop them.
  */
 foq_answer foq_compile(const uint8_t *table, size_t length, uint32_t n,
                        uint8_t *room, size_t room_length, uint8_t *workspace,

@@ -11,9 +11,11 @@ pub mod Entry
 pub mod Onion
 pub mod Agreement
 pub mod Depth
+pub mod ChainDepth
 pub mod Bound
 pub mod Peak
 pub mod Fits
 pub mod Tidy
 pub mod Promise
+pub mod Block
 pub mod Instances

@@ -16,7 +16,7 @@ use Rattle.model.proofs.Tests.{byBool}
 use Rattle.records.specs.Fields.{pick}
 use Rattle.events.specs.declared.Emit.{Emit}
 use Rattle.events.specs.Scan.{Seen, seen, scan, bytesFrom, slotLength, slotProcedure, slotList, wireOf, slotOf, heldIn}
-use Rattle.events.specs.Slots.{pairAt, turned, entryAt}
+use Rattle.events.specs.Slots.{pairAt, turned, Differ, entryAt}
 use Rattle.events.proofs.ScanLaws.{scan-append}
 use Rattle.events.proofs.Leaves.{drop-past, further, spent}
 
@@ -56,54 +56,78 @@ nothing-turned : (back write : Bool) (x : Seen) → x ≡ scan write (turned bac
 nothing-turned true write x = scan-nothing write x
 nothing-turned false write x = scan-nothing write x
 
-module _ (e : ℕ) (F L : List ℕ) (k : ℕ) (back write : Bool) (st : Emit) (room : List ℕ) (m : ℕ) (first : m ≡ length F) where
-  swaps-left-none : m ≤ k → swaps e (drop k F) (drop k L) ≡ []
-  unfolding swaps
-  swaps-left-none h = let g : length F ≤ k = omega arith in rw (drop-past F k g)
+-- the ways of `differ_from`: so far the lists are the same
+pub data Same (F L : List ℕ) (k i : ℕ) : Type 0 where
+  so-far : k ≤ i → ((e : ℕ) → swaps e (drop k F) (drop k L) ≡ swaps e (drop i F) (drop i L)) → Same F L k i
 
-  pub swaps-no-first : m ≤ k → seen st room ≡ scan write (turned back (swaps e (drop k F) (drop k L))) (seen st room)
-  swaps-no-first h = rw (swaps-left-none h) (nothing-turned back write (seen st room))
+further-on : {F L : List ℕ} {k i : ℕ} → Same F L k i → k ≤ i
+further-on (so-far h s) = h
+
+same-swaps : {F L : List ℕ} {k i : ℕ} → Same F L k i → (e : ℕ) → swaps e (drop k F) (drop k L) ≡ swaps e (drop i F) (drop i L)
+same-swaps (so-far h s) = s
+
+pub same-starts : (F L : List ℕ) (k : ℕ) → Same F L k k
+same-starts F L k = so-far (omega arith) (λ e. refl)
+
+at-position : (l : List ℕ) (i x : ℕ) → i < length l → x ≡ getD l i 0 → drop i l ≡ x ∷ drop (i + 1) l
+at-position l i x h is = rw (is, add-one i) (drop-cons l i 0 h)
+
+module _ (F L : List ℕ) (k i m n : ℕ) (S : Same F L k i) (is-m : m ≡ length F) (is-n : n ≡ length L) where
+  ends : (i < length F → i < length L → getD L i 0 ≡ getD F i 0 → ⊥) → Differ F L k i
+  ends h = record { on = further-on S; same = same-swaps S; apart = h }
+
+  pub differ-first-ends : m ≤ i → Differ F L k i
+  differ-first-ends h = ends (λ a b e. absurd (omega arith))
+
+  pub differ-later-ends : n ≤ i → Differ F L k i
+  differ-later-ends h = ends (λ a b e. absurd (omega arith))
+
+  module _ (lf : i < m) (ll : i < n) (to from : ℕ) (is-to : to ≡ getD F i 0) (is-from : from ≡ getD L i 0) where
+    pub differ-here : (from ≡ to → ⊥) → Differ F L k i
+    differ-here h = ends (λ a b e. h (is-from ∙ e ∙ sym is-to))
+
+    pub same-on : from ≡ to → Same F L k (i + 1)
+    same-on h =
+      let up = further-on S in
+      so-far (omega arith) (λ e. same-swaps S e ∙ rw (at-position F i to (omega arith) is-to, at-position L i from (omega arith) is-from)
+        (swaps-equal e to from (drop (i + 1) F) (drop (i + 1) L) (eq-eqb from to h)))
+
+pub ruleset differing = (needs, same-starts, differ-first-ends, differ-later-ends, differ-here, same-on)
+
+module _ (e : ℕ) (F L : List ℕ) (k i : ℕ) (back write : Bool) (st : Emit) (room : List ℕ) (D : Differ F L k i) (m : ℕ) (first : m ≡ length F) where
+  pub swaps-no-first : m ≤ i → seen st room ≡ scan write (turned back (swaps e (drop k F) (drop k L))) (seen st room)
+  unfolding swaps
+  swaps-no-first h = let g : length F ≤ i = omega arith in rw (D .same e, drop-past F i g) (nothing-turned back write (seen st room))
 
   module _ (n : ℕ) (later : n ≡ length L) where
-    pub swaps-no-later : n ≤ k → seen st room ≡ scan write (turned back (swaps e (drop k F) (drop k L))) (seen st room)
-    swaps-no-later h = let g : length L ≤ k = omega arith in rw (drop-past L k g, swaps-nil e (drop k F)) (nothing-turned back write (seen st room))
+    pub swaps-no-later : n ≤ i → seen st room ≡ scan write (turned back (swaps e (drop k F) (drop k L))) (seen st room)
+    swaps-no-later h =
+      let g : length L ≤ i = omega arith in rw (D .same e, drop-past L i g, swaps-nil e (drop i F)) (nothing-turned back write (seen st room))
 
-    module _ (lf : k < m) (ll : k < n) (to from : ℕ) (is-to : to ≡ getD F k 0) (is-from : from ≡ getD L k 0) where
-      at-first : drop k F ≡ to ∷ drop (k + 1) F
-      at-first = let a : k < length F = omega arith in rw (is-to, add-one k) (drop-cons F k 0 a)
+    module _ (lf : i < m) (ll : i < n) (to from : ℕ) (is-to : to ≡ getD F i 0) (is-from : from ≡ getD L i 0)
+        (M : List ℕ) (is-m : M ≡ map (exchange from to) L) where
+      swaps-differ : swaps e (drop k F) (drop k L) ≡ places (swapOf (under e) from to) ∷ swaps e (drop (i + 1) F) (drop (i + 1) M)
+      swaps-differ =
+        let apart : from ≡ to → ⊥ = λ q. D .apart (omega arith) (omega arith) (sym is-from ∙ q ∙ is-to) in
+        rw (D .same e, at-position F i to (omega arith) is-to, at-position L i from (omega arith) is-from, is-m, drop-map (exchange from to) (i + 1) L)
+          (swaps-unequal e to from (drop (i + 1) F) (drop (i + 1) L) (ne-eqb from to apart))
 
-      at-later : drop k L ≡ from ∷ drop (k + 1) L
-      at-later = let b : k < length L = omega arith in rw (is-from, add-one k) (drop-cons L k 0 b)
+      pub swaps-back : (x y : Seen) → back ≡ true →
+          x ≡ scan write (turned back (swaps e (drop (i + 1) F) (drop (i + 1) M))) (seen st room) →
+          y ≡ scan write (places (swapOf (under e) from to) ∷ []) x →
+          y ≡ scan write (turned back (swaps e (drop k F) (drop k L))) (seen st room)
+      swaps-back x y b p r =
+        rw (swaps-differ, b) (scan-last write (places (swapOf (under e) from to)) (swaps e (drop (i + 1) F) (drop (i + 1) M)) (seen st room) x y
+          (rw b at p) r)
 
-      swaps-same : from ≡ to → swaps e (drop k F) (drop k L) ≡ swaps e (drop (k + 1) F) (drop (k + 1) L)
-      swaps-same q = rw (at-first, at-later) (swaps-equal e to from (drop (k + 1) F) (drop (k + 1) L) (eq-eqb from to q))
+      pub swaps-forth : (x y : Seen) → back ≡ false → x ≡ scan write (places (swapOf (under e) from to) ∷ []) (seen st room) →
+          y ≡ scan write (turned back (swaps e (drop (i + 1) F) (drop (i + 1) M))) x →
+          y ≡ scan write (turned back (swaps e (drop k F) (drop k L))) (seen st room)
+      swaps-forth x y b p r =
+        rw (swaps-differ, b) (scan-first write (places (swapOf (under e) from to)) (swaps e (drop (i + 1) F) (drop (i + 1) M)) (seen st room) x y
+          p (rw b at r))
 
-      swaps-differ : (from ≡ to → ⊥) → (M : List ℕ) → M ≡ map (exchange from to) L →
-          swaps e (drop k F) (drop k L) ≡ places (swapOf (under e) from to) ∷ swaps e (drop (k + 1) F) (drop (k + 1) M)
-      swaps-differ q M is-m = rw (at-first, at-later, is-m, drop-map (exchange from to) (k + 1) L)
-        (swaps-unequal e to from (drop (k + 1) F) (drop (k + 1) L) (ne-eqb from to q))
-
-      pub swaps-on : (x : Seen) → from ≡ to → x ≡ scan write (turned back (swaps e (drop (k + 1) F) (drop (k + 1) L))) (seen st room) →
-          x ≡ scan write (turned back (swaps e (drop k F) (drop k L))) (seen st room)
-      swaps-on x q p = rw (swaps-same q) p
-
-      module _ (M : List ℕ) (q : from ≡ to → ⊥) (is-m : M ≡ map (exchange from to) L) where
-        pub swaps-back : (x y : Seen) → back ≡ true →
-            x ≡ scan write (turned back (swaps e (drop (k + 1) F) (drop (k + 1) M))) (seen st room) →
-            y ≡ scan write (places (swapOf (under e) from to) ∷ []) x →
-            y ≡ scan write (turned back (swaps e (drop k F) (drop k L))) (seen st room)
-        swaps-back x y b p r =
-          rw (swaps-differ q M is-m, b) (scan-last write (places (swapOf (under e) from to)) (swaps e (drop (k + 1) F) (drop (k + 1) M)) (seen st room) x y
-            (rw b at p) r)
-
-        pub swaps-forth : (x y : Seen) → back ≡ false → x ≡ scan write (places (swapOf (under e) from to) ∷ []) (seen st room) →
-            y ≡ scan write (turned back (swaps e (drop (k + 1) F) (drop (k + 1) M))) x →
-            y ≡ scan write (turned back (swaps e (drop k F) (drop k L))) (seen st room)
-        swaps-forth x y b p r =
-          rw (swaps-differ q M is-m, b) (scan-first write (places (swapOf (under e) from to)) (swaps e (drop (k + 1) F) (drop (k + 1) M)) (seen st room) x y
-            p (rw b at r))
-
-pub ruleset swapping = (needs, swaps-no-first, swaps-no-later, swaps-on, swaps-back, swaps-forth)
+pub ruleset swapping = (needs, swaps-no-first, swaps-no-later, swaps-back, swaps-forth)
 
 -- the ways out of `emit_flip` and `emit_swap`
 pub flip-emitted : (write : Bool) (cs : Controls) (t : ℕ) (g : Gate) (x y : Seen) → g ≡ flip cs t → y ≡ scan write (places g ∷ []) x →

@@ -136,20 +136,32 @@ module _ (q : Qubits) (i n : ℕ) (is : n ≡ length (qubitsOf q)) where
     let t : length (qubitsOf q) ≡ min (q .len) (length (q .at)) = length-take (q .len) (q .at) in
     sym (getD-take (q .len) (q .at) i 0 (omega arith))
 
-  pub entries-done : (ws : List ℕ) (at : ℕ) → n ≤ i → ws ≡ sets ws at (drop i (qubitsOf q))
-  entries-done ws at h = let k : length (qubitsOf q) ≤ i = omega arith in rw (drop-past (qubitsOf q) i k)
+-- `put_entries` so far: what is still to be stored makes of the workspace what all of it makes
+pub data Storing (ws₀ : List ℕ) (at : ℕ) (l ws : List ℕ) (place i : ℕ) : Type 0 where
+  still : sets ws place (drop i l) ≡ sets ws₀ at l → Storing ws₀ at l ws place i
 
-  pub entries-next : (ws : List ℕ) (at x : ℕ) (middle end : List ℕ) → i < n → x ≡ getD (qubitsOf q) i 0 → middle ≡ set ws at x →
-      end ≡ sets middle (at + 1) (drop (i + 1) (qubitsOf q)) → end ≡ sets ws at (drop i (qubitsOf q))
-  entries-next ws at x middle end h p m e =
-    let k : i < length (qubitsOf q) = omega arith in
-    rw (e, m, p, add-one at, add-one i, drop-cons (qubitsOf q) i 0 k)
+pub storing-starts : (ws : List ℕ) (at : ℕ) (l : List ℕ) → Storing ws at l ws at 0
+storing-starts ws at l = still refl
+
+module _ (ws₀ : List ℕ) (at : ℕ) (l ws : List ℕ) (place i n : ℕ) (is : n ≡ length l) where
+  pub storing-next : (x : ℕ) → Storing ws₀ at l ws place i → i < n → x ≡ getD l i 0 → Storing ws₀ at l (set ws place x) (place + 1) (i + 1)
+  storing-next x (still e) h p =
+    let k : i < length l = omega arith in
+    still (sym (rw (p, add-one place, add-one i, drop-cons l i 0 k)) ∙ e)
+
+  pub stored-all : Storing ws₀ at l ws place i → n ≤ i → ws ≡ sets ws₀ at l
+  stored-all (still e) h = let k : length l ≤ i = omega arith in sym (rw (drop-past l i k)) ∙ e
+
+  pub stored-full : Storing ws₀ at l ws place i → length ws ≤ place → ws ≡ sets ws₀ at l
+  stored-full (still e) h = sets-past ws place (drop i l) h ∙ e
 
 pub slot-filled : (ws : List ℕ) (a f : ℕ) (q : Qubits) (n : ℕ) (middle end : List ℕ) → n ≡ length (qubitsOf q) →
-    middle ≡ sets ws (34 * a) (f ∷ n ∷ []) → end ≡ sets middle (34 * a + 2) (drop 0 (qubitsOf q)) → end ≡ filled ws a f (qubitsOf q)
+    middle ≡ sets ws (34 * a) (f ∷ n ∷ []) → end ≡ sets middle (34 * a + 2) (qubitsOf q) → end ≡ filled ws a f (qubitsOf q)
 slot-filled ws a f q n middle end is m e = let k : 34 * a + 2 ≡ suc (suc (34 * a)) = omega arith in rw (e, m, is, k)
 
-pub ruleset entries = (needs, entry-none, entry-index, entry-some, entries-done, sets-past, entries-next, slot-filled)
+pub ruleset entries = (needs, entry-none, entry-index, entry-some, slot-filled)
+
+pub ruleset storing = (needs, storing-starts, storing-next, stored-all, stored-full)
 
 -- the ways out of `pair_at`, `appears`, `opens` and `seek`
 module _ (ws : List ℕ) (a f m x : ℕ) (is : x ≡ slotProcedure ws a) where
@@ -167,19 +179,20 @@ further n e h = omega arith
 pub spent : (n e : ℕ) → n ≤ e → n - e ≡ 0
 spent n e h = omega arith
 
-module _ (ws : List ℕ) (from upto f m : ℕ) where
-  pub appears-none : upto ≤ from → false ≡ appears ws from (upto - from) f m
+-- `appears` so far: what is left from here on is the whole
+module _ (ws : List ℕ) (from upto f m a : ℕ) (left : appears ws a (upto - a) f m ≡ appears ws from (upto - from) f m) where
+  pub appears-none : upto ≤ a → false ≡ appears ws from (upto - from) f m
   unfolding appears
-  appears-none h = rw (spent upto from h)
+  appears-none h = rw (spent upto a h) at left
 
-  pub appears-here : (b : Bool) → from < upto → b ≡ pairAt ws from f m → b ≡ true → true ≡ appears ws from (upto - from) f m
+  pub appears-here : (b : Bool) → a < upto → b ≡ pairAt ws a f m → b ≡ true → true ≡ appears ws from (upto - from) f m
   unfolding appears
-  appears-here b h e q = rw (further upto from h, ← e, q)
+  appears-here b h e q = rw (further upto a h, ← e, q) at left
 
-  pub appears-on : (b r : Bool) → from < upto → b ≡ pairAt ws from f m → b ≡ false → r ≡ appears ws (from + 1) (upto - (from + 1)) f m →
-      r ≡ appears ws from (upto - from) f m
+  pub appears-on : (b : Bool) → a < upto → b ≡ pairAt ws a f m → b ≡ false →
+      appears ws (a + 1) (upto - (a + 1)) f m ≡ appears ws from (upto - from) f m
   unfolding appears
-  appears-on b r h e q p = rw (further upto from h, ← e, q) p
+  appears-on b h e q = rw (further upto a h, ← e, q) at left
 
 module _ (ws : List ℕ) (base m e x : ℕ) (is : x ≡ slotLength ws e) where
   pub opens-yes : (f : ℕ) (b : Bool) → x ≡ m → f ≡ slotProcedure ws e → b ≡ appears ws base (e - base) f m → not b ≡ opensAt ws base m e
@@ -190,19 +203,20 @@ module _ (ws : List ℕ) (base m e x : ℕ) (is : x ≡ slotLength ws e) where
   unfolding opensAt
   opens-no h = rw (← is, ne-eqb x m h)
 
-module _ (ws : List ℕ) (base m e upto : ℕ) where
-  pub seek-none : upto ≤ e → e ≡ seekOf ws base m e (upto - e)
+-- `seek` so far: what is left from here on is the whole
+module _ (ws : List ℕ) (base m e upto a : ℕ) (left : seekOf ws base m a (upto - a) ≡ seekOf ws base m e (upto - e)) where
+  pub seek-none : upto ≤ a → a ≡ seekOf ws base m e (upto - e)
   unfolding seekOf
-  seek-none h = rw (spent upto e h)
+  seek-none h = rw (spent upto a h) at left
 
-  pub seek-here : (b : Bool) → e < upto → b ≡ opensAt ws base m e → b ≡ true → e ≡ seekOf ws base m e (upto - e)
+  pub seek-here : (b : Bool) → a < upto → b ≡ opensAt ws base m a → b ≡ true → a ≡ seekOf ws base m e (upto - e)
   unfolding seekOf
-  seek-here b h p q = rw (further upto e h, ← p, q)
+  seek-here b h p q = rw (further upto a h, ← p, q) at left
 
-  pub seek-on : (b : Bool) (r : ℕ) → e < upto → b ≡ opensAt ws base m e → b ≡ false → r ≡ seekOf ws base m (e + 1) (upto - (e + 1)) →
-      r ≡ seekOf ws base m e (upto - e)
+  pub seek-on : (b : Bool) → a < upto → b ≡ opensAt ws base m a → b ≡ false →
+      seekOf ws base m (a + 1) (upto - (a + 1)) ≡ seekOf ws base m e (upto - e)
   unfolding seekOf
-  seek-on b r h p q i = rw (further upto e h, ← p, q) i
+  seek-on b h p q = rw (further upto a h, ← p, q) at left
 
 pub ruleset seeking = (needs, pair-yes, pair-no, appears-none, appears-here, appears-on, opens-yes, opens-no, seek-none, seek-here, seek-on)
 
@@ -241,15 +255,12 @@ bytes-take bs at (suc k) zero h = absurd (not-suc-le-zero h)
 bytes-take bs at (suc k) (suc n) h = ap (λ l. getD bs at 0 ∷ l) (bytes-take bs (at + 1) k n (le-of-suc-le-suc h))
 
 module _ (ws at : List ℕ) (from i : ℕ) (inv : take i at ≡ bytesFrom ws from i) where
-  pub load-next : (v : ℕ) → length at ≡ 32 → i < 32 → v ≡ getD ws (from + i) 0 → take (i + 1) (set at i v) ≡ bytesFrom ws from (i + 1)
-  load-next v l h e = fill-next at i v (bytesFrom ws from i) (bytesFrom ws from (i + 1)) inv (omega arith)
+  pub load-next : (v n : ℕ) → length at ≡ 32 → i < n → n ≤ 32 → v ≡ getD ws (from + i) 0 → take (i + 1) (set at i v) ≡ bytesFrom ws from (i + 1)
+  load-next v n l h low e = fill-next at i v (bytesFrom ws from i) (bytesFrom ws from (i + 1)) inv (omega arith)
     (rw (e, add-one i) (bytes-snoc ws from i))
 
-  pub load-ends : (a n : ℕ) → from ≡ 34 * a + 2 → n ≡ slotLength ws a → length at ≡ 32 → 32 ≤ i → take n at ≡ slotList ws a
-  load-ends a n p q l h =
-    let all : take i at ≡ at = take-all i at (omega arith) in
-    let k : slotLength ws a ≤ i = omega arith in
-    rw (← all, inv, p, q) (bytes-take ws (34 * a + 2) (slotLength ws a) i k)
+  pub load-ends : (a n : ℕ) → from ≡ 34 * a + 2 → n ≡ slotLength ws a → i ≤ n → n ≤ i → take n at ≡ slotList ws a
+  load-ends a n p q low h = let k : i ≡ n = omega arith in rw (← q, ← p, ← k) inv
 
 pub load-starts : (ws at : List ℕ) (from : ℕ) → take 0 at ≡ bytesFrom ws from 0
 unfolding bytesFrom

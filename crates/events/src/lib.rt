@@ -13,7 +13,7 @@ ghost use Rattle.model.specs.Answers.{usable};
 ghost use Rattle.circuit.specs.Writing.{controlsFrom, gateFrom};
 ghost use Rattle.step.specs.Steps.{qubitsOf};
 ghost use Rattle.events.specs.Scan.{seen, stopped, scan, slotLength, slotProcedure, slotList, wireOf, slotOf, heldIn};
-ghost use Rattle.events.specs.Slots.{filled, taking, returned, pairAt, appears, opensAt, seekOf, turned, entryAt};
+ghost use Rattle.events.specs.Slots.{filled, taking, returned, pairAt, appears, opensAt, seekOf, turned, entryAt, Differ};
 ghost use Rattle.events.specs.Follows.{Invokes};
 use circuit::write::{ControlLists, NewGate, asking, no_controls, flip_of, swap_of, gate_length, put, put_pair, put_gate};
 use step::{Qubits, size};
@@ -136,8 +136,9 @@ pub fn load(ws: &[u8], a: u16) -> Qubits
     let from = 34 * a as usize + 2;
     let len = list_size(ws, a);
     let mut at = [0; 32];
+    let n = len as usize;
     let mut i = 0;
-    while i < 32 {
+    while i < n {
         at[i] = byte(ws, from + i);
         i += 1;
     }
@@ -155,18 +156,21 @@ fn entry_at(list: Qubits, i: u8) -> u8
     list.at[k]
 }
 
-// The entries of a list from the i-th on are stored from a place on, as far as the workspace reaches.
-fn put_entries(ws: &mut [u8], at: usize, list: Qubits, i: u8)
-    ensures { λ r. ⌜ now (ws .exit) ≡ sets (now (ws .entry)) at (drop i (qubitsOf list)) ⌝ }
+// The entries of a list are stored from a place on, as far as the workspace reaches.
+fn put_entries(ws: &mut [u8], at: usize, list: Qubits)
+    ensures { λ r. ⌜ now (ws .exit) ≡ sets (now (ws .entry)) at (qubitsOf list) ⌝ }
 {
-    if size(list) <= i {
-        return;
+    let n = size(list);
+    let mut place = at;
+    let mut i = 0;
+    while i < n {
+        if ws.len() <= place {
+            return;
+        }
+        ws[place] = entry_at(list, i);
+        place += 1;
+        i += 1;
     }
-    if ws.len() <= at {
-        return;
-    }
-    put(ws, at, entry_at(list, i));
-    put_entries(ws, at + 1, list, i + 1);
 }
 
 // An invocation is put into the slot of its ancilla.
@@ -174,7 +178,7 @@ fn fill_slot(ws: &mut [u8], a: u16, f: u8, list: Qubits)
     ensures { λ r. ⌜ now (ws .exit) ≡ filled (now (ws .entry)) a f (qubitsOf list) ⌝ }
 {
     put_pair(ws, 34 * a as usize, f, size(list));
-    put_entries(ws, 34 * a as usize + 2, list, 0);
+    put_entries(ws, 34 * a as usize + 2, list);
 }
 
 fn larger(a: u16, b: u16) -> u16
@@ -212,13 +216,14 @@ fn pair_at(ws: &[u8], a: u16, f: u8, m: u8) -> bool
 fn appears(ws: &[u8], from: u16, upto: u16, f: u8, m: u8) -> bool
     ensures { λ r. ⌜ r ≡ appears (now (ws .entry)) from (upto - from) f m ⌝ }
 {
-    if upto <= from {
-        return false;
+    let mut a = from;
+    while a < upto {
+        if pair_at(ws, a, f, m) {
+            return true;
+        }
+        a += 1;
     }
-    if pair_at(ws, from, f, m) {
-        return true;
-    }
-    appears(ws, from + 1, upto, f, m)
+    false
 }
 
 // Does slot e of a chain from `base` on open the body of its pair, with lists of length m?
@@ -235,13 +240,14 @@ fn opens(ws: &[u8], base: u16, m: u8, e: u16) -> bool
 pub fn seek(ws: &[u8], base: u16, m: u8, e: u16, upto: u16) -> u16
     ensures { λ r. ⌜ r ≡ seekOf (now (ws .entry)) base m e (upto - e) ⌝ }
 {
-    if upto <= e {
-        return e;
+    let mut a = e;
+    while a < upto {
+        if opens(ws, base, m, a) {
+            return a;
+        }
+        a += 1;
     }
-    if opens(ws, base, m, e) {
-        return e;
-    }
-    seek(ws, base, m, e + 1, upto)
+    a
 }
 
 // The one control of a body, or of an entry.
@@ -278,30 +284,49 @@ fn exchanged(list: Qubits, u: u8, v: u8) -> Qubits
     Qubits { at, len: list.len }
 }
 
+// The first position from k on at which two lists differ, or where the shorter one ends.
+fn differ_from(first: Qubits, later: Qubits, k: u8) -> u8
+    ensures { λ r. ⌜ Differ (qubitsOf first) (qubitsOf later) k r ⌝ }
+{
+    let m = size(first);
+    let n = size(later);
+    let mut i = k;
+    while i < m {
+        if n <= i {
+            return i;
+        }
+        let to = entry_at(first, i);
+        let from = entry_at(later, i);
+        if from != to {
+            return i;
+        }
+        i += 1;
+    }
+    i
+}
+
 // "for k = 1 up to the length, swap, under the entry ancilla, the wire now holding the k-th qubit of the later list with the k-th wire of the first
 // list, unless equal": from k on, in order or reversed.
 fn emit_swaps(e: u8, first: Qubits, later: Qubits, k: u8, back: bool, write: bool, room: &mut [u8], st: Emit) -> Emit
     ensures { λ r. ⌜ seen r (now (room .exit)) ≡
         scan write (turned back (swaps e (drop k (qubitsOf first)) (drop k (qubitsOf later)))) (seen st (now (room .entry))) ⌝ }
 {
-    if size(first) <= k {
+    let i = differ_from(first, later, k);
+    if size(first) <= i {
         return st;
     }
-    if size(later) <= k {
+    if size(later) <= i {
         return st;
     }
-    let to = entry_at(first, k);
-    let from = entry_at(later, k);
-    if from == to {
-        return emit_swaps(e, first, later, k + 1, back, write, room, st);
-    }
+    let to = entry_at(first, i);
+    let from = entry_at(later, i);
     let moved = exchanged(later, from, to);
     if back {
-        let rest = emit_swaps(e, first, moved, k + 1, back, write, room, st);
+        let rest = emit_swaps(e, first, moved, i + 1, back, write, room, st);
         return emit_swap(e, from, to, write, room, rest);
     }
     let here = emit_swap(e, from, to, write, room, st);
-    emit_swaps(e, first, moved, k + 1, back, write, room, here)
+    emit_swaps(e, first, moved, i + 1, back, write, room, here)
 }
 
 // "flip the body's ancilla under the entry ancilla; then" the swaps: from slot e to the body of slot d, in order or reversed.

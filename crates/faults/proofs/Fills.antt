@@ -2,23 +2,24 @@
 use mathlib.Core.Path.{_≡_, refl, _∙_}
 use mathlib.Core.Bool.{Bool, true, false}
 use mathlib.Core.List.{List}
-use Prim.Native.Nat.{ℕ, _+_, _≤_, _<_, min, zero-le}
+use Prim.Native.Nat.{ℕ, suc, _+_, _-_, _≤_, _<_, min, zero-le}
 use native.Mathlib.Nat.{le-refl}
 use native.Mathlib.Numerals.{add-one}
 use native.Mathlib.Omega.{arith}
 use borrow.Author.Needs.{needs}
-use borrow.Author.Tests.{eq-eqb, ne-eqb}
-use lib.ListN.{replicate}
+use borrow.Author.Tests.{lt-ltb, le-ltb, eq-eqb, ne-eqb}
+use lib.ListN.{getD, set, replicate}
 use lib.Dec.{lit<}
 use mir.Syntax.{w8, w64}
 use mir.Val.{Fits}
 use Rattle.model.specs.Meaning.{digit}
-use Rattle.table.specs.Index.{startOf, statementAt}
+use Rattle.table.specs.Index.{rootOf, statementAt}
 use Rattle.reach.specs.Matrix.{recursiveIn}
-use Rattle.faults.specs.declared.Row.{Row}
 use Rattle.faults.specs.Touches.{touches}
-use Rattle.faults.specs.Rows.{rowOf, rowIs, knownTouches, stored}
-use Rattle.faults.specs.Filling.{fromIn, rankBelow, rankIn, filledRow, filledIf, filledRank, filledLength, filled, faultsAt}
+use Rattle.faults.specs.Rows.{rowOf, rowIs, place, knownTouches, stored}
+use Rattle.faults.specs.Lengths.{countsBelow, sumsBelow, sumsIn}
+use Rattle.faults.specs.Filling.{fromIn, rankBelow, rankIn, ranksBelow, ranksIn, rankAt}
+use Rattle.faults.specs.Filling.{filledRow, filledIf, filledRank, filledLength, filledAsked, filled, faultsAt}
 use Rattle.faults.proofs.RowLaws.{row-at}
 
 -- f itself, and what it reaches
@@ -64,6 +65,26 @@ pub rank-start : (matrix : List ℕ) (f : ℕ) → 0 ≡ rankBelow matrix f 0
 unfolding rankBelow
 rank-start matrix f = refl
 
+-- the ranks of all procedures
+module _ (matrix : List ℕ) (p f : ℕ) (now : List ℕ) (so : now ≡ ranksBelow matrix p f) where
+  pub ranks-more : (r : ℕ) → r ≡ rankIn matrix f p → set now f r ≡ ranksBelow matrix p (f + 1)
+  unfolding ranksBelow
+  ranks-more r e = rw (add-one f, so, e)
+
+  pub ranks-end : f ≤ 17 → 17 ≤ f → now ≡ ranksIn matrix p
+  ranks-end a b = let e : f ≡ 17 = omega arith in so ∙ rw e
+
+pub ranks-start : (matrix : List ℕ) (p : ℕ) → replicate 17 0 ≡ ranksBelow matrix p 0
+unfolding ranksBelow
+ranks-start matrix p = refl
+
+module _ (ranks : List ℕ) (f : ℕ) where
+  pub rank-within : f < 17 → getD ranks f 0 ≡ rankAt ranks f
+  rank-within l = rw (lt-ltb f 17 l)
+
+  pub rank-past : 17 ≤ f → 0 ≡ rankAt ranks f
+  rank-past l = rw (le-ltb f 17 l)
+
 -- a count that goes from below to its end does not pass it
 pub never-past : {A : Type 0} (a b : A) (x p : ℕ) → x ≤ p → p < x → a ≡ b
 never-past a b x p h l = absurd (never h l)
@@ -71,72 +92,95 @@ never-past a b x p h l = absurd (never h l)
     never : x ≤ p → p < x → ⊥
     never h l = omega arith
 
+pub ruleset ranking = (needs, reached-self, reached-yes, reached-not, rank-fits, rank-small, rank-more, rank-end, rank-start, never-past,
+    ranks-more, ranks-end, ranks-start, rank-within, rank-past)
+
+-- a row written into the table
+module _ (f m row : ℕ) (known : List ℕ) (at : ℕ) (here : at ≡ place f m) where
+  pub store-within : at < 561 → set known at row ≡ stored f m row known
+  unfolding stored
+  store-within l = rw (← here, lt-ltb at 561 l)
+
+  pub store-past : 561 ≤ at → known ≡ stored f m row known
+  unfolding stored
+  store-past l = rw (← here, le-ltb at 561 l)
+
 module _ (p : ℕ) (bs ix : List ℕ) (f m : ℕ) (known next : List ℕ) where
   -- a row of the table
-  pub row-filled : (root : ℕ) (row : Row) → root ≡ startOf ix (512 + f) →
+  pub row-filled : (root row : ℕ) → root ≡ rootOf ix f →
       row ≡ rowOf (touches (knownTouches known) (statementAt p bs ix 32 root) (min m 32)) →
       next ≡ stored f m row known → next ≡ filledRow p bs ix f m known
   unfolding filledRow
   row-filled root row at t s = rw (← at, ← t) s
 
-  module _ (matrix : List ℕ) (k r : ℕ) (ranked : r ≡ rankIn matrix f p) where
-    pub fill-ranked : r ≡ k → next ≡ filledRow p bs ix f m known → next ≡ filledIf p bs ix matrix k f m known
+  module _ (ranks : List ℕ) (k r : ℕ) (ranked : r ≡ rankAt ranks f) where
+    pub fill-ranked : r ≡ k → next ≡ filledRow p bs ix f m known → next ≡ filledIf p bs ix ranks k f m known
     unfolding filledIf
     fill-ranked e s = rw (← ranked, eq-eqb r k e) s
 
-    pub fill-other : (r ≡ k → ⊥) → known ≡ filledIf p bs ix matrix k f m known
+    pub fill-other : (r ≡ k → ⊥) → known ≡ filledIf p bs ix ranks k f m known
     unfolding filledIf
     fill-other n = rw (← ranked, ne-eqb r k n)
 
-module _ (p : ℕ) (bs ix matrix : List ℕ) (now next first : List ℕ) where
+module _ (p : ℕ) (bs ix ranks : List ℕ) (now next first : List ℕ) where
   -- procedure by procedure
-  module _ (f k m : ℕ) (so : now ≡ filledRank p bs ix matrix f k m first) where
-    pub procedures-more : next ≡ filledIf p bs ix matrix k (f + 1) m now → next ≡ filledRank p bs ix matrix (f + 1) k m first
+  module _ (f k m : ℕ) (so : now ≡ filledRank p bs ix ranks f k m first) where
+    pub procedures-more : next ≡ filledIf p bs ix ranks k (f + 1) m now → next ≡ filledRank p bs ix ranks (f + 1) k m first
     unfolding filledRank
     procedures-more e = rw (add-one f, ← so, ← add-one f) e
 
-    pub procedures-end : f ≤ p → p ≤ f → now ≡ filledRank p bs ix matrix p k m first
+    pub procedures-end : f ≤ p → p ≤ f → now ≡ filledRank p bs ix ranks p k m first
     procedures-end a b = let e : f ≡ p = omega arith in so ∙ rw e
 
   -- rank by rank
-  module _ (k m : ℕ) (so : now ≡ filledLength p bs ix matrix k m first) where
-    pub ranks-more : next ≡ filledRank p bs ix matrix p (k + 1) m now → next ≡ filledLength p bs ix matrix (k + 1) m first
+  module _ (k m : ℕ) (so : now ≡ filledLength p bs ix ranks k m first) where
+    pub length-more : next ≡ filledRank p bs ix ranks p (k + 1) m now → next ≡ filledLength p bs ix ranks (k + 1) m first
     unfolding filledLength
-    ranks-more e = rw (add-one k, ← so, ← add-one k) e
+    length-more e = rw (add-one k, ← so, ← add-one k) e
 
-    pub ranks-end : k ≤ p → p ≤ k → now ≡ filledLength p bs ix matrix p m first
-    ranks-end a b = let e : k ≡ p = omega arith in so ∙ rw e
+    pub length-end : k ≤ p → p ≤ k → now ≡ filledLength p bs ix ranks p m first
+    length-end a b = let e : k ≡ p = omega arith in so ∙ rw e
 
   -- length by length
-  module _ (m : ℕ) (so : now ≡ filled p bs ix matrix m first) where
-    pub lengths-more : next ≡ filledLength p bs ix matrix p (m + 1) now → next ≡ filled p bs ix matrix (m + 1) first
+  module _ (sums n m : ℕ) (so : now ≡ filled p bs ix ranks sums n m first) where
+    pub lengths-more : next ≡ filledAsked p bs ix ranks sums (n - (m + 1)) (m + 1) now → next ≡ filled p bs ix ranks sums n (m + 1) first
     unfolding filled
     lengths-more e = rw (add-one m, ← so, ← add-one m) e
 
-    pub lengths-end : (n : ℕ) → m ≤ n → n ≤ m → now ≡ filled p bs ix matrix n first
-    lengths-end n a b = let e : m ≡ n = omega arith in so ∙ rw e
+    pub lengths-end : (matrix : List ℕ) (counts : ℕ) → ranks ≡ ranksIn matrix p → counts ≡ countsBelow p bs ix (suc p) → sums ≡ sumsBelow counts 32 →
+        m ≤ n → n ≤ m → now ≡ filled p bs ix (ranksIn matrix p) (sumsIn p bs ix) n n first
+    lengths-end matrix counts r c s a b = let e : m ≡ n = omega arith in rw (← r, ← c, ← s) (so ∙ rw e)
 
-module _ (p : ℕ) (bs ix matrix : List ℕ) (first : List ℕ) where
-  pub procedures-start : (k m : ℕ) → first ≡ filledRank p bs ix matrix 0 k m first
+module _ (p : ℕ) (bs ix ranks : List ℕ) (first : List ℕ) where
+  pub procedures-start : (k m : ℕ) → first ≡ filledRank p bs ix ranks 0 k m first
   unfolding filledRank
   procedures-start k m = refl
 
-  pub ranks-start : (m : ℕ) → first ≡ filledLength p bs ix matrix 0 m first
+  pub length-start : (m : ℕ) → first ≡ filledLength p bs ix ranks 0 m first
   unfolding filledLength
-  ranks-start m = refl
+  length-start m = refl
 
-  pub lengths-start : first ≡ filled p bs ix matrix 0 first
+  pub lengths-start : (sums n : ℕ) → first ≡ filled p bs ix ranks sums n 0 first
   unfolding filled
-  lengths-start = refl
+  lengths-start sums n = refl
+
+  -- lengths that calls can lead to
+  module _ (sums gone m : ℕ) (b : Bool) (e : b ≡ rowIs sums gone) where
+    pub asked-yes : (next : List ℕ) → b ≡ true → next ≡ filledLength p bs ix ranks p m first → next ≡ filledAsked p bs ix ranks sums gone m first
+    unfolding filledAsked
+    asked-yes next y h = rw (← e, y) h
+
+    pub asked-not : b ≡ false → first ≡ filledAsked p bs ix ranks sums gone m first
+    unfolding filledAsked
+    asked-not n = rw (← e, n)
 
 -- main, by the whole table
-pub main-row : (p : ℕ) (bs ix matrix known : List ℕ) (n root : ℕ) (row : Row) (r : Bool) → known ≡ filled p bs ix matrix n (replicate 18513 0) →
-    root ≡ startOf ix 512 → row ≡ rowOf (touches (knownTouches known) (statementAt p bs ix 32 root) (min n 32)) →
-    r ≡ rowIs row 0 → r ≡ faultsAt p bs ix matrix n
+pub main-row : (p : ℕ) (bs ix matrix known : List ℕ) (n root row : ℕ) (r : Bool) →
+    known ≡ filled p bs ix (ranksIn matrix p) (sumsIn p bs ix) n n (replicate 561 0) → root ≡ rootOf ix 0 →
+    row ≡ rowOf (touches (knownTouches known) (statementAt p bs ix 32 root) (min n 32)) → r ≡ rowIs row 0 → r ≡ faultsAt p bs ix matrix n
 unfolding faultsAt
 main-row p bs ix matrix known n root row r k at t e =
     rw (← k, ← at) (e ∙ rw t (row-at (touches (knownTouches known) (statementAt p bs ix 32 root) (min n 32)) 0 (lit< tt)))
 
-pub ruleset filling = (needs, reached-self, reached-yes, reached-not, rank-fits, rank-small, rank-more, rank-end, rank-start, never-past,
-    row-filled, fill-ranked, fill-other, procedures-more, procedures-end, procedures-start, ranks-more, ranks-end, ranks-start,
-    lengths-more, lengths-end, lengths-start, main-row)
+pub ruleset filling = (needs, store-within, store-past, row-filled, fill-ranked, fill-other, procedures-more, procedures-end, procedures-start,
+    length-more, length-end, length-start, asked-yes, asked-not, lengths-more, lengths-end, lengths-start, main-row)

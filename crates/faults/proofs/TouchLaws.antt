@@ -2,10 +2,10 @@
 use mathlib.Core.Path.{_≡_, refl, sym, ap, _∙_, subst}
 use mathlib.Core.Bool.{Bool, true, false, _&&_, _||_, false≢true}
 use mathlib.Core.List.{List, [], _∷_, map}
-use Prim.Native.Nat.{ℕ, zero, suc, _+_, _≤_, _<_, zero-le, suc-le-suc}
+use Prim.Native.Nat.{ℕ, zero, suc, _+_, _-_, _≤_, _<_, zero-le, suc-le-suc}
 use native.Mathlib.Nat.{not-suc-le-zero, le-of-suc-le-suc}
 use native.Mathlib.Omega.{arith}
-use borrow.Author.Tests.{eqb-true, ne-eqb}
+use borrow.Author.Tests.{eqb-true, eq-eqb, ne-eqb}
 use lib.ListN.{getD, length, length-map, List·getD-map}
 use lib.Dec.{eqb}
 use Rattle.model.specs.Syntax.{Number, Condition, Statement, skip, NOT, sequence, if, qcase, call, Program, count, body}
@@ -19,6 +19,8 @@ use Rattle.model.proofs.ListLaws.{Data, data-zero, data-remaining, data-touched
 use Rattle.model.proofs.Calls.{Named, Ranked, rank, rank-all, all-ranked}
 use Rattle.model.proofs.Fuel.{faults-yes, faults-no, call-falls}
 use Rattle.faults.specs.Touches.{Touched, CallTouches, anyUpTo, joined, closes, carried, callTouches, touches, touchesWithin}
+use Rattle.faults.specs.Lengths.{removalCounts}
+use Rattle.faults.proofs.LengthLaws.{remaining-length}
 
 -- two tests that imply each other are equal
 same-test : (a b : Bool) → (a ≡ true → b ≡ true) → (b ≡ true → a ≡ true) → a ≡ b
@@ -323,27 +325,47 @@ module _ (rank : ℕ → ℕ) (r : ℕ → Bool) (k m : ℕ) where
     let sum = call-falls rank r k (qubits m) (omega arith) rs g q in
     (byBool (r g) (λ e. q .0 e .0) (λ e. let low : rank g < k = q .1 e in omega arith), omega arith, omega arith)
 
+  -- and on as many qubits less as the call carries removals
+  call-length : (rs : List Number) (g : ℕ) → 0 < length (remaining rs (qubits m)) →
+      removalCounts (call rs g) (m - length (remaining rs (qubits m))) ≡ true
+  unfolding removalCounts
+  call-length rs g some =
+    let len : length (qubits m) ≡ m = range-length m 1 in
+    let sum = remaining-length rs (qubits m) some in
+    eq-eqb (m - length (remaining rs (qubits m))) (length rs) (omega arith)
+
+  -- two accounts agree on the calls that s can make
+  abbrev Agree : CallTouches → CallTouches → Statement → Type 0
+  Agree o v s = (g m′ : ℕ) → calls s g ≡ true → removalCounts s (m - m′) ≡ true → 0 < m′ → Falls rank k m g m′ → SameTouches o v g m′
+
+  -- they agree on the calls that s or t can make, and so on those of each
+  abbrev Both : CallTouches → CallTouches → Statement → Statement → Type 0
+  Both o v s t = (g m′ : ℕ) → calls s g || calls t g ≡ true → removalCounts s (m - m′) || removalCounts t (m - m′) ≡ true →
+      0 < m′ → Falls rank k m g m′ → SameTouches o v g m′
+
+  first : {o v : CallTouches} (s t : Statement) → Both o v s t → Agree o v s
+  first s t A g m′ c n = A g m′ (or-left (calls s g) (calls t g) c) (or-left (removalCounts s (m - m′)) (removalCounts t (m - m′)) n)
+
+  second : {o v : CallTouches} (s t : Statement) → Both o v s t → Agree o v t
+  second s t A g m′ c n = A g m′ (or-right (calls s g) (calls t g) c) (or-right (removalCounts s (m - m′)) (removalCounts t (m - m′)) n)
+
   -- what a statement touches, by any two accounts that agree on the calls it can make
-  touches-agree : (o v : CallTouches) (s : Statement) → Ranked rank r k s →
-      ((g m′ : ℕ) → calls s g ≡ true → 0 < m′ → Falls rank k m g m′ → SameTouches o v g m′) → (t : ℕ) → touches o s m t ≡ touches v s m t
-  unfolding touches calls
+  touches-agree : (o v : CallTouches) (s : Statement) → Ranked rank r k s → Agree o v s → (t : ℕ) → touches o s m t ≡ touches v s m t
+  unfolding touches calls removalCounts
   touches-agree o v skip q A u = refl
   touches-agree o v (NOT rs a) q A u = refl
   touches-agree o v (sequence s t) q A u =
-    rw (touches-agree o v s (q .0) (λ g m′ c. A g m′ (or-left (calls s g) (calls t g) c)) u,
-      touches-agree o v t (q .1) (λ g m′ c. A g m′ (or-right (calls s g) (calls t g) c)) u)
+    rw (touches-agree o v s (q .0) (first s t A) u, touches-agree o v t (q .1) (second s t A) u)
   touches-agree o v (if c s t) q A u = byBool (holds c m)
-    (λ e. rw (touches-yes o c s t m e, touches-yes v c s t m e)
-      (touches-agree o v s (q .0) (λ g m′ x. A g m′ (or-left (calls s g) (calls t g) x)) u))
-    (λ e. rw (touches-no o c s t m e, touches-no v c s t m e)
-      (touches-agree o v t (q .1) (λ g m′ x. A g m′ (or-right (calls s g) (calls t g) x)) u))
+    (λ e. rw (touches-yes o c s t m e, touches-yes v c s t m e) (touches-agree o v s (q .0) (first s t A) u))
+    (λ e. rw (touches-no o c s t m e, touches-no v c s t m e) (touches-agree o v t (q .1) (second s t A) u))
   touches-agree o v (qcase rs a s t) q A u =
     let x = touched rs a (qubits m) in
-    let S : (u : ℕ) → touches o s m u ≡ touches v s m u = touches-agree o v s (q .0) (λ g m′ c. A g m′ (or-left (calls s g) (calls t g) c)) in
-    let T : (u : ℕ) → touches o t m u ≡ touches v t m u = touches-agree o v t (q .1) (λ g m′ c. A g m′ (or-right (calls s g) (calls t g) c)) in
+    let S : (u : ℕ) → touches o s m u ≡ touches v s m u = touches-agree o v s (q .0) (first s t A) in
+    let T : (u : ℕ) → touches o t m u ≡ touches v t m u = touches-agree o v t (q .1) (second s t A) in
     rw (S u, T u, S x, T x)
   touches-agree o v (call rs f) q A u = callTouches-agree o v f (remaining rs (qubits m))
-    (λ some. A f (length (remaining rs (qubits m))) (eqb-same f) some (call-before rs f q some)) u
+    (λ some. A f (length (remaining rs (qubits m))) (eqb-same f) (call-length rs f some) some (call-before rs f q some)) u
 
 -- what procedure f touches of a list of length m, followed to its end
 abbrev pub touchesOf : Program → CallTouches
@@ -364,39 +386,41 @@ module _ (P : Program) (N : Named P) (passes10 : anyLacksRemoval P ≡ false) wh
       nothing x y = omega arith
   enough-touches (suc a) (suc b) f m some ha hb t =
     touches-agree (rank P) (recursive P f) (rank P f) m (touchesWithin P a) (touchesWithin P b) (body P f) (all-ranked P N passes10 f)
-      (λ g m′ c some′ h u lu. let x : rank P g + m′ < rank P f + m = h .2 in enough-touches a b g m′ some′ (omega arith) (omega arith) u) t
+      (λ g m′ c n some′ h u lu. let x : rank P g + m′ < rank P f + m = h .2 in enough-touches a b g m′ some′ (omega arith) (omega arith) u) t
 
   -- what a body touches, by a table that has what it can call
   module _ (o : CallTouches) (f m fuel : ℕ) (deep : rank P f + m ≤ suc fuel)
-      (A : (g m′ : ℕ) → 0 < g → g ≤ count P → 0 < m′ → Falls (rank P) (rank P f) m g m′ → SameTouches o (touchesOf P) g m′) where
+      (A : (g m′ : ℕ) → 0 < g → g ≤ count P → removalCounts (body P f) (m - m′) ≡ true → 0 < m′ →
+        Falls (rank P) (rank P f) m g m′ → SameTouches o (touchesOf P) g m′) where
     body-touches : (t : ℕ) → touches o (body P f) m t ≡ touches (touchesWithin P fuel) (body P f) m t
     body-touches = touches-agree (rank P) (recursive P f) (rank P f) m o (touchesWithin P fuel) (body P f) (all-ranked P N passes10 f)
-      (λ g m′ c some h u lu.
+      (λ g m′ c n some h u lu.
         let x : rank P g + m′ < rank P f + m = h .2 in
-        A g m′ (N f g c .0) (N f g c .1) some h u lu ∙ enough-touches (rank P g + m′) fuel g m′ some (omega arith) (omega arith) u)
+        A g m′ (N f g c .0) (N f g c .1) n some h u lu ∙ enough-touches (rank P g + m′) fuel g m′ some (omega arith) (omega arith) u)
 
   -- a table filled in the order of lengths, and of ranks within a length: all that a body can call is there before it
   pub fill-touches : (o : CallTouches) (f m : ℕ) → 0 < m →
-      ((g m′ : ℕ) → 0 < g → g ≤ count P → 0 < m′ → m′ < m → SameTouches o (touchesOf P) g m′) →
+      ((g m′ : ℕ) → 0 < g → g ≤ count P → removalCounts (body P f) (m - m′) ≡ true → 0 < m′ → m′ < m → SameTouches o (touchesOf P) g m′) →
       ((g : ℕ) → 0 < g → g ≤ count P → rank P g < rank P f → SameTouches o (touchesOf P) g m) →
       (t : ℕ) → touches o (body P f) m t ≡ touchesOf P f m t
   unfolding touchesWithin
   fill-touches o f m some shorter lower t =
     body-touches o f m (rank P f + m) (omega arith)
-      (λ g m′ hg hc some′ h.
+      (λ g m′ hg hc n some′ h.
         let x : m′ ≤ m = h .1 in
         let y : rank P g + m′ < rank P f + m = h .2 in
         byEq m′ m
           (λ e. subst (SameTouches o (touchesOf P) g) (sym e) (lower g hg hc (omega arith)))
-          (λ ne. shorter g m′ hg hc some′ (omega arith))) t ∙
+          (λ ne. shorter g m′ hg hc n some′ (omega arith))) t ∙
     enough-touches (suc (rank P f + m)) (rank P f + m) f m some (omega arith) (omega arith) t
 
   -- what a procedure touches is what its body touches
   pub touchesOf-body : (f m : ℕ) → 0 < m → (t : ℕ) → touchesOf P f m t ≡ touches (touchesOf P) (body P f) m t
-  touchesOf-body f m some t = sym (fill-touches (touchesOf P) f m some (λ g m′ a b c d u lu. refl) (λ g a b c u lu. refl) t)
+  touchesOf-body f m some t = sym (fill-touches (touchesOf P) f m some (λ g m′ a b n c d u lu. refl) (λ g a b c u lu. refl) t)
 
-  -- refusal 12 by a table that has every procedure at every length up to n
+  -- refusal 12 by a table that has every procedure at every length that main's calls lead to
   pub main-touches : (o : CallTouches) (n : ℕ) →
-      ((g m : ℕ) → 0 < g → g ≤ count P → 0 < m → m ≤ n → SameTouches o (touchesOf P) g m) → programFaults P n ≡ touches o (P .main) n 0
+      ((g m : ℕ) → 0 < g → g ≤ count P → removalCounts (P .main) (n - m) ≡ true → 0 < m → m ≤ n → SameTouches o (touchesOf P) g m) →
+      programFaults P n ≡ touches o (P .main) n 0
   main-touches o n A = main-faults P n ∙
-    sym (body-touches o 0 n (enough P n) (let top = rank-all P 0 in omega arith) (λ g m hg hc some h. A g m hg hc some (h .1)) 0)
+    sym (body-touches o 0 n (enough P n) (let top = rank-all P 0 in omega arith) (λ g m hg hc c some h. A g m hg hc c some (h .1)) 0)

@@ -5,6 +5,7 @@ use mathlib.Core.List.{List}
 use Prim.Native.Nat.{ℕ, zero, suc, _-_, _≤_, _<_, min}
 use native.Mathlib.Omega.{arith}
 use borrow.Author.Needs.{needs}
+use lib.Bits.{bitOr}
 use lib.ListN.{length}
 use Rattle.model.specs.Syntax.{Statement}
 use Rattle.model.specs.Lists.{qubits, remaining, holds}
@@ -18,11 +19,10 @@ use Rattle.step.specs.declared.Step.{Step}
 use Rattle.step.specs.declared.Step.the-variants as step
 use Rattle.step.specs.Steps.{nextOf, stepOf, stepAt}
 use Rattle.step.proofs.Alike.{behind-next, test-next, statement-next}
-use Rattle.faults.specs.declared.Row.{Row}
 use Rattle.faults.specs.Touches.{Touched, CallTouches, touchesNone, touchesOne, joined, closes, callTouches, touches}
-use Rattle.faults.specs.Rows.{rowOf, rowIs, closedRow, knownTouches}
+use Rattle.faults.specs.Rows.{rowOf, marked, closedRow, knownTouches}
 use Rattle.faults.proofs.TouchLaws.{touches-inside}
-use Rattle.faults.proofs.RowLaws.{joined-row, closed-row}
+use Rattle.faults.proofs.RowLaws.{none-row, one-row, joined-row, closed-row}
 
 -- what a step touches of the list l, where `part` says it of the statement at a record and `test` whether the condition at one holds
 abbrev touchesBy : CallTouches → List ℕ → List ℕ → (ℕ → Touched) → (ℕ → Bool) → Step → Touched
@@ -74,7 +74,7 @@ module _ (o : CallTouches) (p : ℕ) (bs ix : List ℕ) (m d i : ℕ) where
 short : (m : ℕ) → min m 32 ≤ 32
 short m = omega arith
 
--- a position past 32 is touched by no statement on a list of 32 entries or less
+-- a position past 63 is touched by no statement on a list of 32 entries or less
 module _ (o : CallTouches) (s u : Statement) (m : ℕ) where
   closes-rows : (q : ℕ) → closedRow q (rowOf (joined (touches o s (min m 32)) (touches o u (min m 32))))
       ≡ rowOf (closes q (joined (touches o s (min m 32)) (touches o u (min m 32))))
@@ -83,14 +83,13 @@ module _ (o : CallTouches) (s u : Statement) (m : ℕ) where
       or-false (touches o s (min m 32) q) (touches o u (min m 32) q) (touches-inside o s (min m 32) q far) (touches-inside o u (min m 32) q far))
 
 -- the row of what the statement at record i touches of a list of m entries, of 32 at most
-abbrev rowAt : List ℕ → ℕ → List ℕ → List ℕ → ℕ → ℕ → ℕ → Row
+abbrev rowAt : List ℕ → ℕ → List ℕ → List ℕ → ℕ → ℕ → ℕ → ℕ
 rowAt known p bs ix m depth i = rowOf (touches (knownTouches known) (statementAt p bs ix depth i) (min m 32))
 
 -- deeper than a tree can be
-pub walk-deep : (known : List ℕ) (p : ℕ) (bs ix : List ℕ) (m depth i : ℕ) (row : Row) →
-    depth ≡ 0 → row ≡ rowOf touchesNone → row ≡ rowAt known p bs ix m depth i
+pub walk-deep : (known : List ℕ) (p : ℕ) (bs ix : List ℕ) (m depth i : ℕ) → depth ≡ 0 → 0 ≡ rowAt known p bs ix m depth i
 unfolding touches statementAt
-walk-deep known p bs ix m depth i row e r = rw e r
+walk-deep known p bs ix m depth i e = rw e none-row
 
 module _ (known : List ℕ) (p : ℕ) (bs ix : List ℕ) (m depth i : ℕ) (l : List ℕ) (st : Step)
     (deep : depth ≡ 0 → ⊥) (listed : l ≡ qubits (min m 32)) (steps : st ≡ stepAt p bs ix i l) where
@@ -107,29 +106,29 @@ module _ (known : List ℕ) (p : ℕ) (bs ix : List ℕ) (m depth i : ℕ) (l : 
       deeper zero h = absurd (h refl)
       deeper (suc d) h = rw (less-one d) (touches-step (knownTouches known) p bs ix (min m 32) d i)
 
-  module _ (row : Row) where
-    pub walk-nothing : st ≡ step.Nothing → row ≡ rowOf touchesNone → row ≡ rowAt known p bs ix m depth i
-    walk-nothing e r = rw (by-step, e) r
+  pub walk-nothing : st ≡ step.Nothing → 0 ≡ rowAt known p bs ix m depth i
+  walk-nothing e = rw (by-step, e) none-row
 
-    pub walk-touches : (q : ℕ) → st ≡ step.Touches q → row ≡ rowOf (touchesOne q) → row ≡ rowAt known p bs ix m depth i
-    walk-touches q e r = rw (by-step, e) r
+  -- a condition stands where a statement is asked for
+  pub walk-holds : (b : Bool) → st ≡ step.Holds b → 0 ≡ rowAt known p bs ix m depth i
+  walk-holds b e = rw (by-step, e) none-row
+
+  pub walk-both : (a b : ℕ) → st ≡ step.Both a b → 0 ≡ rowAt known p bs ix m depth i
+  walk-both a b e = rw (by-step, e) none-row
+
+  pub walk-either : (a b : ℕ) → st ≡ step.Either a b → 0 ≡ rowAt known p bs ix m depth i
+  walk-either a b e = rw (by-step, e) none-row
+
+  pub walk-negates : (a : ℕ) → st ≡ step.Negates a → 0 ≡ rowAt known p bs ix m depth i
+  walk-negates a e = rw (by-step, e) none-row
+
+  module _ (row : ℕ) where
+    pub walk-touches : (q : ℕ) → st ≡ step.Touches q → row ≡ marked 0 q → row ≡ rowAt known p bs ix m depth i
+    walk-touches q e r = rw (by-step, e) (r ∙ one-row q)
 
     pub walk-calls : (f at : ℕ) (rest : List ℕ) → st ≡ step.Calls f at → rest ≡ remaining (removalsOf bs at) l →
         row ≡ rowOf (callTouches (knownTouches known) f rest) → row ≡ rowAt known p bs ix m depth i
     walk-calls f at rest e left r = rw (by-step, e, ← left) r
-
-    -- a condition stands where a statement is asked for
-    pub walk-holds : (b : Bool) → st ≡ step.Holds b → row ≡ rowOf touchesNone → row ≡ rowAt known p bs ix m depth i
-    walk-holds b e r = rw (by-step, e) r
-
-    pub walk-both : (a b : ℕ) → st ≡ step.Both a b → row ≡ rowOf touchesNone → row ≡ rowAt known p bs ix m depth i
-    walk-both a b e r = rw (by-step, e) r
-
-    pub walk-either : (a b : ℕ) → st ≡ step.Either a b → row ≡ rowOf touchesNone → row ≡ rowAt known p bs ix m depth i
-    walk-either a b e r = rw (by-step, e) r
-
-    pub walk-negates : (a : ℕ) → st ≡ step.Negates a → row ≡ rowOf touchesNone → row ≡ rowAt known p bs ix m depth i
-    walk-negates a e r = rw (by-step, e) r
 
     -- the chosen branch of an if
     module _ (c a b : ℕ) (e : st ≡ step.Chooses c a b) (t : Bool) (tests : t ≡ holds (testAt p bs ix (depth - 1) c) (length l)) where
@@ -143,18 +142,17 @@ module _ (known : List ℕ) (p : ℕ) (bs ix : List ℕ) (m depth i : ℕ) (l : 
       walk-no n r = rw (by-step, e, sym tested ∙ n) r
 
   -- both parts, in sequence or under a qcase
-  module _ (a b : ℕ) (first second both : Row)
-      (one : first ≡ rowAt known p bs ix m (depth - 1) a) (two : second ≡ rowAt known p bs ix m (depth - 1) b)
-      (join : both ≡ rowOf (joined (rowIs first) (rowIs second))) where
-    together : both ≡ rowOf (joined (touches (knownTouches known) (statementAt p bs ix (depth - 1) a) (min m 32))
+  module _ (a b first second : ℕ)
+      (one : first ≡ rowAt known p bs ix m (depth - 1) a) (two : second ≡ rowAt known p bs ix m (depth - 1) b) where
+    together : bitOr first second ≡ rowOf (joined (touches (knownTouches known) (statementAt p bs ix (depth - 1) a) (min m 32))
         (touches (knownTouches known) (statementAt p bs ix (depth - 1) b) (min m 32)))
-    together = join ∙ rw (one, two) (joined-row (touches (knownTouches known) (statementAt p bs ix (depth - 1) a) (min m 32))
+    together = rw (one, two) (joined-row (touches (knownTouches known) (statementAt p bs ix (depth - 1) a) (min m 32))
         (touches (knownTouches known) (statementAt p bs ix (depth - 1) b) (min m 32)))
 
-    pub walk-sequence : st ≡ step.Sequence a b → both ≡ rowAt known p bs ix m depth i
+    pub walk-sequence : st ≡ step.Sequence a b → bitOr first second ≡ rowAt known p bs ix m depth i
     walk-sequence e = rw (by-step, e) together
 
-    pub walk-branches : (q : ℕ) (closed : Row) → st ≡ step.Branches q a b → closed ≡ closedRow q both → closed ≡ rowAt known p bs ix m depth i
+    pub walk-branches : (q closed : ℕ) → st ≡ step.Branches q a b → closed ≡ closedRow q (bitOr first second) → closed ≡ rowAt known p bs ix m depth i
     walk-branches q closed e c = rw (by-step, e)
       (c ∙ rw together (closes-rows (knownTouches known) (statementAt p bs ix (depth - 1) a) (statementAt p bs ix (depth - 1) b) m q))
 

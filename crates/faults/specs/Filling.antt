@@ -1,15 +1,16 @@
 -- The table of rows, filled by length, and by rank within a length: all that a body can call is there before it.
-use Prim.Native.Nat.{ℕ, zero, suc, _+_, min}
+use Prim.Native.Nat.{ℕ, zero, suc, _+_, _-_, min}
 use mathlib.Core.Bool.{Bool, _||_}
 use mathlib.Core.List.{List}
-use lib.ListN.{replicate}
-use lib.Dec.{eqb}
+use lib.ListN.{getD, set, replicate}
+use lib.Dec.{eqb, ltb}
 use Rattle.model.specs.Meaning.{digit}
 use Rattle.records.specs.Fields.{pick}
 use Rattle.table.specs.Index.{bodyAt}
 use Rattle.reach.specs.Matrix.{recursiveIn}
 use Rattle.faults.specs.Touches.{touches}
-use Rattle.faults.specs.Rows.{rowOf, knownTouches, allRows, stored}
+use Rattle.faults.specs.Rows.{rowOf, rowIs, knownTouches, allRows, stored}
+use Rattle.faults.specs.Lengths.{sumsIn}
 
 -- does f reach x, by the matrix, or is it x?
 abbrev pub fromIn : List ℕ → ℕ → ℕ → Bool
@@ -24,14 +25,27 @@ rankBelow matrix f (suc x) = rankBelow matrix f x + digit (fromIn matrix f x)
 abbrev pub rankIn : List ℕ → ℕ → ℕ → ℕ
 rankIn matrix f p = rankBelow matrix f (suc p)
 
+-- 17 ranks, of which those below n are there
+unfoldable pub ranksBelow : List ℕ → ℕ → ℕ → List ℕ
+ranksBelow matrix p zero = replicate 17 0
+ranksBelow matrix p (suc f) = set (ranksBelow matrix p f) f (rankIn matrix f p)
+
+-- all of them
+abbrev pub ranksIn : List ℕ → ℕ → List ℕ
+ranksIn matrix p = ranksBelow matrix p 17
+
+-- the rank of f among them; 0, which none has, past 16
+abbrev pub rankAt : List ℕ → ℕ → ℕ
+rankAt ranks f = pick (ltb f 17) (getD ranks f 0) 0
+
 -- the row of procedure f on lists of length m: what its body touches, by the table so far
 unfoldable pub filledRow : ℕ → List ℕ → List ℕ → ℕ → ℕ → List ℕ → List ℕ
 filledRow p bs ix f m known = stored f m (rowOf (touches (knownTouches known) (bodyAt p bs ix f) (min m 32))) known
 
-module _ (p : ℕ) (bs ix matrix : List ℕ) where
+module _ (p : ℕ) (bs ix ranks : List ℕ) where
   -- only where f has rank k
   unfoldable pub filledIf : ℕ → ℕ → ℕ → List ℕ → List ℕ
-  filledIf k f m known = pick (eqb (rankIn matrix f p) k) (filledRow p bs ix f m known) known
+  filledIf k f m known = pick (eqb (rankAt ranks f) k) (filledRow p bs ix f m known) known
 
   -- procedures 1 to n, those of rank k
   unfoldable pub filledRank : ℕ → ℕ → ℕ → List ℕ → List ℕ
@@ -43,11 +57,16 @@ module _ (p : ℕ) (bs ix matrix : List ℕ) where
   filledLength zero m known = known
   filledLength (suc k) m known = filledRank p (suc k) m (filledLength k m known)
 
-  -- lengths 1 to n
-  unfoldable pub filled : ℕ → List ℕ → List ℕ
-  filled zero known = known
-  filled (suc m) known = filledLength p (suc m) (filled m known)
+  -- only where calls can have removed `gone` entries of main's list
+  unfoldable pub filledAsked : ℕ → ℕ → ℕ → List ℕ → List ℕ
+  filledAsked sums gone m known = pick (rowIs sums gone) (filledLength p m known) known
 
-  -- does main fault on n qubits, by the table of lengths 1 to n? Position 0 of its row says so
-  unfoldable pub faultsAt : ℕ → Bool
-  faultsAt n = touches (knownTouches (filled n (replicate allRows 0))) (bodyAt p bs ix 0) (min n 32) 0
+  -- lengths 1 to m, of main's n
+  unfoldable pub filled : ℕ → ℕ → ℕ → List ℕ → List ℕ
+  filled sums n zero known = known
+  filled sums n (suc m) known = filledAsked sums (n - suc m) (suc m) (filled sums n m known)
+
+-- does main fault on n qubits, by the table of lengths 1 to n? Position 0 of its row says so
+unfoldable pub faultsAt : ℕ → List ℕ → List ℕ → List ℕ → ℕ → Bool
+faultsAt p bs ix matrix n =
+    touches (knownTouches (filled p bs ix (ranksIn matrix p) (sumsIn p bs ix) n n (replicate allRows 0))) (bodyAt p bs ix 0) (min n 32) 0

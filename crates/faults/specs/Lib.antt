@@ -1,3 +1,4 @@
 pub mod Touches
 pub mod Rows
+pub mod Lengths
 pub mod Filling

@@ -1,56 +1,50 @@
--- Rows of positions touched, as the code has them: digits of position 0, which stands for a fault, and of positions 1 to 32.
-use Prim.Native.Nat.{ℕ, zero, suc, _+_, _*_}
-use mathlib.Core.Bool.{false}
-use mathlib.Core.List.{List, map}
+-- Sets of numbers below 64 as the code has them: words, whose bit t says whether t is in the set. A row is the set of the positions touched.
+use Prim.Native.Nat.{ℕ, _+_, _*_, _^_}
+use mathlib.Core.List.{List}
+use lib.Bits.{bitOr}
 use lib.ListN.{length, getD, set}
-use lib.Dec.{eqb, ltb}
-use Rattle.model.specs.Lists.{range, entry}
-use Rattle.model.specs.Meaning.{digit}
+use lib.Dec.{ltb}
+use Rattle.model.specs.Lists.{entry}
+use Rattle.model.specs.Meaning.{bit, wordFrom}
 use Rattle.records.specs.Fields.{pick}
-use Rattle.faults.specs.declared.Row.{Row}
 use Rattle.faults.specs.Touches.{Touched, CallTouches}
 
--- the digits of positions 0 to 32
-unfoldable pub digitsOf : Touched → List ℕ
-digitsOf x = map (λ t. digit (x t)) (range 33 0)
+-- the word of a set
+abbrev pub rowOf : Touched → ℕ
+rowOf x = wordFrom 64 0 x
 
--- as a row
-abbrev pub rowOf : Touched → Row
-rowOf x = record { at = digitsOf x }
+-- what a word says
+abbrev pub rowIs : ℕ → Touched
+rowIs row = λ t. bit row t
 
--- what a row says, past its end nothing
-abbrev pub rowIs : Row → Touched
-rowIs a = λ t. eqb (getD (a .at) t 0) 1
-
--- one position more; a row has none past 32
-unfoldable pub marked : Row → ℕ → Row
-marked a q = pick (ltb q 33) (record { at = set (a .at) q 1 }) a
+-- one number more; a word has none past 63
+unfoldable pub marked : ℕ → ℕ → ℕ
+marked row q = pick (ltb q 64) (bitOr row (2 ^ q)) row
 
 -- position q closed: touched by the qcase itself, and a fault where its branches touch it
-unfoldable pub closedRow : ℕ → Row → Row
-closedRow q a = pick (rowIs a q) (marked (marked a q) 0) (marked a q)
+unfoldable pub closedRow : ℕ → ℕ → ℕ
+closedRow q row = pick (rowIs row q) (marked (marked row q) 0) (marked row q)
 
--- one table has the rows of procedures 0 to 16 on lists of lengths 0 to 32: where each begins
+-- one table has the rows of procedures 0 to 16 on lists of lengths 0 to 32: where each stands
 abbrev pub place : ℕ → ℕ → ℕ
-place f m = (f * 33 + m) * 33
+place f m = f * 33 + m
 
--- and how long the table is
+-- and how many they are
 abbrev pub allRows : ℕ
-allRows = 18513
+allRows = 561
 
--- what the table says that calls touch; past its end nothing
+-- the row of procedure f on lists of length m; past the table's end nothing
+abbrev pub knownRow : List ℕ → ℕ → ℕ → ℕ
+knownRow known f m = pick (ltb (place f m) allRows) (getD known (place f m) 0) 0
+
+-- what the table says that calls touch
 abbrev pub knownTouches : List ℕ → CallTouches
-knownTouches known f m = λ t. pick (ltb (place f m + t) allRows) (eqb (getD known (place f m + t) 0) 1) false
+knownTouches known f m = rowIs (knownRow known f m)
 
 -- position u of the callee's list l, where it is touched, goes into the caller's row as the entry that stands there
-unfoldable pub carriedOn : List ℕ → ℕ → List ℕ → ℕ → Row → Row
-carriedOn known f l u row = pick (knownTouches known f (length l) u) (marked row (entry l u)) row
+unfoldable pub carriedOn : ℕ → List ℕ → ℕ → ℕ → ℕ
+carriedOn callee l u row = pick (rowIs callee u) (marked row (entry l u)) row
 
--- the first n digits of a row, written from a place on
-unfoldable pub writtenFrom : ℕ → List ℕ → ℕ → List ℕ → List ℕ
-writtenFrom base digits zero known = known
-writtenFrom base digits (suc t) known = set (writtenFrom base digits t known) (base + t) (getD digits t 0)
-
--- the row of procedure f on lists of length m, written; the table has none past 16 and 32
-unfoldable pub stored : ℕ → ℕ → Row → List ℕ → List ℕ
-stored f m row known = pick (ltb 16 f) known (pick (ltb 32 m) known (writtenFrom (place f m) (row .at) 33 known))
+-- the row of procedure f on lists of length m, written; nothing past the table's end
+unfoldable pub stored : ℕ → ℕ → ℕ → List ℕ → List ℕ
+stored f m row known = pick (ltb (place f m) allRows) (set known (place f m) row) known

@@ -1,168 +1,113 @@
-// Refusal 12 in polynomial time: the positions that each body touches of a list of each length, in one table, filled by length and rank.
+// Refusal 12 in polynomial time: the positions that each body touches of a list of each length, in one table, filled by length and rank. Lengths
+// that no call can lead to are left out.
 ghost use mathlib.Core.Path.{_≡_};
-ghost use mathlib.Core.Bool.{_||_};
-ghost use Prim.Native.Nat.{min};
-ghost use lib.Dec.{eqb};
+ghost use Prim.Native.Nat.{min, suc};
+ghost use lib.ListN.{length};
 ghost use Rattle.model.specs.Meaning.{digit};
+ghost use Rattle.records.specs.Fields.{removalsOf};
 ghost use Rattle.table.specs.Index.{statementAt};
 ghost use Rattle.step.specs.Steps.{qubitsOf};
-ghost use Rattle.faults.specs.Touches.{touchesNone, touchesOne, joined, callTouches, touches};
-ghost use Rattle.faults.specs.Rows.{rowOf, rowIs, marked, closedRow, place, knownTouches, carriedOn, stored};
-ghost use Rattle.faults.specs.Filling.{fromIn, rankIn, filledRow, filledIf, filledRank, filledLength, filled, faultsAt};
-use reach::recursive;
-use step::{Qubits, Step, all, entry, holds, remaining, size, start, step_at};
+ghost use Rattle.faults.specs.Touches.{callTouches, touches};
+ghost use Rattle.faults.specs.Rows.{rowOf, rowIs, marked, closedRow, place, knownRow, knownTouches, carriedOn, stored};
+ghost use Rattle.faults.specs.Lengths.{removalCounts, countsBelow, sumsBelow, sumsIn};
+ghost use Rattle.faults.specs.Filling.{fromIn, rankIn, ranksIn, rankAt};
+ghost use Rattle.faults.specs.Filling.{filledRow, filledIf, filledRank, filledLength, filledAsked, filled, faultsAt};
+use reach::{recursive, root};
+use step::{Qubits, Step, all, entry, holds, remaining, size, step_at};
 
 // "a tree is at most 32 records deep"
 const MOST_DEPTH: u8 = 32;
 
-// Rows of 33 digits for procedures 0 to 16 and lengths 0 to 32.
-const KNOWN: usize = 18513;
+// One row for each of procedures 0 to 16 and lengths 0 to 32.
+const KNOWN: usize = 561;
 
-// The positions touched: a 1 at t for position t, counted from 1; a 1 at 0 for a fault inside.
-pub struct Row {
-    pub at: [u8; 33],
+// A set of numbers below 64 is a word, whose bit t says whether t is in it. A row is the set of the positions touched, counted from 1; 0 is in it
+// for a fault inside.
+
+// The set with one number more; none past 63.
+fn mark(word: u64, t: u8) -> u64
+    ensures { λ r. ⌜ r ≡ marked word t ⌝ }
+{
+    if t < 64 { word | (1u64 << t) } else { word }
 }
 
-// Nothing is touched.
-fn none() -> Row
-    ensures { λ r. ⌜ r ≡ rowOf touchesNone ⌝ }
+// Is a number in the set?
+fn contains(word: u64, t: u8) -> bool
+    ensures { λ r. ⌜ r ≡ rowIs word t ⌝ }
 {
-    Row { at: [0; 33] }
-}
-
-// One position more; a row has none past 32.
-fn mark(row: Row, q: u8) -> Row
-    ensures { λ r. ⌜ r ≡ marked row q ⌝ }
-{
-    let mut at = row.at;
-    let i = q as usize;
-    if i < 33 {
-        at[i] = 1;
-    }
-    Row { at }
-}
-
-// One position is touched; "touching nothing" comes as 0, and is a fault.
-fn one(q: u8) -> Row
-    ensures { λ r. ⌜ r ≡ rowOf (touchesOne q) ⌝ }
-{
-    mark(none(), q)
-}
-
-// Is one of two digits 1?
-fn either(a: u8, b: u8) -> u8
-    ensures { λ r. ⌜ r ≡ digit (eqb a 1 || eqb b 1) ⌝ }
-{
-    if a == 1 {
-        return 1;
-    }
-    if b == 1 { 1 } else { 0 }
-}
-
-// What either of two statements touches.
-fn join(a: Row, b: Row) -> Row
-    ensures { λ r. ⌜ r ≡ rowOf (joined (rowIs a) (rowIs b)) ⌝ }
-{
-    let mut at = [0; 33];
-    for t in 0..33 {
-        at[t] = either(a.at[t], b.at[t]);
-    }
-    Row { at }
-}
-
-// Is position q touched?
-fn touched(row: Row, q: u8) -> bool
-    ensures { λ r. ⌜ r ≡ rowIs row q ⌝ }
-{
-    let i = q as usize;
-    if i < 33 { row.at[i] == 1 } else { false }
+    if t < 64 { (word >> t) & 1 == 1 } else { false }
 }
 
 // "Inside its two branches a qcase closes its qubit": where they touch it, at position q, that is a fault.
-fn closes(q: u8, row: Row) -> Row
+fn closes(q: u8, row: u64) -> u64
     ensures { λ r. ⌜ r ≡ closedRow q row ⌝ }
 {
     let closed = mark(row, q);
-    if touched(row, q) {
+    if contains(row, q) {
         return mark(closed, 0);
     }
     closed
 }
 
-// Where the row of procedure f on lists of length m begins.
+// Where the row of procedure f on lists of length m stands.
 fn place(f: u8, m: u8) -> usize
     ensures { λ r. ⌜ r ≡ place f m ⌝ }
 {
-    (f as usize * 33 + m as usize) * 33
+    f as usize * 33 + m as usize
 }
 
-// Is position t of a list of length m touched by procedure f, by the table?
-fn known_at(known: &[u8; 18513], f: u8, m: u8, t: u8) -> bool
-    ensures { λ r. ⌜ r ≡ knownTouches (now (known .entry)) f m t ⌝ }
+// What procedure f touches of a list of length m, by the table.
+fn row_at(known: &[u64; 561], f: u8, m: u8) -> u64
+    ensures { λ r. ⌜ r ≡ knownRow (now (known .entry)) f m ⌝ }
 {
-    let at = place(f, m) + t as usize;
-    if at < KNOWN { known[at] == 1 } else { false }
+    let at = place(f, m);
+    if at < KNOWN { known[at] } else { 0 }
 }
 
 // Position u of the callee's list, where it is touched, is the caller's position that stands there; a fault stays one.
-fn carry(known: &[u8; 18513], f: u8, list: Qubits, u: u8, row: Row) -> Row
-    ensures { λ r. ⌜ r ≡ carriedOn (now (known .entry)) f (qubitsOf list) u row ⌝ }
+fn carry(callee: u64, list: Qubits, u: u8, row: u64) -> u64
+    ensures { λ r. ⌜ r ≡ carriedOn callee (qubitsOf list) u row ⌝ }
 {
-    if known_at(known, f, size(list), u) {
+    if contains(callee, u) {
         return mark(row, entry(list, u as i32));
     }
     row
 }
 
 // What a call of f with a list touches. "A call with an empty list does nothing."
-fn called(known: &[u8; 18513], f: u8, list: Qubits) -> Row
+fn called(known: &[u64; 561], f: u8, list: Qubits) -> u64
     ensures { λ r. ⌜ r ≡ rowOf (callTouches (knownTouches (now (known .entry))) f (qubitsOf list)) ⌝ }
 {
     let m = size(list);
-    let mut row = none();
     if m == 0 {
-        return row;
+        return 0;
     }
+    let callee = row_at(known, f, m);
+    let mut row = 0;
     for u in 0..=m {
-        row = carry(known, f, list, u, row);
+        row = carry(callee, list, u, row);
     }
     row
 }
 
-// The row of procedure f on lists of length m is written.
-fn store(known: &mut [u8; 18513], f: u8, m: u8, row: Row)
-    ensures { λ r. ⌜ now (known .exit) ≡ stored f m row (now (known .entry)) ⌝ }
-{
-    if 16 < f {
-        return;
-    }
-    if 32 < m {
-        return;
-    }
-    let base = place(f, m);
-    for t in 0..33 {
-        known[base + t] = row.at[t];
-    }
-}
-
-// What the statement at record i touches of a list of m entries, of 32 at most: both branches of a qcase, the chosen branch of an if.
-fn touches(table: &[u8], index: &[u16], p: u8, i: usize, depth: u8, m: u8, known: &[u8; 18513]) -> Row
+// What the statement at record i touches of a list of m entries, of 32 at most, by their positions: both branches of a qcase, the chosen branch of an if.
+fn touches(table: &[u8], index: &[u16], p: u8, i: usize, depth: u8, m: u8, known: &[u64; 561]) -> u64
     ensures {
         λ r. ⌜ r ≡ rowOf (touches (knownTouches (now (known .entry))) (statementAt p (now (table .entry)) (now (index .entry)) depth i) (min m 32)) ⌝
     }
 {
     if depth == 0 {
-        return none();
+        return 0;
     }
     let list = all(m);
     let step = step_at(table, index, p, i, list);
     match step {
-        Step::Nothing => none(),
-        Step::Touches(q) => one(q),
+        Step::Nothing => 0,
+        Step::Touches(q) => mark(0, q),
         Step::Sequence(first, second) => {
             let a = touches(table, index, p, first, depth - 1, m, known);
             let b = touches(table, index, p, second, depth - 1, m, known);
-            join(a, b)
+            a | b
         }
         Step::Chooses(test, yes, no) => {
             if holds(table, index, p, test, list, depth - 1) {
@@ -173,14 +118,79 @@ fn touches(table: &[u8], index: &[u16], p: u8, i: usize, depth: u8, m: u8, known
         Step::Branches(q, zero, one) => {
             let a = touches(table, index, p, zero, depth - 1, m, known);
             let b = touches(table, index, p, one, depth - 1, m, known);
-            closes(q, join(a, b))
+            closes(q, a | b)
         }
         Step::Calls(f, at) => called(known, f, remaining(table, at, list)),
-        Step::Holds(_) => none(),
-        Step::Both(_, _) => none(),
-        Step::Either(_, _) => none(),
-        Step::Negates(_) => none(),
+        Step::Holds(_) => 0,
+        Step::Both(_, _) => 0,
+        Step::Either(_, _) => 0,
+        Step::Negates(_) => 0,
     }
+}
+
+// A removal takes one entry away or empties the list. So a call leaves as many entries less as it carries removals, or none, and from main's list
+// calls lead to lists that are shorter by a sum of such numbers.
+
+// How many removals stand at a place. Place 0 has none.
+fn count_at(table: &[u8], at: usize) -> u8
+    ensures { λ r. ⌜ r ≡ length (removalsOf (now (table .entry)) at) ⌝ }
+{
+    if at == 0 {
+        return 0;
+    }
+    if at < table.len() { table[at] } else { 0 }
+}
+
+// How many removals the calls in the statement at record i carry, as a set.
+fn counts(table: &[u8], index: &[u16], p: u8, i: usize, depth: u8) -> u64
+    ensures { λ r. ⌜ r ≡ rowOf (removalCounts (statementAt p (now (table .entry)) (now (index .entry)) depth i)) ⌝ }
+{
+    if depth == 0 {
+        return 0;
+    }
+    let step = step_at(table, index, p, i, all(0));
+    match step {
+        Step::Nothing => 0,
+        Step::Touches(_) => 0,
+        Step::Sequence(first, second) => {
+            counts(table, index, p, first, depth - 1) | counts(table, index, p, second, depth - 1)
+        }
+        Step::Chooses(_, yes, no) => {
+            counts(table, index, p, yes, depth - 1) | counts(table, index, p, no, depth - 1)
+        }
+        Step::Branches(_, zero, one) => {
+            counts(table, index, p, zero, depth - 1) | counts(table, index, p, one, depth - 1)
+        }
+        Step::Calls(_, at) => mark(0, count_at(table, at)),
+        Step::Holds(_) => 0,
+        Step::Both(_, _) => 0,
+        Step::Either(_, _) => 0,
+        Step::Negates(_) => 0,
+    }
+}
+
+// The same for all bodies.
+fn all_counts(table: &[u8], index: &[u16], p: u8) -> u64
+    ensures { λ r. ⌜ r ≡ countsBelow p (now (table .entry)) (now (index .entry)) (suc p) ⌝ }
+{
+    let mut all = 0;
+    for f in 0..=p {
+        all |= counts(table, index, p, root(index, f), MOST_DEPTH);
+    }
+    all
+}
+
+// 0, and the sums of numbers of a set: all of them up to 32.
+fn sums_of(counts: u64) -> u64
+    ensures { λ r. ⌜ r ≡ sumsBelow counts 32 ⌝ }
+{
+    let mut sums = 1;
+    for j in 0..32 {
+        if contains(sums, j) {
+            sums |= counts << j;
+        }
+    }
+    sums
 }
 
 // 1 where f reaches x or is x, otherwise 0.
@@ -204,65 +214,107 @@ fn rank(matrix: &[u8; 289], f: u8, p: u8) -> usize
     n
 }
 
+// The ranks of procedures 0 to 16.
+fn all_ranks(matrix: &[u8; 289], p: u8) -> [usize; 17]
+    ensures { λ r. ⌜ r ≡ ranksIn (now (matrix .entry)) p ⌝ }
+{
+    let mut all = [0; 17];
+    for f in 0..17 {
+        all[f as usize] = rank(matrix, f, p);
+    }
+    all
+}
+
+// The rank of procedure f; 0, which none has, past 16.
+fn rank_at(ranks: &[usize; 17], f: u8) -> usize
+    ensures { λ r. ⌜ r ≡ rankAt (now (ranks .entry)) f ⌝ }
+{
+    let i = f as usize;
+    if i < 17 { ranks[i] } else { 0 }
+}
+
+// The row of procedure f on lists of length m is written.
+fn store(known: &mut [u64; 561], f: u8, m: u8, row: u64)
+    ensures { λ r. ⌜ now (known .exit) ≡ stored f m row (now (known .entry)) ⌝ }
+{
+    let at = place(f, m);
+    if at < KNOWN {
+        known[at] = row;
+    }
+}
+
 // The row of procedure f on lists of length m: what its body touches, by the table so far.
-fn fill_row(table: &[u8], index: &[u16], p: u8, f: u8, m: u8, known: &mut [u8; 18513])
+fn fill_row(table: &[u8], index: &[u16], p: u8, f: u8, m: u8, known: &mut [u64; 561])
     ensures {
         λ r. ⌜ now (known .exit) ≡ filledRow p (now (table .entry)) (now (index .entry)) f m (now (known .entry)) ⌝
     }
 {
-    let root = start(index, 512 + f as usize);
-    let row = touches(table, index, p, root, MOST_DEPTH, m, known);
+    let row = touches(table, index, p, root(index, f), MOST_DEPTH, m, known);
     store(known, f, m, row);
 }
 
 // The same, but only where f has rank k.
-fn fill_if(table: &[u8], index: &[u16], p: u8, k: usize, f: u8, m: u8, matrix: &[u8; 289], known: &mut [u8; 18513])
+fn fill_if(table: &[u8], index: &[u16], p: u8, k: usize, f: u8, m: u8, ranks: &[usize; 17], known: &mut [u64; 561])
     ensures {
-        λ r. ⌜ now (known .exit) ≡ filledIf p (now (table .entry)) (now (index .entry)) (now (matrix .entry)) k f m (now (known .entry)) ⌝
+        λ r. ⌜ now (known .exit) ≡ filledIf p (now (table .entry)) (now (index .entry)) (now (ranks .entry)) k f m (now (known .entry)) ⌝
     }
 {
-    if rank(matrix, f, p) == k {
+    if rank_at(ranks, f) == k {
         fill_row(table, index, p, f, m, known);
     }
 }
 
 // All procedures of rank k, on lists of length m.
-fn fill_rank(table: &[u8], index: &[u16], p: u8, k: usize, m: u8, matrix: &[u8; 289], known: &mut [u8; 18513])
+fn fill_rank(table: &[u8], index: &[u16], p: u8, k: usize, m: u8, ranks: &[usize; 17], known: &mut [u64; 561])
     ensures {
-        λ r. ⌜ now (known .exit) ≡ filledRank p (now (table .entry)) (now (index .entry)) (now (matrix .entry)) p k m (now (known .entry)) ⌝
+        λ r. ⌜ now (known .exit) ≡ filledRank p (now (table .entry)) (now (index .entry)) (now (ranks .entry)) p k m (now (known .entry)) ⌝
     }
 {
     let mut f = 0;
     while f < p {
         f += 1;
-        fill_if(table, index, p, k, f, m, matrix, known);
+        fill_if(table, index, p, k, f, m, ranks, known);
     }
 }
 
 // All procedures, on lists of length m: by rank, so that what a body calls on lists of the same length is there before it.
-fn fill_length(table: &[u8], index: &[u16], p: u8, m: u8, matrix: &[u8; 289], known: &mut [u8; 18513])
+fn fill_length(table: &[u8], index: &[u16], p: u8, m: u8, ranks: &[usize; 17], known: &mut [u64; 561])
     ensures {
-        λ r. ⌜ now (known .exit) ≡ filledLength p (now (table .entry)) (now (index .entry)) (now (matrix .entry)) p m (now (known .entry)) ⌝
+        λ r. ⌜ now (known .exit) ≡ filledLength p (now (table .entry)) (now (index .entry)) (now (ranks .entry)) p m (now (known .entry)) ⌝
     }
 {
-    let ranks = p as usize;
+    let highest = p as usize;
     let mut k = 0;
-    while k < ranks {
+    while k < highest {
         k += 1;
-        fill_rank(table, index, p, k, m, matrix, known);
+        fill_rank(table, index, p, k, m, ranks, known);
     }
 }
 
-// All procedures, on lists of lengths 1 to n, the shortest first.
-fn fill(table: &[u8], index: &[u16], p: u8, n: u8, matrix: &[u8; 289], known: &mut [u8; 18513])
+// The same, but only where calls can have removed `gone` entries of main's list, so that m are left.
+fn fill_asked(table: &[u8], index: &[u16], p: u8, gone: u8, m: u8, sums: u64, ranks: &[usize; 17], known: &mut [u64; 561])
     ensures {
-        λ r. ⌜ now (known .exit) ≡ filled p (now (table .entry)) (now (index .entry)) (now (matrix .entry)) n (now (known .entry)) ⌝
+        λ r. ⌜ now (known .exit) ≡ filledAsked p (now (table .entry)) (now (index .entry)) (now (ranks .entry)) sums gone m (now (known .entry)) ⌝
     }
 {
+    if contains(sums, gone) {
+        fill_length(table, index, p, m, ranks, known);
+    }
+}
+
+// All procedures, on lists of the lengths 1 to n that calls can lead to, the shortest first.
+fn fill(table: &[u8], index: &[u16], p: u8, n: u8, matrix: &[u8; 289], known: &mut [u64; 561])
+    ensures {
+        λ r. ⌜ now (known .exit) ≡ filled p (now (table .entry)) (now (index .entry)) (ranksIn (now (matrix .entry)) p)
+            (sumsIn p (now (table .entry)) (now (index .entry))) n n (now (known .entry)) ⌝
+    }
+{
+    let ranks = all_ranks(matrix, p);
+    let sums = sums_of(all_counts(table, index, p));
     let mut m = 0;
     while m < n {
         m += 1;
-        fill_length(table, index, p, m, matrix, known);
+        fill_asked(table, index, p, n - m, m, sums, &ranks, known);
     }
 }
 
@@ -270,8 +322,7 @@ fn fill(table: &[u8], index: &[u16], p: u8, n: u8, matrix: &[u8; 289], known: &m
 pub fn faults(table: &[u8], index: &[u16], p: u8, n: u8, matrix: &[u8; 289]) -> bool
     ensures { λ r. ⌜ r ≡ faultsAt p (now (table .entry)) (now (index .entry)) (now (matrix .entry)) n ⌝ }
 {
-    let mut known = [0; 18513];
+    let mut known = [0; 561];
     fill(table, index, p, n, matrix, &mut known);
-    let root = start(index, 512);
-    touched(touches(table, index, p, root, MOST_DEPTH, n, &known), 0)
+    contains(touches(table, index, p, root(index, 0), MOST_DEPTH, n, &known), 0)
 }

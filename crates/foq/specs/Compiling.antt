@@ -13,6 +13,6 @@ use Rattle.run.specs.Answers.{answerOf}
 abbrev pub lengthAnswer : Outcome (List ℕ) → Answer
 lengthAnswer o = answerOf (after o (λ bytes. gives (length bytes)))
 
--- Demand 3: where the number is 0, it holds of "the room's bytes up to the length given"
+-- Demand 3: where the number is 0, it holds of "The room's bytes up to the length given"
 abbrev pub Delivered : List ℕ → ℕ → Answer → List ℕ → Type 0
 Delivered table n answer room = answer .number ≡ success → Demand3 table n (take (answer .value) room)

@@ -14,7 +14,7 @@ use Rattle.model.specs.Syntax.{Condition, conjunction, disjunction, Stat
 use Rattle.model.specs.Reading.{Input, Parsed, parsed, refused, andThen, provided, byteOf, byte, number, numbers, removals, procedure}
 use Rattle.model.specs.Reading.{StatementKind, skips, nots, sequences, ifs, qcases, statementKind}
 use Rattle.model.specs.Reading.{ConditionKind, greaters, atLeasts, equals, ands, ors, negations, conditionKind}
-use Rattle.model.specs.Reading.{requiredMaps, optionalMaps, permitted, stands, Fields, optional, fields, known, opening, counted, contents}
+use Rattle.model.specs.Reading.{requiredMap, optionalMap, permitted, stands, Fields, optional, fields, known, opening, counted, contents}
 use Rattle.model.specs.Reading.{two, conditionOf, condition, statementOf, statement, statements, trees, readTable}
 use Rattle.model.specs.Reach.{calls}
 use Rattle.model.proofs.Tests.{clash, and-left, and-right, or-cases}
@@ -312,7 +312,7 @@ abbrev cost : ℕ → ℕ
 cost map = valued (stands 0 map) 25 + valued (stands 1 map) 3 + valued (stands 2 map) 3 + valued (stands 3 map) 1
 
 -- the fields of a permitted map take at most 28
-kind-cost : (kind : ℕ) → (cost (getD requiredMaps kind 0) ≤ 28) × (cost (getD requiredMaps kind 0 + getD optionalMaps kind 0) ≤ 28)
+kind-cost : (kind : ℕ) → (cost (requiredMap kind) ≤ 28) × (cost (requiredMap kind + optionalMap kind) ≤ 28)
 kind-cost zero = (lit≤ tt, lit≤ tt)
 kind-cost (suc zero) = (lit≤ tt, lit≤ tt)
 kind-cost (suc (suc zero)) = (lit≤ tt, lit≤ tt)
@@ -329,7 +329,7 @@ kind-cost (suc (suc (suc (suc (suc (suc (suc (suc (suc (suc (suc (suc kind))))))
 
 permitted-cost : (kind map : ℕ) → permitted kind map ≡ true → cost map ≤ 28
 permitted-cost kind map ok =
-    let required = getD requiredMaps kind 0 in let extra = getD optionalMaps kind 0 in
+    let required = requiredMap kind in let extra = optionalMap kind in
     or-cases (eqb map required) (eqb map (required + extra)) ok
     (λ e. subst (λ (m : ℕ). cost m ≤ 28) (sym (eqb-true map required e)) (kind-cost kind .0))
     (λ e. subst (λ (m : ℕ). cost m ≤ 28) (sym (eqb-true map (required + extra) e)) (kind-cost kind .1))

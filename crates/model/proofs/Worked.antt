@@ -1,10 +1,10 @@
--- The worked programs of document 01, proved together: one theorem over the table of examples, one over the order of refusals, two circuits
+-- The worked programs of document 01, proved together: one theorem over the table of examples, one over the order of refusals, five circuits
 -- and the listing byte for byte.
 use Prim.Native.Nat.{ℕ, _^_}
 use mathlib.Core.Path.{_≡_, refl}
 use mathlib.Core.List.{List, [], _∷_, _++_, map}
 use Rattle.model.specs.Limits.{mostCircuit, leastWorkspace}
-use Rattle.model.specs.Examples.{Example, examples, orders, Compared, compared, pairs, pairsCircuit, pairsListing, needsSwap, swapCircuit}
+use Rattle.model.specs.Examples.{Example, examples, orders, Compared, compared, pairs, pairsCircuit, pairsListing, needsSwap, swapCircuit, equalLengths, equalCircuit, twoEntries, entriesCircuit, rightPart, rightCircuit}
 use Rattle.model.specs.Reading.{andThen, provided, byteOf, signed16, numberOf, numbers, removals, procedure, statementKind, conditionKind, optional, fields, known, opening, contents, two, conditionOf, condition, statementOf, statement, statements, trees, readTable}
 use Rattle.model.specs.Reading as reading
 use Rattle.model.specs.Lists.{range, delete, remove, removeAll, holds, member}
@@ -35,6 +35,14 @@ worked = refl
 pub circuits : (compile pairs 3 mostCircuit leastWorkspace ≡ gives pairsCircuit) × (compile needsSwap 4 mostCircuit leastWorkspace ≡ gives swapCircuit)
 unfolding andThen provided byteOf signed16 numberOf reading.number numbers removals procedure statementKind conditionKind optional fields known opening contents two conditionOf condition statementOf statement statements trees readTable range delete remove removeAll holds member callFaults faults callFaultsWithin programFaults calls reachesBelow isEmpty lacksRemoval width anyBody anyLacksRemoval anyTooWide insert asking swapOf exchange startChain whole invoked invocations invokes returns left right swaps entryGates samePair allEntryGates around bodies bodiesFrom chainsWithin emission gates below inUse peak listBit listBytes encode encodeAll fourBytes write after require outcome accepted fit fitted circuit compile
 circuits = (refl, refl)
+
+-- circuits that fix orders which the meaning leaves free: of bodies with equal lengths, of entries, of right parts
+pub ordered :
+    (compile equalLengths 2 mostCircuit leastWorkspace ≡ gives equalCircuit)
+    × (compile twoEntries 5 mostCircuit leastWorkspace ≡ gives entriesCircuit)
+    × (compile rightPart 2 mostCircuit leastWorkspace ≡ gives rightCircuit)
+unfolding andThen provided byteOf signed16 numberOf reading.number numbers removals procedure statementKind conditionKind optional fields known opening contents two conditionOf condition statementOf statement statements trees readTable range delete remove removeAll holds member callFaults faults callFaultsWithin programFaults calls reachesBelow isEmpty lacksRemoval width anyBody anyLacksRemoval anyTooWide insert asking swapOf exchange startChain whole invoked invocations invokes returns left right swaps entryGates samePair allEntryGates around bodies bodiesFrom chainsWithin emission gates below inUse peak listBit listBytes encode encodeAll fourBytes write after require outcome accepted fit fitted circuit compile
+ordered = (refl, refl, refl)
 
 -- the bits that the run of a table's circuit ends with, and the block of the table's own end word
 abbrev circuitBits : Compared → ℕ → List ℕ

@@ -40,7 +40,7 @@ unfoldable pub valueOr : {A : Type 0} → A → Outcome A → A
 valueOr zeros (gives a) = a
 valueOr zeros (refuses k) = zeros
 
--- "Order: 9; header 1, 2, 3; each record ..; 8; 10 over the whole table, then 11, then 12": the program of a table that is accepted at n
+-- "Order: 9; header 1 .., 2, 3; each record ..; 8; 10 over the whole table, then 11, then 12": the program of a table that is accepted at n
 unfoldable pub accepted : List ℕ → ℕ → Outcome Program
 accepted table n =
     require (leb 1 n && leb n mostQubits) wrongQubits
@@ -84,7 +84,7 @@ circuit P n = record { dataWires = n; ancillas = peak [] (emission P n); gates =
 abbrev pub usable : ℕ → ℕ
 usable room = min room mostCircuit
 
--- compile: 21, "then 23 for the header, then 22 or 23", then the circuit's bytes, for a room and a workspace of those lengths
+-- compile: 21, "Then 23 for the header, then 22 or 23 ..", then the circuit's bytes, for a room and a workspace of those lengths
 unfoldable pub compile : List ℕ → ℕ → ℕ → ℕ → Outcome (List ℕ)
 compile table n room workspace =
     after (accepted table n) (λ P.

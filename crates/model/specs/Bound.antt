@@ -41,7 +41,7 @@ largest test v (suc k) = elim (test k) [ true ↦ max (v k) (largest test v k) |
 unfoldable pub fallsTo : Program → ℕ → ℕ → Bool
 fallsTo P f g = reaches P f g && not (reaches P g f)
 
--- the most classes on one line of falling calls from f on, f's own counted, as far as `fuel` lines. There are no more classes than procedures.
+-- the most classes on one line of falling calls from f on, f's own counted, as far as `fuel` steps down a line. There are no more classes than procedures.
 unfoldable pub classesWithin : Program → ℕ → ℕ → ℕ
 classesWithin P zero f = 1
 classesWithin P (suc fuel) f = suc (largest (fallsTo P f) (classesWithin P fuel) (suc (count P)))

@@ -10,7 +10,7 @@ use Rattle.model.specs.Lists.{member}
 use Rattle.model.specs.Meaning.{State, stateOf, wordFrom}
 use Rattle.model.specs.Gates.{Controls, Gate, flip, swap, acts}
 
--- "wires 1 to n plus ancillas"
+-- "wires are 1 to n plus ancillas"
 pub record Circuit : Type 0 where
   pub dataWires : ℕ
   pub ancillas : ℕ
@@ -45,7 +45,7 @@ encodeAll (g ∷ gs) = encode g ++ encodeAll gs
 unfoldable pub fourBytes : ℕ → List ℕ
 fourBytes k = k % 256 ∷ k / 256 % 256 ∷ k / 65536 % 256 ∷ k / 16777216 % 256 ∷ []
 
--- "Edition byte 1, n, ancilla byte, gate count in 4 bytes little-endian, then gates."
+-- "Edition byte 1, n, ancilla byte .., gate count in 4 bytes little-endian, then gates."
 unfoldable pub write : Circuit → List ℕ
 write c = circuitEdition ∷ c .dataWires ∷ c .ancillas ∷ (fourBytes (length (c .gates)) ++ encodeAll (c .gates))
 

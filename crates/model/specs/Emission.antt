@@ -161,7 +161,8 @@ module _ (P : Program) (chains : Chains) where
   bodiesFrom zero all next = record { events = []; next = next }
   bodiesFrom (suc m) all next = bodies (suc m) (bodiesFrom m) [] all all next
 
--- a chain within a chain calls procedures of lower rank: `rank` chains within one another, at most. A table that passes refusal 10 never comes to more.
+-- a chain within a chain calls procedures of lower rank: `rank` chains within one another, at most. A table that passes refusal 11 never comes to more,
+-- and more changes nothing (`ChainDepth` in crate agreement).
 unfoldable pub chainsWithin : Program → ℕ → Chains
 chainsWithin P zero = λ f l a. []
 chainsWithin P (suc rank) = λ f l a.

@@ -19,14 +19,14 @@ mostDepth = 32
 abbrev pub mostRemovals : ℕ
 mostRemovals = 8
 
--- "n is 1 to 32"; "that sum is at most 255": a circuit's wires
+-- "n is 1 to 32", of a table's run (9) and of a circuit (14); "that sum is at most 255": a circuit's wires (14, 22)
 abbrev pub mostQubits : ℕ
 mostQubits = 32
 
 abbrev pub mostWires : ℕ
 mostWires = 255
 
--- "Edition byte 1, n, ancilla byte, gate count in 4 bytes"; "at most 65,536 long"
+-- "Edition byte 1, n, ancilla byte .., gate count in 4 bytes little-endian"; "at most 65,536 long"
 abbrev pub circuitEdition : ℕ
 circuitEdition = 1
 

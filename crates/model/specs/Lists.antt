@@ -1,5 +1,5 @@
 -- "Meaning", on lists: a number's value, removals, the qubit that NOT and qcase touch, whether a condition holds.
--- A list of qubits is a list of their numbers, 1 to n. All that is decided here depends on the list's length alone.
+-- A list of qubits is a list of their numbers, 1 to n. Which position is meant, and whether a condition holds, depends on the list's length alone.
 use Prim.Native.Nat.{ℕ, zero, suc}
 use mathlib.Core.Bool.{Bool, true, false, not, _&&_, _||_}
 use mathlib.Core.List.{List, [], _∷_}

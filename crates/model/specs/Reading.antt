@@ -76,15 +76,19 @@ statementKind kind = getElem? (skips ∷ nots ∷ sequences ∷ ifs ∷ qcases �
 unfoldable pub conditionKind : ℕ → Option ConditionKind
 conditionKind kind = cond (ltb kind 6) none (getElem? (greaters ∷ atLeasts ∷ equals ∷ ands ∷ ors ∷ negations ∷ []) (kind - 6))
 
--- "The permitted map of each kind stands in one table of twelve entries. Bit 0 is optional for kinds 1, 4 and 5; every other bit is required or forbidden."
-abbrev pub requiredMaps : List ℕ
-requiredMaps = 0 ∷ 2 ∷ 0 ∷ 0 ∷ 2 ∷ 8 ∷ 6 ∷ 6 ∷ 6 ∷ 0 ∷ 0 ∷ 0 ∷ []
+-- "The permitted map of each kind stands in one table of twelve entries. Bit 0 is optional for kinds 1, 4 and 5; every other bit is required or forbidden.":
+-- each entry holds the required bits, and 16 times the optional one
+abbrev pub permittedMaps : List ℕ
+permittedMaps = 0x00 ∷ 0x12 ∷ 0x00 ∷ 0x00 ∷ 0x12 ∷ 0x18 ∷ 0x06 ∷ 0x06 ∷ 0x06 ∷ 0x00 ∷ 0x00 ∷ 0x00 ∷ []
 
-abbrev pub optionalMaps : List ℕ
-optionalMaps = 0 ∷ 1 ∷ 0 ∷ 0 ∷ 1 ∷ 1 ∷ 0 ∷ 0 ∷ 0 ∷ 0 ∷ 0 ∷ 0 ∷ []
+abbrev pub requiredMap : ℕ → ℕ
+requiredMap kind = getD permittedMaps kind 0 % 16
+
+abbrev pub optionalMap : ℕ → ℕ
+optionalMap kind = getD permittedMaps kind 0 / 16
 
 abbrev pub permitted : ℕ → ℕ → Bool
-permitted kind map = eqb map (getD requiredMaps kind 0) || eqb map (getD requiredMaps kind 0 + getD optionalMaps kind 0)
+permitted kind map = eqb map (requiredMap kind) || eqb map (requiredMap kind + optionalMap kind)
 
 -- does bit i stand in a map?
 abbrev pub stands : ℕ → ℕ → Bool

@@ -9,7 +9,7 @@ pub data Number : Type 0 where
   constant : ℤ → Number
   sizePlus : ℤ → Number
 
--- kinds 6 to 11: "a > b; a ≥ b; a = b; and; or, two conditions; not, one condition"
+-- "6 a > b; 7 a ≥ b; 8 a = b; 9 and; 10 or, two conditions; 11 not, one condition"
 pub data Condition : Type 0 where
   greater : Number → Number → Condition
   atLeast : Number → Number → Condition
@@ -18,7 +18,7 @@ pub data Condition : Type 0 where
   disjunction : Condition → Condition → Condition
   negation : Condition → Condition
 
--- kinds 0 to 5: "skip; NOT, a; sequence, two statements; if, a condition, then yes and no; qcase, a, then the zero and one statements; call, procedure".
+-- "0 skip; 1 NOT, a; 2 sequence, two statements; 3 if, a condition, then yes and no; 4 qcase, a, then the zero and one statements; 5 call, procedure".
 -- NOT, qcase and call begin with their removals; a record without bit 0 has none.
 pub data Statement : Type 0 where
   skip : Statement

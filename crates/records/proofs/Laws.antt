@@ -1,11 +1,11 @@
 -- Laws of the readers of fields, turned as the code's needs are: how a field is followed by the next, and how tests decide. Assumes nothing.
-use mathlib.Core.Path.{_≡_, refl, ap, _∙_, subst}
+use mathlib.Core.Path.{_≡_, refl, sym, ap, _∙_, subst}
 use mathlib.Core.Bool.{Bool, true, false, _&&_, _||_}
 use mathlib.Core.List.{List, [], _∷_}
 use Prim.Native.Nat.{ℕ, zero, suc, _+_, _-_, _*_, _≤_, _<_}
 use native.Mathlib.Numerals.{sub-one}
 use native.Mathlib.Omega.{arith}
-use borrow.Author.Needs.{needs, zero≤}
+use borrow.Author.Needs.{needs}
 use borrow.Author.Tests.{lt-ltb, le-ltb, le-leb, lt-leb, eq-eqb, ne-eqb, leb-true}
 use lib.ListN.{length, getD, List·getD-eq-default}
 use lib.Dec.{leb, eqb}
@@ -15,7 +15,7 @@ use mir.Val.{Fits, SFits, toZ, ofZ}
 use mir.Facts.{toZ-pos, toZ-ofZ}
 use types.Run.{OneOf, miss}
 use denote.Enum.Declared.{tagOf}
-use Rattle.model.specs.Reading.{signed16, requiredMaps, optionalMaps, permitted, stands}
+use Rattle.model.specs.Reading.{permittedMaps, signed16, requiredMap, optionalMap, permitted, stands}
 use Rattle.model.proofs.Tests.{and-left, and-right}
 use Rattle.records.proofs.Answer.{the-type}
 use Rattle.records.specs.declared.Number.{Number}
@@ -24,8 +24,8 @@ use Rattle.records.specs.declared.Record.{Record}
 use Rattle.records.specs.declared.Record.the-variants as kind
 use Rattle.records.specs.declared.Answer.{Answer}
 use Rattle.records.specs.declared.Answer.the-variants as answer
-use Rattle.records.specs.Fields.{behindPlace, behindNumber, behindProcedure, based, numberAt, numbersAt, removalsAt, maybeRemovalsAt, placeOf, recordIn}
-use Rattle.records.specs.Fields.{touching, comparing, fieldsAt, recordAt}
+use Rattle.records.specs.Fields.{byteAt, writtenAt, behindPlace, behindNumber, behindProcedure, based, numberAt, numbersAt, removalsAt, maybeRemovalsAt}
+use Rattle.records.specs.Fields.{placeOf, behindRemovals, plain, touching, comparing, calling, withNumber, withNumbers, withProcedure, fieldsAt, recordOf, recordAt}
 
 -- which variant an answer is: 0 a place, 1 a number, 2 a procedure, 3 a record, 4 a refusal
 abbrev pub Among : List ℕ → Answer → Type 0
@@ -129,28 +129,28 @@ at-most b [] k t = omega arith
 at-most b (x ∷ xs) zero t = leb-true x b (and-left (leb x b) (below b xs) t)
 at-most b (x ∷ xs) (suc k) t = at-most b xs k (and-right (leb x b) (below b xs) t)
 
--- the maps of the kinds are below 10
-pub maps-fit : (k : ℕ) → getD requiredMaps k 0 + getD optionalMaps k 0 < 10
+-- the maps of the kinds are below 17
+pub maps-fit : (k : ℕ) → requiredMap k + optionalMap k < 17
 unfolding below
-maps-fit k = let a = at-most 8 requiredMaps k refl in let b = at-most 1 optionalMaps k refl in omega arith
+maps-fit k = let a = at-most 24 permittedMaps k refl in omega arith
 
 -- a map is permitted where it is what its kind requires, or that and what is optional; no other kind has any bit
 module _ (kind map i : ℕ) (e : i ≡ kind) where
   pub map-none : 12 ≤ i → eqb map 0 ≡ permitted kind map
   map-none l =
-      rw (List·getD-eq-default requiredMaps 0 {n = kind} (omega arith), List·getD-eq-default optionalMaps 0 {n = kind} (omega arith))
+      rw (List·getD-eq-default permittedMaps 0 {n = kind} (omega arith))
       (twice (eqb map 0))
     where
       twice : (b : Bool) → b ≡ b || b
       twice true = refl
       twice false = refl
 
-  pub map-required : map ≡ getD requiredMaps i 0 → true ≡ permitted kind map
-  map-required q = rw (← e, eq-eqb map (getD requiredMaps i 0) q)
+  pub map-required : map ≡ requiredMap i → true ≡ permitted kind map
+  map-required q = rw (← e, eq-eqb map (requiredMap i) q)
 
   pub map-optional :
-      (map ≡ getD requiredMaps i 0 → ⊥) → eqb map (getD requiredMaps i 0 + getD optionalMaps i 0) ≡ permitted kind map
-  map-optional f = rw (← e, ne-eqb map (getD requiredMaps i 0) f)
+      (map ≡ requiredMap i → ⊥) → eqb map (requiredMap i + optionalMap i) ≡ permitted kind map
+  map-optional f = rw (← e, ne-eqb map (requiredMap i) f)
 
 -- so many bytes from a place on are there, or not
 pub bytes-there : (at k n : ℕ) → at < n → k ≤ n - at → leb (at + k) n ≡ true
@@ -159,21 +159,12 @@ bytes-there at k n h l = le-leb (at + k) n (omega arith)
 pub bytes-lack : (at k n : ℕ) → at < n → n - at < k → leb (at + k) n ≡ false
 bytes-lack at k n h l = lt-leb (at + k) n (omega arith)
 
--- "A number is a base byte and a signed 16-bit constant": base 0, and base 1
-module _ (bs : List ℕ) (at : ℕ) (z : ℤ) (h : at < length bs) (b : getD bs at 0 ≤ 1) (l : 3 ≤ length bs - at) where
-  pub number-constant :
-      getD bs at 0 ≡ 0 → z ≡ signed16 (getD bs (at + 1) 0) (getD bs (at + 2) 0) →
-      answer.Number (base.Constant z) (at + 3) ≡ numberAt bs at
-  unfolding numberAt based
-  number-constant e q = rw (lt-ltb at (length bs) h, le-ltb 1 (getD bs at 0) b, bytes-there at 3 (length bs) h l, e, q)
-
-  pub number-size :
-      (getD bs at 0 ≡ 0 → ⊥) → z ≡ signed16 (getD bs (at + 1) 0) (getD bs (at + 2) 0) →
-      answer.Number (base.SizePlus z) (at + 3) ≡ numberAt bs at
-  unfolding numberAt based
-  number-size e q =
-      let one : getD bs at 0 ≡ 1 = omega arith in
-      rw (lt-ltb at (length bs) h, le-ltb 1 (getD bs at 0) b, bytes-there at 3 (length bs) h l, one, q)
+-- a number that is there, with a base of 0 or 1
+pub number-there :
+    (bs : List ℕ) (at : ℕ) (a : Number) → at < length bs → getD bs at 0 ≤ 1 → 3 ≤ length bs - at → a ≡ writtenAt bs at →
+    answer.Number a (at + 3) ≡ numberAt bs at
+unfolding numberAt
+number-there bs at a h b l q = rw (lt-ltb at (length bs) h, le-ltb 1 (getD bs at 0) b, bytes-there at 3 (length bs) h l, q)
 
 -- removals where the map has bit 0
 pub removals-stand : (removes : Bool) (bs : List ℕ) (at : ℕ) (r : Answer) → removes ≡ true → r ≡ removalsAt bs at → r ≡ maybeRemovalsAt removes bs at
@@ -198,74 +189,103 @@ pub made-call :
     answer.Record (kind.Call place g) n ≡ answer.Record (kind.Call (placeOf removes at) g) n
 made-call place at g n removes p = cc
 
--- the fields go by the kind
-pub by-kind :
-    (p k j : ℕ) (removes : Bool) (bs : List ℕ) (at : ℕ) (r : Answer) → k ≡ j → r ≡ fieldsAt p j removes bs at →
-    r ≡ fieldsAt p k removes bs at
-by-kind p k j removes bs at r e q = rw e q
+-- the place behind removals, where the map has bit 0
+pub behind-stand :
+    (removes : Bool) (bs : List ℕ) (at b n : ℕ) → removes ≡ true → b ≡ byteAt bs at → n ≡ b → at + 1 + 3 * n ≡ behindRemovals removes bs at
+unfolding behindRemovals
+behind-stand removes bs at b n e q h = rw (e, h, q)
 
-pub kind-last :
-    (p k : ℕ) (removes : Bool) (bs : List ℕ) (at : ℕ) →
-    (k ≡ 0 → ⊥) → (k ≡ 1 → ⊥) → (k ≡ 2 → ⊥) → (k ≡ 3 → ⊥) → (k ≡ 4 → ⊥) → (k ≡ 5 → ⊥) → (k ≡ 6 → ⊥) → (k ≡ 7 → ⊥) →
-    (k ≡ 8 → ⊥) → (k ≡ 9 → ⊥) → (k ≡ 10 → ⊥) → answer.Record kind.Negation at ≡ fieldsAt p k removes bs at
-unfolding fieldsAt
-kind-last p k removes bs at f0 f1 f2 f3 f4 f5 f6 f7 f8 f9 f10 =
-    rw (
-      ne-eqb k 0 f0,
-      ne-eqb k 1 f1,
-      ne-eqb k 2 f2,
-      ne-eqb k 3 f3,
-      ne-eqb k 4 f4,
-      ne-eqb k 5 f5,
-      ne-eqb k 6 f6,
-      ne-eqb k 7 f7,
-      ne-eqb k 8 f8,
-      ne-eqb k 9 f9,
-      ne-eqb k 10 f10,
-    )
+pub behind-lack : (removes : Bool) (bs : List ℕ) (at : ℕ) → removes ≡ false → at ≡ behindRemovals removes bs at
+unfolding behindRemovals
+behind-lack removes bs at e = rw e
 
--- what is none of the kinds 0 to 10 is past them
-past : (n j : ℕ) → n ≤ j → (j ≡ n → ⊥) → n + 1 ≤ j
-past n j l f = omega arith
+-- a kind without fields
+pub plain-is : (k j : ℕ) (r : Record) → k ≡ j → r ≡ plain j → r ≡ plain k
+plain-is k j r e q = rw e q
 
-pub past-ten :
-    (j : ℕ) → (j ≡ 0 → ⊥) → (j ≡ 1 → ⊥) → (j ≡ 2 → ⊥) → (j ≡ 3 → ⊥) → (j ≡ 4 → ⊥) → (j ≡ 5 → ⊥) → (j ≡ 6 → ⊥) → (j ≡ 7 → ⊥) →
-    (j ≡ 8 → ⊥) → (j ≡ 9 → ⊥) → (j ≡ 10 → ⊥) → 11 ≤ j
-past-ten j f0 f1 f2 f3 f4 f5 f6 f7 f8 f9 f10 =
-    let five = past 4 j (past 3 j (past 2 j (past 1 j (past 0 j zero≤ f0) f1) f2) f3) f4 in
-    past 10 j (past 9 j (past 8 j (past 7 j (past 6 j (past 5 j five f5) f6) f7) f8) f9) f10
+pub plain-last : (k : ℕ) → (k ≡ 2 → ⊥) → (k ≡ 3 → ⊥) → (k ≡ 9 → ⊥) → (k ≡ 10 → ⊥) → (k ≡ 11 → ⊥) → kind.Skip ≡ plain k
+unfolding plain
+plain-last k f2 f3 f9 f10 f11 = rw (ne-eqb k 2 f2, ne-eqb k 3 f3, ne-eqb k 9 f9, ne-eqb k 10 f10, ne-eqb k 11 f11)
 
--- the record at a place: skip where its map and kind are not there or its fields were refused
-record-skipped : (x : Answer) → Among (0 ∷ 1 ∷ 2 ∷ 4 ∷ []) x → kind.Skip ≡ recordIn x
-unfolding recordIn
-record-skipped (answer.Place n) t = refl
-record-skipped (answer.Number a n) t = refl
-record-skipped (answer.Procedure g n) t = refl
-record-skipped (answer.Record r n) t = absurd (miss (0 ∷ 1 ∷ 2 ∷ 4 ∷ []) 3 tt t)
-record-skipped (answer.Refused k) t = refl
+-- the bits that the map of a kind must have; a kind past 11 has none
+pub required-known : (k i : ℕ) → i ≡ k → requiredMap i ≡ requiredMap k
+required-known k i e = rw e
 
-module _ (p : ℕ) (bs : List ℕ) (at : ℕ) where
-  no-kind : length bs ≤ at + 1 → kind.Skip ≡ recordAt p bs at
-  unfolding recordAt recordIn fieldsAt
-  no-kind h = rw (List·getD-eq-default bs 0 h)
+pub required-none : (k i : ℕ) → i ≡ k → 12 ≤ i → 0 ≡ requiredMap k
+required-none k i e l = rw (List·getD-eq-default permittedMaps 0 {n = k} (omega arith))
 
-  pub record-none : length bs ≤ at → kind.Skip ≡ recordAt p bs at
-  record-none h = no-kind (omega arith)
+-- the fields go by these bits
+module _ (p k m : ℕ) (removes : Bool) (bs : List ℕ) (at : ℕ) (e : m ≡ requiredMap k) where
+  pub fields-number : (r : Answer) → m ≡ 2 → r ≡ withNumber (touching k) removes bs at → r ≡ fieldsAt p k removes bs at
+  unfolding fieldsAt
+  fields-number r q h = rw (← e, q) h
 
-  pub record-short : at < length bs → length bs - at < 2 → kind.Skip ≡ recordAt p bs at
-  record-short h l = no-kind (omega arith)
+  pub fields-numbers : (r : Answer) → m ≡ 6 → r ≡ withNumbers (comparing k) bs at → r ≡ fieldsAt p k removes bs at
+  unfolding fieldsAt
+  fields-numbers r q h = rw (← e, q) h
 
-  module _ (removes : Bool) (x : Answer) (e : removes ≡ stands 0 (getD bs at 0))
-      (q : x ≡ fieldsAt p (getD bs (at + 1) 0) removes bs (at + 2)) where
-    pub record-refused : Among (0 ∷ 1 ∷ 2 ∷ 4 ∷ []) x → kind.Skip ≡ recordAt p bs at
-    unfolding recordAt
-    record-refused t = rw (← e, ← q) (record-skipped x t)
+  pub fields-procedure : (r : Answer) → m ≡ 8 → r ≡ withProcedure p removes bs at → r ≡ fieldsAt p k removes bs at
+  unfolding fieldsAt
+  fields-procedure r q h = rw (← e, q) h
 
-    pub record-found : (r : Record) (n : ℕ) → x ≡ answer.Record r n → r ≡ recordAt p bs at
-    unfolding recordAt recordIn
-    record-found r n t = rw (← e, ← q, t)
+  pub fields-none :
+      (r : Record) → (m ≡ 2 → ⊥) → (m ≡ 6 → ⊥) → (m ≡ 8 → ⊥) → r ≡ plain k → answer.Record r at ≡ fieldsAt p k removes bs at
+  unfolding fieldsAt
+  fields-none r f2 f6 f8 h = rw (← e, ne-eqb m 2 f2, ne-eqb m 6 f6, ne-eqb m 8 f8, h)
 
-pub ruleset tests = (needs, lt-ltb, le-ltb, le-leb, lt-leb, eq-eqb, ne-eqb, bytes-there, bytes-lack, number-constant, number-size)
+-- what stands past the end is 0, and a number there the constant 0
+pub past-end : (l : List ℕ) (i : ℕ) → length l ≤ i → 0 ≡ getD l i 0
+past-end l i h = sym (List·getD-eq-default l 0 h)
+
+pub written-past : (bs : List ℕ) (at : ℕ) → length bs ≤ at → base.Constant (pos 0) ≡ writtenAt bs at
+unfolding based signed16
+written-past bs at h = rw (← past-end bs at h, ← past-end bs (at + 1) (omega arith), ← past-end bs (at + 2) (omega arith))
+
+based-size : (b : ℕ) (z : ℤ) → (b ≡ 0 → ⊥) → base.SizePlus z ≡ based b z
+unfolding based
+based-size zero z h = absurd (h refl)
+based-size (suc b) z h = refl
+
+-- before the end the base byte decides which number is written
+module _ (bs : List ℕ) (at low high : ℕ) (z : ℤ) (f : SFits w32 z)
+    (l : low ≡ byteAt bs (at + 1)) (h : high ≡ byteAt bs (at + 2)) (e : z ≡ signed16 low high) where
+  pub written-constant : byteAt bs at ≡ 0 → base.Constant (toZ w32 (ofZ w32 z)) ≡ writtenAt bs at
+  unfolding based
+  written-constant b = rw (b, ← l, ← h, ← e) (ap base.Constant (toZ-ofZ f))
+
+  pub written-size : (byteAt bs at ≡ 0 → ⊥) → base.SizePlus (toZ w32 (ofZ w32 z)) ≡ writtenAt bs at
+  written-size b = rw (← l, ← h, ← e) (ap base.SizePlus (toZ-ofZ f) ∙ based-size (byteAt bs at) z b)
+
+-- a record past the end is skip
+pub record-none : (p : ℕ) (bs : List ℕ) (at : ℕ) → length bs ≤ at → kind.Skip ≡ recordAt p bs at
+unfolding recordAt recordOf plain
+record-none p bs at h = rw (← past-end bs (at + 1) (omega arith))
+
+-- any other goes by the bits that the map of its kind must have
+module _ (p : ℕ) (bs : List ℕ) (at k m : ℕ) (removes : Bool)
+    (s : removes ≡ stands 0 (getD bs at 0)) (b : k ≡ byteAt bs (at + 1)) (e : m ≡ requiredMap k) where
+  pub record-number :
+      (next q : ℕ) (a : Number) (r : Record) → next ≡ behindRemovals removes bs (at + 2) → m ≡ 2 → q ≡ placeOf removes (at + 2) →
+      a ≡ writtenAt bs next → r ≡ touching k q a → r ≡ recordAt p bs at
+  unfolding recordAt recordOf
+  record-number next q a r n t place number made = rw (← b, ← s, ← e, t, made, number, place, n)
+
+  pub record-numbers :
+      (a c : Number) (r : Record) → m ≡ 6 → a ≡ writtenAt bs (at + 2) → c ≡ writtenAt bs (at + 2 + 3) → r ≡ comparing k a c → r ≡ recordAt p bs at
+  unfolding recordAt recordOf
+  record-numbers a c r t first second made = rw (← b, ← s, ← e, t, made, first, second)
+
+  pub record-procedure :
+      (next q f : ℕ) (r : Record) → next ≡ behindRemovals removes bs (at + 2) → m ≡ 8 → q ≡ placeOf removes (at + 2) →
+      f ≡ byteAt bs next → r ≡ calling p q f → r ≡ recordAt p bs at
+  unfolding recordAt recordOf
+  record-procedure next q f r n t place called made = rw (← b, ← s, ← e, t, made, called, place, n)
+
+  pub record-plain : (r : Record) → (m ≡ 2 → ⊥) → (m ≡ 6 → ⊥) → (m ≡ 8 → ⊥) → r ≡ plain k → r ≡ recordAt p bs at
+  unfolding recordAt recordOf
+  record-plain r f2 f6 f8 made = rw (← b, ← s, ← e, ne-eqb m 2 f2, ne-eqb m 6 f6, ne-eqb m 8 f8, made)
+
+pub ruleset tests = (needs, lt-ltb, le-ltb, le-leb, lt-leb, eq-eqb, ne-eqb, bytes-there, bytes-lack, number-there)
 
 pub ruleset signs = (needs, signed-low, less-fits, signed-high)
 
@@ -288,6 +308,21 @@ pub ruleset reading = (
   made-call,
 )
 
-pub ruleset kinds = (needs, by-kind, kind-last)
+pub ruleset written = (needs, past-end, written-past, written-constant, written-size, behind-stand, behind-lack)
 
-pub ruleset records = (needs, record-none, record-short, record-refused, record-found)
+pub ruleset kinds = (
+  needs,
+  plain-is,
+  plain-last,
+  required-known,
+  required-none,
+  fields-number,
+  fields-numbers,
+  fields-procedure,
+  fields-none,
+  record-none,
+  record-number,
+  record-numbers,
+  record-procedure,
+  record-plain,
+)

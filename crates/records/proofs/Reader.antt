@@ -1,12 +1,12 @@
--- Reading at a place of the table is the model's reading of the bytes from that place on. Assumes nothing.
-use Prim.Native.Nat.{ℕ, zero, suc, _+_, _≤_, _<_}
+-- Reading at a place of the table is the model's reading of the bytes from that place on, and gives the record that is written there. Assumes nothing.
+use Prim.Native.Nat.{ℕ, zero, suc, _+_, _*_, _≤_, _<_}
 use native.Mathlib.Numerals.{add-one}
 use native.Mathlib.Omega.{arith}
-use mathlib.Core.Path.{_≡_, refl, subst}
+use mathlib.Core.Path.{_≡_, refl}
 use mathlib.Core.Bool.{Bool, true, false, _||_}
 use mathlib.Core.List.{List, [], _∷_}
 use borrow.Author.Tests.{lt-ltb, le-ltb, le-leb, lt-leb, ne-eqb, eqb-true}
-use lib.ListN.{length, getD, drop, drop-of-length-le, List·getD-eq-default}
+use lib.ListN.{length, drop, drop-of-length-le}
 use lib.Seq.{drop-cons}
 use lib.Dec.{eqb}
 use lib.IntN.{ℤ}
@@ -14,17 +14,16 @@ use Rattle.model.specs.Syntax as syntax
 use Rattle.model.specs.Limits.{tableStops, wrongField, mostRemovals}
 use Rattle.model.specs.Reading as model
 use Rattle.model.specs.Reading.{Input, Parsed, parsed, refused, andThen, provided, byteOf, byte, number, numbers, removals, procedure}
-use Rattle.model.specs.Reading.{requiredMaps, optionalMaps, permitted, stands, Fields, optional, fields}
+use Rattle.model.specs.Reading.{permitted, stands, Fields, optional, fields}
 use Rattle.model.proofs.Tests.{byEq, byLt, or-cases}
-use Rattle.records.proofs.Laws.{past-ten, kind-last}
 use Rattle.records.specs.declared.Number.{Number}
 use Rattle.records.specs.declared.Record.{Record}
 use Rattle.records.specs.declared.Record.the-variants as kind
 use Rattle.records.specs.declared.Answer.{Answer}
 use Rattle.records.specs.declared.Answer.the-variants as answer
-use Rattle.records.specs.Fields.{byteAt, behindPlace, behindNumber, behindProcedure, based, writtenAt, numberAt, numbersAt}
-use Rattle.records.specs.Fields.{removalsAt, procedureAt, maybeRemovalsAt, placeOf, withNumber, withNumbers, withProcedure, fieldsAt}
-use Rattle.records.specs.Fields.{recordIn, recordAt, numberOf, numbersFrom, removalsOf, noFields, touchedFields, comparedFields, calledFields, fieldsOf}
+use Rattle.records.specs.Fields.{byteAt, behindPlace, behindNumber, behindProcedure, based, writtenAt, numberAt, numbersAt, removalsAt, procedureAt}
+use Rattle.records.specs.Fields.{maybeRemovalsAt, placeOf, behindRemovals, plain, touching, comparing, calling, withNumber, withNumbers, withProcedure}
+use Rattle.records.specs.Fields.{fieldsAt, recordOf, recordAt, numberOf, numbersFrom, removalsOf, noFields, touchedFields, comparedFields, calledFields, fieldsOf}
 
 -- the bytes from a place on, and how many records came before them
 abbrev pub inputAt : List ℕ → ℕ → ℕ → Input
@@ -39,72 +38,100 @@ pub byte-lacks : (bs : List ℕ) (at k : ℕ) → length bs ≤ at → byte (inp
 unfolding byteOf
 byte-lacks bs at k h = rw (drop-of-length-le bs h)
 
+byte-next :
+    (bs : List ℕ) (at next k : ℕ) → at < length bs → next ≡ at + 1 → byte (inputAt bs at k) ≡ parsed (byteAt bs at) (inputAt bs next k)
+byte-next bs at next k h e = rw e (byte-there bs at k h)
+
 -- a base and a constant are the model's number
 based-number : (b : ℕ) (z : ℤ) → model.numberOf b z ≡ numberOf (based b z)
 unfolding based numberOf model.numberOf
 based-number zero z = refl
 based-number (suc b) z = refl
 
-byte-next :
-    (bs : List ℕ) (at next k : ℕ) → at < length bs → next ≡ at + 1 → byte (inputAt bs at k) ≡ parsed (byteAt bs at) (inputAt bs next k)
-byte-next bs at next k h e = rw e (byte-there bs at k h)
+-- the model reads this, the reader at a place answers that, and Q holds of it; or both refuse with the same number
+data Agree {A : Type 0} (Q : Type 0) (P : Parsed A) (x : Answer) : Parsed A → Answer → Type 0 where
+  reads : Q → Agree Q P x P x
+  refuses : (m : ℕ) → Agree Q P x (refused m) (answer.Refused m)
 
--- a number is refused by both, or read by both to the number that stands there, up to the place three bytes on
-number-cases :
-    (bs : List ℕ) (at k : ℕ) (C : Parsed syntax.Number → Answer → Type 0) → ((m : ℕ) → C (refused m) (answer.Refused m)) →
-    C (parsed (numberOf (writtenAt bs at)) (inputAt bs (at + 3) k)) (answer.Number (writtenAt bs at) (at + 3)) →
-    C (number (inputAt bs at k)) (numberAt bs at)
+-- what is known of it may be turned
+knowing : {A Q R : Type 0} {P S : Parsed A} {x y : Answer} → (Q → R) → Agree Q P x S y → Agree R P x S y
+knowing f (reads q) = reads (f q)
+knowing f (refuses m) = refuses m
+
+-- what the model reads may be changed
+changed :
+    {A B Q : Type 0} {y : Answer} (a : A) (i : Input) (h : A → B) (S : Parsed A) (x : Answer) → Agree Q (parsed a i) x S y →
+    Agree Q (parsed (h a) i) x (andThen S (λ b j. parsed (h b) j)) y
+unfolding andThen
+changed a i h _ x (reads q) = reads q
+changed a i h _ x (refuses m) = refuses m
+
+-- behind a field both go on
+module _ {A B Q R : Type 0} {P : Parsed B} {y : Answer} (a : A) (i : Input) (f : A → Input → Parsed B) where
+  place-then :
+      (n : ℕ) (g : ℕ → Answer) {S : Parsed A} {x : Answer} → Agree Q (parsed a i) (answer.Place n) S x → (Q → Agree R P y (f a i) (g n)) →
+      Agree R P y (andThen S f) (behindPlace x g)
+  unfolding andThen behindPlace
+  place-then n g (reads q) go = go q
+  place-then n g (refuses m) go = refuses m
+
+  number-then :
+      (b : Number) (n : ℕ) (g : Number → ℕ → Answer) {S : Parsed A} {x : Answer} → Agree Q (parsed a i) (answer.Number b n) S x →
+      (Q → Agree R P y (f a i) (g b n)) → Agree R P y (andThen S f) (behindNumber x g)
+  unfolding andThen behindNumber
+  number-then b n g (reads q) go = go q
+  number-then b n g (refuses m) go = refuses m
+
+  procedure-then :
+      (p n : ℕ) (g : ℕ → ℕ → Answer) {S : Parsed A} {x : Answer} → Agree Q (parsed a i) (answer.Procedure p n) S x →
+      (Q → Agree R P y (f a i) (g p n)) → Agree R P y (andThen S f) (behindProcedure x g)
+  unfolding andThen behindProcedure
+  procedure-then p n g (reads q) go = go q
+  procedure-then p n g (refuses m) go = refuses m
+
+-- a number is three bytes
+number-agrees :
+    (bs : List ℕ) (at k : ℕ) →
+    Agree (at + 3 ≤ length bs) (parsed (numberOf (writtenAt bs at)) (inputAt bs (at + 3) k)) (answer.Number (writtenAt bs at) (at + 3))
+    (number (inputAt bs at k)) (numberAt bs at)
 unfolding number numberAt andThen provided
-number-cases bs at k C refuse give =
+number-agrees bs at k =
     byLt at (length bs)
     (λ h. byLt 1 (byteAt bs at)
-    (λ b. rw (byte-there bs at k h, lt-ltb at (length bs) h, lt-ltb 1 (byteAt bs at) b, lt-leb (byteAt bs at) 1 b) (refuse wrongField))
+    (λ b. rw (byte-there bs at k h, lt-ltb at (length bs) h, lt-ltb 1 (byteAt bs at) b, lt-leb (byteAt bs at) 1 b) (refuses wrongField))
     (λ b. rw (byte-there bs at k h, lt-ltb at (length bs) h, le-ltb 1 (byteAt bs at) b, le-leb (byteAt bs at) 1 b)
     (byLt (at + 1) (length bs)
     (λ l. rw (byte-next bs (at + 1) (at + 2) k l (omega arith))
     (byLt (at + 2) (length bs)
-    (λ e. rw (byte-next bs (at + 2) (at + 3) k e (omega arith), le-leb (at + 3) (length bs) (omega arith), based-number) give)
-    (λ e. rw (byte-lacks bs (at + 2) k e, lt-leb (at + 3) (length bs) (omega arith)) (refuse tableStops))))
-    (λ l. rw (byte-lacks bs (at + 1) k l, lt-leb (at + 3) (length bs) (omega arith)) (refuse tableStops)))))
-    (λ h. rw (byte-lacks bs at k h, le-ltb at (length bs) h) (refuse tableStops))
+    (λ e. rw (byte-next bs (at + 2) (at + 3) k e (omega arith), le-leb (at + 3) (length bs) (omega arith), based-number) (reads (omega arith)))
+    (λ e. rw (byte-lacks bs (at + 2) k e, lt-leb (at + 3) (length bs) (omega arith)) (refuses tableStops))))
+    (λ l. rw (byte-lacks bs (at + 1) k l, lt-leb (at + 3) (length bs) (omega arith)) (refuses tableStops)))))
+    (λ h. rw (byte-lacks bs at k h, le-ltb at (length bs) h) (refuses tableStops))
 
--- both read a value up to the same place, the reader at a place by an answer that holds b, or both refuse with the same number
-data Agree {A B : Type 0} (bs : List ℕ) (k : ℕ) (value : B → A) (found : B → ℕ → Answer) : Parsed A → Answer → Type 0 where
-  reads : (b : B) (next : ℕ) → Agree bs k value found (parsed (value b) (inputAt bs next k)) (found b next)
-  refuses : (m : ℕ) → Agree bs k value found (refused m) (answer.Refused m)
+-- so many numbers are three times as many
+numbers-agree :
+    (n : ℕ) (bs : List ℕ) (at k : ℕ) → at ≤ length bs →
+    Agree (at + 3 * n ≤ length bs) (parsed (numbersFrom n bs at) (inputAt bs (at + 3 * n) k)) (answer.Place (at + 3 * n))
+    (numbers n (inputAt bs at k)) (numbersAt n bs at)
+unfolding numbers numbersAt numbersFrom
+numbers-agree zero bs at k h = let e : at + 3 * 0 ≡ at = omega arith in rw e (reads h)
+numbers-agree (suc n) bs at k h =
+    let e : at + 3 * suc n ≡ at + 3 + 3 * n = omega arith in
+    rw e
+    (number-then _ _ _ _ _ _ (number-agrees bs at k) λ q.
+    changed _ _ (λ ys. numberOf (writtenAt bs at) ∷ ys) _ _ (numbers-agree n bs (at + 3) k q))
 
-abbrev NumberAgree : List ℕ → ℕ → Parsed syntax.Number → Answer → Type 0
-NumberAgree bs k = Agree bs k numberOf answer.Number
+-- n lies within w bytes from `at` on, and within the table
+pub record Within (bs : List ℕ) (at w n : ℕ) : Type 0 where
+  pub low : at ≤ n
+  pub high : n ≤ at + w
+  pub inside : n ≤ length bs
 
--- readers that answer by a place alone: what they read is known from where they began
-abbrev PlaceAgree : {A : Type 0} → List ℕ → ℕ → A → Parsed A → Answer → Type 0
-PlaceAgree bs k a = Agree {B = Unit} bs k (λ u. a) (λ u next. answer.Place next)
-
-abbrev RecordAgree : List ℕ → ℕ → Parsed Fields → Answer → Type 0
-RecordAgree bs k = Agree bs k (fieldsOf bs) answer.Record
-
-number-agrees : (bs : List ℕ) (at k : ℕ) → NumberAgree bs k (number (inputAt bs at k)) (numberAt bs at)
-number-agrees bs at k = number-cases bs at k (NumberAgree bs k) (λ m. refuses m) (reads (writtenAt bs at) (at + 3))
-
--- what was read may be changed on both sides
-changed :
-    {A C : Type 0} (bs : List ℕ) (k : ℕ) (a : A) (h : A → C) (P : Parsed A) (x : Answer) → PlaceAgree bs k a P x →
-    PlaceAgree bs k (h a) (andThen P (λ b j. parsed (h b) j)) x
-unfolding andThen
-changed bs k a h _ _ (reads u next) = reads u next
-changed bs k a h _ _ (refuses m) = refuses m
-
-numbers-agree : (n : ℕ) (bs : List ℕ) (at k : ℕ) → PlaceAgree bs k (numbersFrom n bs at) (numbers n (inputAt bs at k)) (numbersAt n bs at)
-unfolding numbers numbersAt numbersFrom andThen behindNumber
-numbers-agree zero bs at k = reads tt at
-numbers-agree (suc n) bs at k =
-    number-cases bs at k
-    (λ P x. PlaceAgree bs k (numbersFrom (suc n) bs at)
-    (andThen P (λ y j. andThen (numbers n j) (λ ys l. parsed (y ∷ ys) l))) (behindNumber x (λ a next. numbersAt n bs next)))
-    (λ m. refuses m)
-    (changed bs k (numbersFrom n bs (at + 3)) (λ ys. numberOf (writtenAt bs at) ∷ ys) _ _ (numbers-agree n bs (at + 3) k))
-
-removals-agree : (bs : List ℕ) (at k : ℕ) → 0 < at → PlaceAgree bs k (removalsOf bs at) (removals (inputAt bs at k)) (removalsAt bs at)
+-- removals are a count of at most 8, and numbers
+removals-agree :
+    (bs : List ℕ) (at k : ℕ) → 0 < at →
+    Agree (Within bs at 25 (at + 1 + 3 * byteAt bs at)) (parsed (removalsOf bs at) (inputAt bs (at + 1 + 3 * byteAt bs at) k))
+    (answer.Place (at + 1 + 3 * byteAt bs at)) (removals (inputAt bs at k)) (removalsAt bs at)
 unfolding removals removalsAt removalsOf andThen provided
 removals-agree bs zero k z = absurd (omega arith)
 removals-agree bs (suc at) k z =
@@ -116,18 +143,25 @@ removals-agree bs (suc at) k z =
     (byLt mostRemovals (byteAt bs (suc at))
     (λ m. rw (lt-ltb mostRemovals (byteAt bs (suc at)) m, lt-leb (byteAt bs (suc at)) mostRemovals m) (refuses wrongField))
     (λ m. rw (le-ltb mostRemovals (byteAt bs (suc at)) m, le-leb (byteAt bs (suc at)) mostRemovals m, add-one)
-    (numbers-agree (byteAt bs (suc at)) bs (suc (suc at)) k))))))
+    (knowing (λ q. record { low = omega arith; high = omega arith; inside = q })
+    (numbers-agree (byteAt bs (suc at)) bs (suc (suc at)) k h)))))))
     (λ h. rw (byte-lacks bs (suc at) k h, le-ltb (suc at) (length bs) h) (refuses tableStops))
 
-optional-agree :
-    (removes : Bool) (bs : List ℕ) (at k : ℕ) → 0 < at →
-    PlaceAgree bs k (removalsOf bs (placeOf removes at)) (optional removes removals [] (inputAt bs at k)) (maybeRemovalsAt removes bs at)
-unfolding optional maybeRemovalsAt placeOf removalsOf
-optional-agree true bs at k z = removals-agree bs at k z
-optional-agree false bs at k z = reads tt at
+-- removals, if any
+behind-agrees :
+    (removes : Bool) (bs : List ℕ) (at k : ℕ) → 0 < at → at ≤ length bs →
+    Agree (Within bs at 25 (behindRemovals removes bs at))
+    (parsed (removalsOf bs (placeOf removes at)) (inputAt bs (behindRemovals removes bs at) k)) (answer.Place (behindRemovals removes bs at))
+    (optional removes removals [] (inputAt bs at k)) (maybeRemovalsAt removes bs at)
+unfolding optional maybeRemovalsAt placeOf removalsOf behindRemovals
+behind-agrees true bs at k z h = removals-agree bs at k z
+behind-agrees false bs at k z h = reads (record { low = omega arith; high = omega arith; inside = h })
 
+-- a procedure is a byte
 procedure-agrees :
-    (p : ℕ) (bs : List ℕ) (at k : ℕ) → Agree bs k (λ f. f) answer.Procedure (procedure p (inputAt bs at k)) (procedureAt p bs at)
+    (p : ℕ) (bs : List ℕ) (at k : ℕ) →
+    Agree ((0 < byteAt bs at) × (byteAt bs at ≤ p) × (at + 1 ≤ length bs)) (parsed (byteAt bs at) (inputAt bs (at + 1) k))
+    (answer.Procedure (byteAt bs at) (at + 1)) (procedure p (inputAt bs at k)) (procedureAt p bs at)
 unfolding procedure procedureAt andThen provided
 procedure-agrees p bs at k =
     byLt at (length bs)
@@ -137,133 +171,139 @@ procedure-agrees p bs at k =
     (λ f. rw (ne-eqb (byteAt bs at) 0 f, le-leb 1 (byteAt bs at) (omega arith))
     (byLt p (byteAt bs at)
     (λ m. rw (lt-ltb p (byteAt bs at) m, lt-leb (byteAt bs at) p m) (refuses wrongField))
-    (λ m. rw (le-ltb p (byteAt bs at) m, le-leb (byteAt bs at) p m) (reads (byteAt bs at) (at + 1)))))))
+    (λ m. rw (le-ltb p (byteAt bs at) m, le-leb (byteAt bs at) p m) (reads (omega arith, m, omega arith)))))))
     (λ h. rw (byte-lacks bs at k h, le-ltb at (length bs) h) (refuses tableStops))
 
--- behind a field both go on
-place-then :
-    {A : Type 0} (bs : List ℕ) (k : ℕ) (a : A) (P : Parsed A) (x : Answer) (f : A → Input → Parsed Fields) (g : ℕ → Answer) →
-    PlaceAgree bs k a P x → ((next : ℕ) → RecordAgree bs k (f a (inputAt bs next k)) (g next)) →
-    RecordAgree bs k (andThen P f) (behindPlace x g)
-unfolding andThen behindPlace
-place-then bs k a _ _ f g (reads u next) go = go next
-place-then bs k a _ _ f g (refuses m) go = refuses m
+-- the kind of a record
+unfoldable pub kindOf : Record → ℕ
+kindOf kind.Skip = 0
+kindOf (kind.Not at a) = 1
+kindOf kind.Sequence = 2
+kindOf kind.If = 3
+kindOf (kind.Qcase at a) = 4
+kindOf (kind.Call at f) = 5
+kindOf (kind.Greater a b) = 6
+kindOf (kind.AtLeast a b) = 7
+kindOf (kind.Equal a b) = 8
+kindOf kind.And = 9
+kindOf kind.Or = 10
+kindOf kind.Negation = 11
 
-number-then :
-    (bs : List ℕ) (k : ℕ) (P : Parsed syntax.Number) (x : Answer) (f : syntax.Number → Input → Parsed Fields) (g : Number → ℕ → Answer) →
-    NumberAgree bs k P x → ((a : Number) (next : ℕ) → RecordAgree bs k (f (numberOf a) (inputAt bs next k)) (g a next)) →
-    RecordAgree bs k (andThen P f) (behindNumber x g)
-unfolding andThen behindNumber
-number-then bs k _ _ f g (reads a next) go = go a next
-number-then bs k _ _ f g (refuses m) go = refuses m
+-- both give the fields of a record of this kind and the place behind them, within 28 bytes; or both refuse
+data RecordAgree (bs : List ℕ) (at k j : ℕ) (r : Record) : Parsed Fields → Answer → Type 0 where
+  reads : (next : ℕ) → kindOf r ≡ j → Within bs at 28 next → RecordAgree bs at k j r (parsed (fieldsOf bs r) (inputAt bs next k)) (answer.Record r next)
+  refuses : (m : ℕ) → RecordAgree bs at k j r (refused m) (answer.Refused m)
 
-procedure-then :
-    (bs : List ℕ) (k : ℕ) (P : Parsed ℕ) (x : Answer) (f : ℕ → Input → Parsed Fields) (g : ℕ → ℕ → Answer) →
-    Agree bs k (λ f. f) answer.Procedure P x → ((h next : ℕ) → RecordAgree bs k (f h (inputAt bs next k)) (g h next)) →
-    RecordAgree bs k (andThen P f) (behindProcedure x g)
-unfolding andThen behindProcedure
-procedure-then bs k _ _ f g (reads h next) go = go h next
-procedure-then bs k _ _ f g (refuses m) go = refuses m
+-- a call of one of p procedures
+calling-is : (p at f : ℕ) → 0 < f → f ≤ p → calling p at f ≡ kind.Call at f
+unfolding calling
+calling-is p at f z l = rw (ne-eqb f 0 (omega arith), le-ltb p f l)
 
 -- the map of a kind that has one map only
 only : (map m : ℕ) → eqb map m || eqb map m ≡ true → map ≡ m
 only map m t = or-cases (eqb map m) (eqb map m) t (eqb-true map m) (eqb-true map m)
 
-last-map : (j map : ℕ) → 11 ≤ j → permitted j map ≡ true → map ≡ 0
-last-map j map l t =
-    byEq j 11 (λ e. only map 0 (subst (λ (n : ℕ). permitted n map ≡ true) e t)) λ f.
-    only map 0
-    (rw (List·getD-eq-default requiredMaps 0 {n = j} (omega arith), List·getD-eq-default optionalMaps 0 {n = j} (omega arith)) at t)
-
 -- a kind's fields, by what its map has
-module _ (p : ℕ) (bs : List ℕ) (at k : ℕ) where
+module _ (p : ℕ) (bs : List ℕ) (at k : ℕ) (h : at ≤ length bs) where
+  settled :
+      {S : Parsed Fields} {x : Answer} (j next : ℕ) (r s : Record) → kindOf s ≡ j →
+      Agree ((r ≡ s) × Within bs at 28 next) (parsed (fieldsOf bs s) (inputAt bs next k)) (answer.Record s next) S x → RecordAgree bs at k j r S x
+  settled j next r s e (reads q) = rw (q .0) (reads next e (q .1))
+  settled j next r s e (refuses m) = refuses m
+
   -- no field
-  empty-agrees : (r : Record) → fieldsOf bs r ≡ noFields → RecordAgree bs k (fields p 0 (inputAt bs at k)) (answer.Record r at)
+  empty-agrees :
+      (j : ℕ) (r : Record) → kindOf r ≡ j → fieldsOf bs r ≡ noFields → (map : ℕ) → eqb map 0 || eqb map 0 ≡ true →
+      RecordAgree bs at k j r (fields p map (inputAt bs at k)) (answer.Record r at)
   unfolding fields optional andThen
-  empty-agrees r e = rw (← e) (reads r at)
+  empty-agrees j r e f map t =
+      rw (only map 0 t, ← f) (reads at e (record { low = omega arith; high = omega arith; inside = h }))
 
   -- numbers a and b
   compared-agrees :
-      (make : Number → Number → Record) →
-      ((a b : Number) → fieldsOf bs (make a b) ≡ comparedFields (numberOf a) (numberOf b)) →
-      RecordAgree bs k (fields p 6 (inputAt bs at k)) (withNumbers make bs at)
+      (j : ℕ) (make : Number → Number → Record) → ((a b : Number) → kindOf (make a b) ≡ j) →
+      ((a b : Number) → fieldsOf bs (make a b) ≡ comparedFields (numberOf a) (numberOf b)) → (map : ℕ) → eqb map 6 || eqb map 6 ≡ true →
+      RecordAgree bs at k j (make (writtenAt bs at) (writtenAt bs (at + 3))) (fields p map (inputAt bs at k)) (withNumbers make bs at)
   unfolding fields optional andThen withNumbers
-  compared-agrees make e =
-      number-then bs k _ _ _ _ (number-agrees bs at k) λ a next.
-      number-then bs k _ _ _ _ (number-agrees bs next k) λ b end. rw (← e a b) (reads (make a b) end)
+  compared-agrees j make e f map t =
+      rw (only map 6 t)
+      (settled j (at + 3 + 3) _ (make (writtenAt bs at) (writtenAt bs (at + 3))) (e _ _)
+      (rw f
+      (number-then _ _ _ _ _ _ (number-agrees bs at k) λ a.
+      number-then _ _ _ _ _ _ (number-agrees bs (at + 3) k) λ b.
+      reads (refl, record { low = omega arith; high = omega arith; inside = b }))))
 
   module _ (z : 0 < at) where
     -- removals, if any, then number a
-    module _ (make : ℕ → Number → Record)
-        (e : (place : ℕ) (a : Number) → fieldsOf bs (make place a) ≡ touchedFields (removalsOf bs place) (numberOf a)) where
-      touched-from :
-          (removes : Bool) → RecordAgree bs k
-          (andThen (optional removes removals [] (inputAt bs at k)) (λ rs j. andThen (number j) (λ a l. parsed (touchedFields rs a) l)))
-          (withNumber make removes bs at)
-      unfolding withNumber
-      touched-from removes =
-          place-then bs k _ _ _ _ _ (optional-agree removes bs at k z) λ next.
-          number-then bs k _ _ _ _ (number-agrees bs next k) λ a end.
-          rw (← e (placeOf removes at) a) (reads (make (placeOf removes at) a) end)
+    touched-from :
+        (j : ℕ) (make : ℕ → Number → Record) → ((place : ℕ) (a : Number) → kindOf (make place a) ≡ j) →
+        ((place : ℕ) (a : Number) → fieldsOf bs (make place a) ≡ touchedFields (removalsOf bs place) (numberOf a)) → (removes : Bool) →
+        RecordAgree bs at k j (make (placeOf removes at) (writtenAt bs (behindRemovals removes bs at)))
+        (andThen (optional removes removals [] (inputAt bs at k)) (λ rs i. andThen (number i) (λ a l. parsed (touchedFields rs a) l)))
+        (withNumber make removes bs at)
+    unfolding withNumber
+    touched-from j make e f removes =
+        settled j (behindRemovals removes bs at + 3) _ (make (placeOf removes at) (writtenAt bs (behindRemovals removes bs at))) (e _ _)
+        (rw f
+        (place-then _ _ _ _ _ (behind-agrees removes bs at k z h) λ w.
+        number-then _ _ _ _ _ _ (number-agrees bs (behindRemovals removes bs at) k) λ q.
+        reads (refl, record { low = omega arith; high = omega arith; inside = q })))
 
-      touched-agrees :
-          (map : ℕ) → eqb map 2 || eqb map 3 ≡ true →
-          RecordAgree bs k (fields p map (inputAt bs at k)) (withNumber make (stands 0 map) bs at)
-      unfolding fields optional andThen
-      touched-agrees map t =
-          or-cases (eqb map 2) (eqb map 3) t
-          (λ q. rw (eqb-true map 2 q) (touched-from false)) (λ q. rw (eqb-true map 3 q) (touched-from true))
+    touched-agrees :
+        (j : ℕ) (make : ℕ → Number → Record) → ((place : ℕ) (a : Number) → kindOf (make place a) ≡ j) →
+        ((place : ℕ) (a : Number) → fieldsOf bs (make place a) ≡ touchedFields (removalsOf bs place) (numberOf a)) → (map : ℕ) →
+        eqb map 2 || eqb map 3 ≡ true →
+        RecordAgree bs at k j (make (placeOf (stands 0 map) at) (writtenAt bs (behindRemovals (stands 0 map) bs at)))
+        (fields p map (inputAt bs at k)) (withNumber make (stands 0 map) bs at)
+    unfolding fields optional andThen
+    touched-agrees j make e f map t =
+        or-cases (eqb map 2) (eqb map 3) t
+        (λ q. rw (eqb-true map 2 q) (touched-from j make e f false)) (λ q. rw (eqb-true map 3 q) (touched-from j make e f true))
 
     -- removals, if any, then a procedure
     called-from :
-        (removes : Bool) → RecordAgree bs k
-        (andThen (optional removes removals [] (inputAt bs at k)) (λ rs j. andThen (procedure p j) (λ f l. parsed (calledFields rs f) l)))
+        (removes : Bool) →
+        RecordAgree bs at k 5 (calling p (placeOf removes at) (byteAt bs (behindRemovals removes bs at)))
+        (andThen (optional removes removals [] (inputAt bs at k)) (λ rs i. andThen (procedure p i) (λ f l. parsed (calledFields rs f) l)))
         (withProcedure p removes bs at)
-    unfolding withProcedure fieldsOf
+    unfolding withProcedure fieldsOf kindOf
     called-from removes =
-        place-then bs k _ _ _ _ _ (optional-agree removes bs at k z) λ next.
-        procedure-then bs k _ _ _ _ (procedure-agrees p bs next k) λ f end. reads (kind.Call (placeOf removes at) f) end
+        settled 5 (behindRemovals removes bs at + 1) _ (kind.Call (placeOf removes at) (byteAt bs (behindRemovals removes bs at))) refl
+        (place-then _ _ _ _ _ (behind-agrees removes bs at k z h) λ w.
+        procedure-then _ _ _ _ _ _ (procedure-agrees p bs (behindRemovals removes bs at) k) λ q.
+        reads (calling-is p _ _ (q .0) (q .1), record { low = omega arith; high = omega arith; inside = q .2 }))
 
     called-agrees :
-        (map : ℕ) → eqb map 8 || eqb map 9 ≡ true → RecordAgree bs k (fields p map (inputAt bs at k)) (withProcedure p (stands 0 map) bs at)
+        (map : ℕ) → eqb map 8 || eqb map 9 ≡ true →
+        RecordAgree bs at k 5 (calling p (placeOf (stands 0 map) at) (byteAt bs (behindRemovals (stands 0 map) bs at)))
+        (fields p map (inputAt bs at k)) (withProcedure p (stands 0 map) bs at)
     unfolding fields optional andThen
     called-agrees map t =
         or-cases (eqb map 8) (eqb map 9) t
         (λ q. rw (eqb-true map 8 q) (called-from false)) (λ q. rw (eqb-true map 9 q) (called-from true))
 
-    -- the fields of a record whose map is permitted
-    fields-agree :
-        (j map : ℕ) → permitted j map ≡ true → RecordAgree bs k (fields p map (inputAt bs at k)) (fieldsAt p j (stands 0 map) bs at)
-    unfolding fieldsAt fieldsOf
-    fields-agree j map t =
-        byEq j 0 (λ e. at-kind e (empty kind.Skip refl)) λ f0.
-        byEq j 1 (λ e. at-kind e (touched-agrees kind.Not (λ place a. refl) map)) λ f1.
-        byEq j 2 (λ e. at-kind e (empty kind.Sequence refl)) λ f2.
-        byEq j 3 (λ e. at-kind e (empty kind.If refl)) λ f3.
-        byEq j 4 (λ e. at-kind e (touched-agrees kind.Qcase (λ place a. refl) map)) λ f4.
-        byEq j 5 (λ e. at-kind e (called-agrees map)) λ f5.
-        byEq j 6 (λ e. at-kind e (compared kind.Greater (λ a b. refl))) λ f6.
-        byEq j 7 (λ e. at-kind e (compared kind.AtLeast (λ a b. refl))) λ f7.
-        byEq j 8 (λ e. at-kind e (compared kind.Equal (λ a b. refl))) λ f8.
-        byEq j 9 (λ e. at-kind e (empty kind.And refl)) λ f9.
-        byEq j 10 (λ e. at-kind e (empty kind.Or refl)) λ f10.
-        rw (← kind-last p j (stands 0 map) bs at f0 f1 f2 f3 f4 f5 f6 f7 f8 f9 f10, last-map j map (past-ten j f0 f1 f2 f3 f4 f5 f6 f7 f8 f9 f10) t)
-        (empty-agrees kind.Negation refl)
-      where
-        at-kind :
-            {i : ℕ} → j ≡ i →
-            (permitted i map ≡ true → RecordAgree bs k (fields p map (inputAt bs at k)) (fieldsAt p i (stands 0 map) bs at)) →
-            RecordAgree bs k (fields p map (inputAt bs at k)) (fieldsAt p j (stands 0 map) bs at)
-        at-kind {i} e f = rw e (f (subst (λ (n : ℕ). permitted n map ≡ true) e t))
+-- the kinds 0 to 11
+by-kinds :
+    (C : ℕ → Type 0) → C 0 → C 1 → C 2 → C 3 → C 4 → C 5 → C 6 → C 7 → C 8 → C 9 → C 10 → C 11 → (j : ℕ) → j < 12 → C j
+by-kinds C c0 c1 c2 c3 c4 c5 c6 c7 c8 c9 c10 c11 j l =
+    byEq j 0 (λ e. rw e c0) λ f0. let l1 = past 0 j (omega arith) f0 in
+    byEq j 1 (λ e. rw e c1) λ f1. let l2 = past 1 j l1 f1 in
+    byEq j 2 (λ e. rw e c2) λ f2. let l3 = past 2 j l2 f2 in
+    byEq j 3 (λ e. rw e c3) λ f3. let l4 = past 3 j l3 f3 in
+    byEq j 4 (λ e. rw e c4) λ f4. let l5 = past 4 j l4 f4 in
+    byEq j 5 (λ e. rw e c5) λ f5. let l6 = past 5 j l5 f5 in
+    byEq j 6 (λ e. rw e c6) λ f6. let l7 = past 6 j l6 f6 in
+    byEq j 7 (λ e. rw e c7) λ f7. let l8 = past 7 j l7 f7 in
+    byEq j 8 (λ e. rw e c8) λ f8. let l9 = past 8 j l8 f8 in
+    byEq j 9 (λ e. rw e c9) λ f9. let l10 = past 9 j l9 f9 in
+    byEq j 10 (λ e. rw e c10) λ f10.
+    rw (last j l (past 10 j l10 f10)) c11
+  where
+    past : (n j : ℕ) → n ≤ j → (j ≡ n → ⊥) → n + 1 ≤ j
+    past n j l f = omega arith
 
-        empty : (r : Record) → fieldsOf bs r ≡ noFields → eqb map 0 || eqb map 0 ≡ true →
-            RecordAgree bs k (fields p map (inputAt bs at k)) (answer.Record r at)
-        empty r e s = rw (only map 0 s) (empty-agrees r e)
-
-        compared :
-            (make : Number → Number → Record) → ((a b : Number) → fieldsOf bs (make a b) ≡ comparedFields (numberOf a) (numberOf b)) →
-            eqb map 6 || eqb map 6 ≡ true → RecordAgree bs k (fields p map (inputAt bs at k)) (withNumbers make bs at)
-        compared make e s = rw (only map 6 s) (compared-agrees make e)
+    last : (j : ℕ) → j < 12 → 11 ≤ j → j ≡ 11
+    last j l m = omega arith
 
 -- what the model's reader gives where a reader at a place answers by a number, and by a record; no other answer comes from these
 unfoldable pub numberParsed : List ℕ → ℕ → Answer → Parsed syntax.Number
@@ -285,35 +325,55 @@ pub number-read : (bs : List ℕ) (at k : ℕ) → number (inputAt bs at k) ≡ 
 unfolding numberParsed
 number-read bs at k = go (number-agrees bs at k)
   where
-    go : {P : Parsed syntax.Number} {x : Answer} → NumberAgree bs k P x → P ≡ numberParsed bs k x
-    go (reads a next) = refl
+    go :
+        {Q : Type 0} {S : Parsed syntax.Number} {x : Answer} →
+        Agree Q (parsed (numberOf (writtenAt bs at)) (inputAt bs (at + 3) k)) (answer.Number (writtenAt bs at) (at + 3)) S x → S ≡ numberParsed bs k x
+    go (reads q) = refl
     go (refuses m) = refl
 
-module _ (p j map : ℕ) (bs : List ℕ) (at k : ℕ) (z : 0 < at) (t : permitted j map ≡ true) where
+module _ (p j map : ℕ) (bs : List ℕ) (at k : ℕ) (z : 0 < at) (h : at ≤ length bs) (l : j < 12) (t : permitted j map ≡ true) where
   -- the fields of a record are read at a place as the model reads them from the bytes from there on, where the map is permitted
+  fields-agree : RecordAgree bs at k j (recordOf p j (stands 0 map) bs at) (fields p map (inputAt bs at k)) (fieldsAt p j (stands 0 map) bs at)
+  unfolding fieldsAt recordOf plain touching comparing fieldsOf kindOf
+  fields-agree =
+      by-kinds (λ (i : ℕ). permitted i map ≡ true →
+      RecordAgree bs at k i (recordOf p i (stands 0 map) bs at) (fields p map (inputAt bs at k)) (fieldsAt p i (stands 0 map) bs at))
+      (empty-agrees p bs at k h 0 kind.Skip refl refl map)
+      (touched-agrees p bs at k h z 1 kind.Not (λ place a. refl) (λ place a. refl) map)
+      (empty-agrees p bs at k h 2 kind.Sequence refl refl map)
+      (empty-agrees p bs at k h 3 kind.If refl refl map)
+      (touched-agrees p bs at k h z 4 kind.Qcase (λ place a. refl) (λ place a. refl) map)
+      (called-agrees p bs at k h z map)
+      (compared-agrees p bs at k h 6 kind.Greater (λ a b. refl) (λ a b. refl) map)
+      (compared-agrees p bs at k h 7 kind.AtLeast (λ a b. refl) (λ a b. refl) map)
+      (compared-agrees p bs at k h 8 kind.Equal (λ a b. refl) (λ a b. refl) map)
+      (empty-agrees p bs at k h 9 kind.And refl refl map)
+      (empty-agrees p bs at k h 10 kind.Or refl refl map)
+      (empty-agrees p bs at k h 11 kind.Negation refl refl map)
+      j l t
+
   pub fields-read : fields p map (inputAt bs at k) ≡ fieldsParsed bs k (fieldsAt p j (stands 0 map) bs at)
   unfolding fieldsParsed
-  fields-read = go (fields-agree p bs at k z j map t)
+  fields-read = go fields-agree
     where
-      go : {P : Parsed Fields} {x : Answer} → RecordAgree bs k P x → P ≡ fieldsParsed bs k x
-      go (reads r next) = refl
+      go : {S : Parsed Fields} {x : Answer} → RecordAgree bs at k j (recordOf p j (stands 0 map) bs at) S x → S ≡ fieldsParsed bs k x
+      go (reads next e w) = refl
       go (refuses m) = refl
 
-  -- the same by cases: both give the fields of a record and the place behind them, or both refuse
+  -- the same by cases: both give the record that is written there, which is of its kind, and the place behind it; or both refuse
   pub fields-cases :
       (C : Parsed Fields → Answer → Type 0) →
-      ((r : Record) (next : ℕ) → fieldsAt p j (stands 0 map) bs at ≡ answer.Record r next →
+      ((r : Record) (next : ℕ) → recordOf p j (stands 0 map) bs at ≡ r → kindOf r ≡ j → Within bs at 28 next →
       C (parsed (fieldsOf bs r) (inputAt bs next k)) (answer.Record r next)) →
       ((m : ℕ) → C (refused m) (answer.Refused m)) → C (fields p map (inputAt bs at k)) (fieldsAt p j (stands 0 map) bs at)
-  fields-cases C give refuse = go (fields-agree p bs at k z j map t) refl
+  fields-cases C give refuse = go fields-agree
     where
-      go : {P : Parsed Fields} {x : Answer} → RecordAgree bs k P x → fieldsAt p j (stands 0 map) bs at ≡ x → C P x
-      go (reads r next) e = give r next e
-      go (refuses m) e = refuse m
+      go : {S : Parsed Fields} {x : Answer} → RecordAgree bs at k j (recordOf p j (stands 0 map) bs at) S x → C S x
+      go (reads next e w) = give _ next refl e w
+      go (refuses m) = refuse m
 
--- a record whose fields were read is read again from the place of its map
+-- a record whose fields were read is found again from the place of its map
 pub record-again :
-    (p : ℕ) (bs : List ℕ) (at next : ℕ) (r : Record) →
-    fieldsAt p (byteAt bs (at + 1)) (stands 0 (byteAt bs at)) bs (at + 2) ≡ answer.Record r next → recordAt p bs at ≡ r
-unfolding recordAt recordIn
-record-again p bs at next r e = rw e
+    (p : ℕ) (bs : List ℕ) (at : ℕ) (r : Record) → recordOf p (byteAt bs (at + 1)) (stands 0 (byteAt bs at)) bs (at + 2) ≡ r → recordAt p bs at ≡ r
+unfolding recordAt
+record-again p bs at r e = e

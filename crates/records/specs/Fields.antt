@@ -1,5 +1,6 @@
--- The fields of a record, read at a place of the table's bytes. A law ties each to the model's reader of the bytes from that place on.
-use Prim.Native.Nat.{ℕ, zero, suc, _+_}
+-- The fields of a record, read at a place of the table's bytes, and the record as it is written there. A law ties each to the model's reader of the bytes
+-- from that place on.
+use Prim.Native.Nat.{ℕ, zero, suc, _+_, _*_}
 use mathlib.Core.Bool.{Bool, true, false}
 use mathlib.Core.List.{List, [], _∷_}
 use lib.ListN.{length, getD}
@@ -7,7 +8,7 @@ use lib.Dec.{ltb, leb, eqb}
 use lib.IntN.{ℤ, pos}
 use Rattle.model.specs.Limits.{mostRemovals, tableStops, wrongField}
 use Rattle.model.specs.Syntax as syntax
-use Rattle.model.specs.Reading.{signed16, stands, Fields}
+use Rattle.model.specs.Reading.{signed16, requiredMap, stands, Fields}
 use Rattle.records.specs.declared.Number.{Number}
 use Rattle.records.specs.declared.Number.the-variants.{Constant, SizePlus}
 use Rattle.records.specs.declared.Record.{Record}
@@ -97,6 +98,20 @@ unfoldable pub placeOf : Bool → ℕ → ℕ
 placeOf true at = at
 placeOf false at = 0
 
+-- the place behind the removals, a count and three bytes each, where bit 0 stands in the map
+unfoldable pub behindRemovals : Bool → List ℕ → ℕ → ℕ
+behindRemovals true bs at = at + 1 + 3 * byteAt bs at
+behindRemovals false bs at = at
+
+-- a kind without fields; what is no kind counts as skip
+unfoldable pub plain : ℕ → Record
+plain k =
+    pick (eqb k 2) kind.Sequence
+    (pick (eqb k 3) kind.If
+    (pick (eqb k 9) kind.And
+    (pick (eqb k 10) kind.Or
+    (pick (eqb k 11) kind.Negation kind.Skip))))
+
 -- NOT, kind 1, or qcase, kind 4
 unfoldable pub touching : ℕ → ℕ → Number → Record
 touching k at a = pick (eqb k 1) (kind.Not at a) (kind.Qcase at a)
@@ -104,6 +119,17 @@ touching k at a = pick (eqb k 1) (kind.Not at a) (kind.Qcase at a)
 -- a comparison, kind 6, 7 or 8
 unfoldable pub comparing : ℕ → Number → Number → Record
 comparing k a b = pick (eqb k 6) (kind.Greater a b) (pick (eqb k 7) (kind.AtLeast a b) (kind.Equal a b))
+
+-- a call of procedure 1 to p; any other counts as skip
+unfoldable pub calling : ℕ → ℕ → ℕ → Record
+calling p at f = pick (eqb f 0) kind.Skip (pick (ltb p f) kind.Skip (kind.Call at f))
+
+-- by the bits that the map of a kind must have: number a, numbers a and b, a procedure, or none of these
+abbrev pub byFields : {A : Type 0} → ℕ → A → A → A → A → A
+byFields k a b c d =
+    pick (eqb (requiredMap k) 2) a
+    (pick (eqb (requiredMap k) 6) b
+    (pick (eqb (requiredMap k) 8) c d))
 
 -- removals, if any, then number a
 unfoldable pub withNumber : (ℕ → Number → Record) → Bool → List ℕ → ℕ → Answer
@@ -125,29 +151,24 @@ withProcedure p removes bs at =
 -- the fields of a record of this kind, whose map has bit 0 or not
 unfoldable pub fieldsAt : ℕ → ℕ → Bool → List ℕ → ℕ → Answer
 fieldsAt p k removes bs at =
-    pick (eqb k 0) (answer.Record kind.Skip at)
-    (pick (eqb k 1) (withNumber kind.Not removes bs at)
-    (pick (eqb k 2) (answer.Record kind.Sequence at)
-    (pick (eqb k 3) (answer.Record kind.If at)
-    (pick (eqb k 4) (withNumber kind.Qcase removes bs at)
-    (pick (eqb k 5) (withProcedure p removes bs at)
-    (pick (eqb k 6) (withNumbers kind.Greater bs at)
-    (pick (eqb k 7) (withNumbers kind.AtLeast bs at)
-    (pick (eqb k 8) (withNumbers kind.Equal bs at)
-    (pick (eqb k 9) (answer.Record kind.And at)
-    (pick (eqb k 10) (answer.Record kind.Or at)
-    (answer.Record kind.Negation at)))))))))))
+    byFields k
+    (withNumber (touching k) removes bs at)
+    (withNumbers (comparing k) bs at)
+    (withProcedure p removes bs at)
+    (answer.Record (plain k) at)
 
--- a record that has been read before: its map and kind stand at `at`
-unfoldable pub recordIn : Answer → Record
-recordIn (answer.Place next) = kind.Skip
-recordIn (answer.Number a next) = kind.Skip
-recordIn (answer.Procedure g next) = kind.Skip
-recordIn (answer.Record r next) = r
-recordIn (answer.Refused k) = kind.Skip
+-- the record of this kind as it is written, its fields at a place: where the reader gives a record, a law says that it is this one
+unfoldable pub recordOf : ℕ → ℕ → Bool → List ℕ → ℕ → Record
+recordOf p k removes bs at =
+    byFields k
+    (touching k (placeOf removes at) (writtenAt bs (behindRemovals removes bs at)))
+    (comparing k (writtenAt bs at) (writtenAt bs (at + 3)))
+    (calling p (placeOf removes at) (byteAt bs (behindRemovals removes bs at)))
+    (plain k)
 
+-- the record whose map and kind stand at a place
 unfoldable pub recordAt : ℕ → List ℕ → ℕ → Record
-recordAt p bs at = recordIn (fieldsAt p (byteAt bs (at + 1)) (stands 0 (byteAt bs at)) bs (at + 2))
+recordAt p bs at = recordOf p (byteAt bs (at + 1)) (stands 0 (byteAt bs at)) bs (at + 2)
 
 -- a number as the model has it
 unfoldable pub numberOf : Number → syntax.Number

@@ -1,9 +1,11 @@
-// The records of a table, one at a time: their fields, read with refusals 1 and 6, and the record that they make.
+// The records of a table, one at a time: read with refusals 1 and 6, and taken as they are written from a table that has been read.
 ghost use mathlib.Core.Path.{_≡_};
-ghost use Rattle.model.specs.Reading.{signed16, stands};
+ghost use Prim.Native.Nat.{_+_, _≤_};
+ghost use lib.ListN.{length, getD};
+ghost use Rattle.model.specs.Reading.{signed16, requiredMap, stands};
 ghost use Rattle.model.specs.Reading as model;
-ghost use Rattle.records.specs.Fields.{numberAt, numbersAt, removalsAt, maybeRemovalsAt, placeOf, procedureAt};
-ghost use Rattle.records.specs.Fields.{touching, comparing, withNumber, withNumbers, withProcedure, fieldsAt, recordAt};
+ghost use Rattle.records.specs.Fields.{byteAt, writtenAt, numberAt, numbersAt, removalsAt, maybeRemovalsAt, placeOf, behindRemovals, procedureAt};
+ghost use Rattle.records.specs.Fields.{plain, touching, comparing, calling, withNumber, withNumbers, withProcedure, fieldsAt, recordAt};
 
 // "1 the table stops too soon"; "6 removal count, base or procedure byte"
 const TABLE_STOPS: u8 = 1;
@@ -13,10 +15,8 @@ const WRONG_FIELD: u8 = 6;
 // "removals: a count byte 1 to 8"
 const MOST_REMOVALS: u8 = 8;
 
-// "The permitted map of each kind stands in one table of twelve entries": the bits that must stand, and the bit that may.
-const REQUIRED: [u8; 12] = [0, 2, 0, 0, 2, 8, 6, 6, 6, 0, 0, 0];
-
-const OPTIONAL: [u8; 12] = [0, 1, 0, 0, 1, 1, 0, 0, 0, 0, 0, 0];
+// "The permitted map of each kind stands in one table of twelve entries": the bits that must stand, and 16 times the bit that may.
+const MAPS: [u8; 12] = [0x00, 0x12, 0x00, 0x00, 0x12, 0x18, 0x06, 0x06, 0x06, 0x00, 0x00, 0x00];
 
 // "Base 0 is the constant alone; base 1 adds the size of the procedure's whole list."
 pub enum Number {
@@ -62,7 +62,7 @@ fn index(x: u8) -> usize
 }
 
 // "a signed 16-bit constant, little-endian"
-pub fn signed(low: u8, high: u8) -> i32
+fn signed(low: u8, high: u8) -> i32
     ensures { λ r. ⌜ r ≡ signed16 low high ⌝ }
 {
     let bits = wide(low) + 256 * wide(high);
@@ -73,6 +73,27 @@ pub fn signed(low: u8, high: u8) -> i32
     }
 }
 
+// The byte at a place, 0 past the end.
+fn byte(table: &[u8], at: usize) -> u8
+    ensures { λ r. ⌜ r ≡ byteAt (now (table .entry)) at ⌝ }
+{
+    if at < table.len() { table[at] } else { 0 }
+}
+
+// The number whose three bytes stand from a place on: a base byte and a constant.
+pub fn written_at(table: &[u8], at: usize) -> Number
+    ensures { λ r. ⌜ r ≡ writtenAt (now (table .entry)) at ⌝ }
+{
+    if table.len() <= at {
+        return Number::Constant(0);
+    }
+    let constant = signed(byte(table, at + 1), byte(table, at + 2));
+    if table[at] == 0 {
+        return Number::Constant(constant);
+    }
+    Number::SizePlus(constant)
+}
+
 // "A number is a base byte and a signed 16-bit constant"; a base byte is tested as it comes.
 pub fn read_number(table: &[u8], at: usize) -> Answer
     ensures { λ r. ⌜ r ≡ numberAt (now (table .entry)) at ⌝ }
@@ -80,21 +101,13 @@ pub fn read_number(table: &[u8], at: usize) -> Answer
     if table.len() <= at {
         return Answer::Refused(TABLE_STOPS);
     }
-    let base = table[at];
-    if 1 < base {
+    if 1 < table[at] {
         return Answer::Refused(WRONG_FIELD);
     }
     if table.len() - at < 3 {
         return Answer::Refused(TABLE_STOPS);
     }
-    let low = at + 1;
-    let high = at + 2;
-    let constant = signed(table[low], table[high]);
-    if base == 0 {
-        Answer::Number(Number::Constant(constant), at + 3)
-    } else {
-        Answer::Number(Number::SizePlus(constant), at + 3)
-    }
+    Answer::Number(written_at(table, at), at + 3)
 }
 
 // So many numbers, one after the other: the place behind them.
@@ -163,6 +176,20 @@ fn place(removes: bool, at: usize) -> usize
     if removes { at } else { 0 }
 }
 
+// A record without fields, of this kind: skip, sequence, if, and, or, not.
+fn plain(kind: u8) -> Record
+    ensures { λ r. ⌜ r ≡ plain kind ⌝ }
+{
+    match kind {
+        2 => Record::Sequence,
+        3 => Record::If,
+        9 => Record::And,
+        10 => Record::Or,
+        11 => Record::Negation,
+        _ => Record::Skip,
+    }
+}
+
 // NOT, kind 1, or qcase, kind 4, of these fields.
 fn touching(kind: u8, place: usize, a: Number) -> Record
     ensures { λ r. ⌜ r ≡ touching kind place a ⌝ }
@@ -185,6 +212,19 @@ fn comparing(kind: u8, a: Number, b: Number) -> Record
     } else {
         Record::Equal(a, b)
     }
+}
+
+// The call of a procedure, 1 to p. Any other counts as skip: no table that has been read has one.
+fn calling(place: usize, called: u8, p: u8) -> Record
+    ensures { λ r. ⌜ r ≡ calling p place called ⌝ }
+{
+    if called == 0 {
+        return Record::Skip;
+    }
+    if p < called {
+        return Record::Skip;
+    }
+    Record::Call(place, called)
 }
 
 // Removals, if any, then number a: NOT and qcase.
@@ -232,23 +272,23 @@ fn with_procedure(table: &[u8], at: usize, removes: bool, p: u8) -> Answer
     Answer::Record(Record::Call(place(removes, at), called), end)
 }
 
+// The bits that the map of this kind must have. They say what stands behind the removals: 2 number a, 6 numbers a and b, 8 a procedure.
+fn required(kind: u8) -> u8
+    ensures { λ r. ⌜ r ≡ requiredMap kind ⌝ }
+{
+    let i = index(kind);
+    if i < 12 { MAPS[i] % 16 } else { 0 }
+}
+
 // "then only the fields whose bit stands in the map, lowest bit first": the record of this kind, whose map has bit 0 or not.
 pub fn read_fields(table: &[u8], at: usize, kind: u8, removes: bool, p: u8) -> Answer
     ensures { λ r. ⌜ r ≡ fieldsAt p kind removes (now (table .entry)) at ⌝ }
 {
-    match kind {
-        0 => Answer::Record(Record::Skip, at),
-        1 => with_number(table, at, 1, removes),
-        2 => Answer::Record(Record::Sequence, at),
-        3 => Answer::Record(Record::If, at),
-        4 => with_number(table, at, 4, removes),
-        5 => with_procedure(table, at, removes, p),
-        6 => with_numbers(table, at, 6),
-        7 => with_numbers(table, at, 7),
-        8 => with_numbers(table, at, 8),
-        9 => Answer::Record(Record::And, at),
-        10 => Answer::Record(Record::Or, at),
-        _ => Answer::Record(Record::Negation, at),
+    match required(kind) {
+        2 => with_number(table, at, kind, removes),
+        6 => with_numbers(table, at, kind),
+        8 => with_procedure(table, at, removes, p),
+        _ => Answer::Record(plain(kind), at),
     }
 }
 
@@ -260,11 +300,11 @@ pub fn permitted(kind: u8, map: u8) -> bool
     if 12 <= i {
         return map == 0;
     }
-    let required = REQUIRED[i];
+    let required = MAPS[i] % 16;
     if map == required {
         return true;
     }
-    map == required + OPTIONAL[i]
+    map == required + MAPS[i] / 16
 }
 
 // Does bit 0, removals, stand in a map?
@@ -274,21 +314,29 @@ pub fn removes(map: u8) -> bool
     map % 2 == 1
 }
 
-// The record whose map and kind stand at a place of a table that has been read.
+// The place behind the removals at a place, if any: a count byte, then that many numbers.
+fn behind_removals(table: &[u8], at: usize, removes: bool) -> usize
+    requires { ⌜ at ≤ length (now table) + 1 ⌝ }
+    ensures { λ r. ⌜ r ≡ behindRemovals removes (now (table .entry)) at ⌝ }
+{
+    if removes { at + 1 + 3 * index(byte(table, at)) } else { at }
+}
+
+// The record whose map and kind stand at a place of a table that has been read. It is taken as it is written: the reader's tests are not made again.
 pub fn record_at(table: &[u8], at: usize, p: u8) -> Record
     ensures { λ r. ⌜ r ≡ recordAt p (now (table .entry)) at ⌝ }
 {
     if table.len() <= at {
         return Record::Skip;
     }
-    if table.len() - at < 2 {
-        return Record::Skip;
+    let removing = removes(table[at]);
+    let kind = byte(table, at + 1);
+    let fields = at + 2;
+    let next = behind_removals(table, fields, removing);
+    match required(kind) {
+        2 => touching(kind, place(removing, fields), written_at(table, next)),
+        6 => comparing(kind, written_at(table, fields), written_at(table, fields + 3)),
+        8 => calling(place(removing, fields), byte(table, next), p),
+        _ => plain(kind),
     }
-    let map = table[at];
-    let behind = at + 1;
-    let answer = read_fields(table, at + 2, table[behind], removes(map), p);
-    let Answer::Record(found, _) = answer else {
-        return Record::Skip;
-    };
-    found
 }

@@ -108,7 +108,7 @@ pub struct Answer {
     pub value: u64,
 }
 
-// The run: "9; header 1, 2, 3; each record ..; 8; 10 over the whole table, then 11, then 12; 13; 21", then the end word; for a workspace of that length.
+// The run: "9; header 1 .., 2, 3; each record ..; 8; 10 over the whole table, then 11, then 12; 13; 21", then the end word; for a workspace of that length.
 pub fn run(table: &[u8], n: u32, word: u64, space: usize) -> Answer
     ensures { λ r. ⌜ r ≡ answerOf (model.run (now (table .entry)) n word space) ⌝ }
 {

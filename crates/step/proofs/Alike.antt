@@ -12,7 +12,8 @@ use Rattle.records.specs.declared.Record.the-variants as kind
 use Rattle.records.specs.Fields.{recordAt}
 use Rattle.table.specs.Index.{startOf, behindOf, testOf, testAt, statementOf, statementAt}
 use Rattle.step.specs.Steps.{nextOf}
-use Rattle.step.proofs.Places.{past-end, far-past-end}
+use Rattle.records.proofs.Laws.{past-end}
+use Rattle.step.proofs.Places.{far-past-end}
 
 -- past the end a record starts at 0, and record 0 is behind it
 behind-alike : (ix : List ℕ) (i j : ℕ) → length ix ≤ i → length ix ≤ j → behindOf ix i ≡ behindOf ix j

@@ -1,7 +1,7 @@
 -- Lists in an array: their size, entries and removals.
 use Prim.Native.Nat.{ℕ, zero, suc, _+_, _-_, _≤_, _<_, min, zero-le}
-use native.Mathlib.Nat.{add-zero, add-suc, suc-add, not-suc-le-zero, le-of-suc-le-suc}
-use native.Mathlib.Numerals.{add-one, one-add}
+use native.Mathlib.Nat.{not-suc-le-zero, le-of-suc-le-suc}
+use native.Mathlib.Numerals.{add-one}
 use native.Mathlib.Omega.{arith}
 use mathlib.Core.Path.{_≡_, refl, sym, ap, _∙_}
 use mathlib.Core.List.{List, [], _∷_, _++_, append-nil}
@@ -15,34 +15,29 @@ use mir.Facts.{toZ-ofZ}
 use Rattle.model.specs.Lists.{range, qubits, position, entry, delete, remove}
 use Rattle.model.proofs.Tests.{byLt}
 use Rattle.model.proofs.ListLaws.{remove-in, remove-out}
-use Rattle.step.specs.declared.Qubits.{Qubits}
-use Rattle.step.specs.Steps.{qubitsOf, within}
+use Rattle.step.specs.Steps.{within}
 use Rattle.step.proofs.Places.{less-one}
 
 -- what is taken is no longer than asked for, and than what it is taken from
 take-short : (n : ℕ) (l : List ℕ) → length (take n l) ≤ n
 take-short n l = rw (length-take n l) (omega arith)
 
-take-shorter : (n : ℕ) (l : List ℕ) → length (take n l) ≤ length l
+pub take-shorter : (n : ℕ) (l : List ℕ) → length (take n l) ≤ length l
 take-shorter n l = rw (length-take n l) (omega arith)
 
 -- an array's list is as long as it says, within the array
 pub size-of : (n : ℕ) (l : List ℕ) (r m : ℕ) → length l ≡ m → r ≡ min n m → r ≡ length (take n l)
 size-of n l r m e h = rw (length-take n l, e, h)
 
--- a list is no longer than its array
-pub size-bound : (q : Qubits) (n k : ℕ) → length (q .at) ≡ k → n ≡ length (qubitsOf q) → n ≤ k
-size-bound q n k e h = rw h (omega (arith, take-shorter (q .len) (q .at)))
-
--- the qubits 1 to n, one more at a time
-range-snoc : (n a : ℕ) → range (suc n) a ≡ range n a ++ ((a + n) ∷ [])
+-- the first n of the qubits 1 to m
+range-first : (n m a : ℕ) → n ≤ m → take n (range m a) ≡ range n a
 unfolding range
-range-snoc zero a = rw (add-zero a)
-range-snoc (suc n) a = ap (λ (t : List ℕ). a ∷ t) (range-snoc n (suc a) ∙ rw (suc-add a n, add-suc a n))
+range-first zero m a h = refl
+range-first (suc n) zero a h = absurd (not-suc-le-zero h)
+range-first (suc n) (suc m) a h = ap (_∷_ a) (range-first n m (suc a) (le-of-suc-le-suc h))
 
--- a turn writes the next one
-pub qubits-grow : (i : ℕ) (l : List ℕ) → i < length l → take i l ≡ qubits i → take (i + 1) (set l i (i + 1)) ≡ qubits (i + 1)
-qubits-grow i l h e = rw (add-one i, take-suc-set l i (suc i) h, range-snoc i 1, e, one-add i)
+pub qubits-first : (n r : ℕ) → r ≡ min n 32 → take r (qubits 32) ≡ qubits (min n 32)
+qubits-first n r e = rw e (range-first (min n 32) 32 1 (omega arith))
 
 -- up to 32 nothing is cut off
 pub qubits-capped : (n : ℕ) → n ≤ 32 → qubits (min n 32) ≡ qubits n
@@ -50,10 +45,6 @@ qubits-capped n h = ap qubits (least n h)
   where
     least : (n : ℕ) → n ≤ 32 → min n 32 ≡ n
     least n h = omega arith
-
--- after the last turn all are written
-pub qubits-all : (m n i : ℕ) (l : List ℕ) → take i l ≡ qubits i → n ≡ m → i ≤ n → n ≤ i → take n l ≡ qubits m
-qubits-all m n i l e s a b = let j : i ≡ n = omega arith in rw (← s, ← j) e
 
 -- a position past the end becomes 0, any other stays
 within-out : (n : ℕ) (z : ℤ) → n < position z → within n z ≡ 0
@@ -76,9 +67,9 @@ entry-within l z = byLt (length l) (position z)
     (λ h. rw (within-out (length l) z h) (List·getD-eq-default (0 ∷ l) 0 h))
     (λ h. rw (within-same (length l) z h))
 
-entry-at : (q : Qubits) (i : ℕ) → i ≤ length (qubitsOf q) → (i ≡ 0 → ⊥) → getD (q .at) (i - 1) 0 ≡ entry (qubitsOf q) i
-entry-at q zero h n = absurd (n refl)
-entry-at q (suc j) h n = rw (less-one j) (sym (getD-take (q .len) (q .at) j 0 (omega (arith, take-short (q .len) (q .at)))))
+entry-at : (m : ℕ) (l : List ℕ) (i : ℕ) → i ≤ length (take m l) → (i ≡ 0 → ⊥) → getD l (i - 1) 0 ≡ entry (take m l) i
+entry-at m l zero h n = absurd (n refl)
+entry-at m l (suc j) h n = rw (less-one j) (sym (getD-take m l j 0 (omega (arith, take-short m l))))
 
 -- a removal past the end empties the list
 remove-past : (k : ℕ) (l : List ℕ) → length l < k → remove k l ≡ []
@@ -95,7 +86,8 @@ remove-inside : (i : ℕ) (l : List ℕ) → i ≤ length l → (i ≡ 0 → ⊥
 remove-inside zero l h z = absurd (z refl)
 remove-inside (suc i) l h z = rw (less-one i) (remove-in i l (lt-ltb i (length l) h))
 
-take-self : (n : ℕ) (l : List ℕ) → take (length (take n l)) l ≡ take n l
+-- as many as were taken are the same
+pub take-self : (n : ℕ) (l : List ℕ) → take (length (take n l)) l ≡ take n l
 take-self zero l = refl
 take-self (suc n) [] = refl
 take-self (suc n) (x ∷ l) = ap (_∷_ x) (take-self n l)
@@ -138,29 +130,29 @@ shift-ends n i l p h =
     let e : i ≡ n = omega arith in
     rw (e, drop-of-length-le (take n l) (take-short n l)) (append-nil (take (n - 1) l))
 
--- the code's place i of position k: an entry and a removal there
-module _ (q : Qubits) (k : ℤ) (n i : ℕ) (f : SFits w32 k) (size : n ≡ length (qubitsOf q)) (place : i ≡ within n (toZ w32 (ofZ w32 k))) where
-  placed : i ≡ within (length (qubitsOf q)) k
+-- the code's place i of position k in the first m entries of an array: an entry and a removal there
+module _ (m : ℕ) (l : List ℕ) (k : ℤ) (n i : ℕ) (f : SFits w32 k) (size : n ≡ length (take m l)) (place : i ≡ within n (toZ w32 (ofZ w32 k))) where
+  placed : i ≡ within (length (take m l)) k
   placed = rw (← size) (rw (toZ-ofZ f) at place)
 
   -- at place 0 there is no entry
-  pub entry-none : i ≡ 0 → 0 ≡ entry (qubitsOf q) (position k)
-  entry-none z = rw (entry-within (qubitsOf q) k, ← placed, z)
+  pub entry-none : i ≡ 0 → 0 ≡ entry (take m l) (position k)
+  entry-none z = rw (entry-within (take m l) k, ← placed, z)
 
   -- at any other the array has it, one further down
-  pub entry-some : (i ≡ 0 → ⊥) → getD (q .at) (i - 1) 0 ≡ entry (qubitsOf q) (position k)
-  entry-some z = rw (entry-within (qubitsOf q) k, ← placed) (entry-at q i (rw placed (within-le (length (qubitsOf q)) k)) z)
+  pub entry-some : (i ≡ 0 → ⊥) → getD l (i - 1) 0 ≡ entry (take m l) (position k)
+  entry-some z = rw (entry-within (take m l) k, ← placed) (entry-at m l i (rw placed (within-le (length (take m l)) k)) z)
 
   -- where the array goes on
-  pub place-inside : length (q .at) ≡ 32 → (i ≡ 0 → ⊥) → i - 1 < 32
-  place-inside e z = omega (arith, placed, within-le (length (qubitsOf q)) k, take-shorter (q .len) (q .at))
+  pub place-inside : length l ≡ 32 → (i ≡ 0 → ⊥) → i - 1 < 32
+  place-inside e z = omega (arith, placed, within-le (length (take m l)) k, take-shorter m l)
 
   -- at place 0 a removal empties the list
-  pub remove-none : i ≡ 0 → [] ≡ remove (position k) (qubitsOf q)
+  pub remove-none : i ≡ 0 → [] ≡ remove (position k) (take m l)
   unfolding remove
-  remove-none z = rw (remove-within (qubitsOf q) k, ← placed, z)
+  remove-none z = rw (remove-within (take m l) k, ← placed, z)
 
   -- at any other it takes that entry
-  pub remove-some : (i ≡ 0 → ⊥) → delete (i - 1) (take n (q .at)) ≡ remove (position k) (qubitsOf q)
-  remove-some z = rw (remove-within (qubitsOf q) k, ← placed, size, take-self (q .len) (q .at))
-    (sym (remove-inside i (qubitsOf q) (rw placed (within-le (length (qubitsOf q)) k)) z))
+  pub remove-some : (i ≡ 0 → ⊥) → delete (i - 1) (take n l) ≡ remove (position k) (take m l)
+  remove-some z = rw (remove-within (take m l) k, ← placed, size, take-self m l)
+    (sym (remove-inside i (take m l) (rw placed (within-le (length (take m l)) k)) z))

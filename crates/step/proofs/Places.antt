@@ -1,15 +1,12 @@
--- Places: what stands past the end is 0.
+-- Places: what stands past the end is 0, further on too.
 use Prim.Native.Nat.{ℕ, suc, _+_, _-_, _≤_}
 use native.Mathlib.Omega.{arith}
-use mathlib.Core.Path.{_≡_, sym}
+use mathlib.Core.Path.{_≡_}
 use mathlib.Core.List.{List}
-use lib.ListN.{length, getD, List·getD-eq-default}
+use lib.ListN.{length, getD}
+use Rattle.records.proofs.Laws.{past-end}
 
--- an element past the end is 0
-pub past-end : (l : List ℕ) (i : ℕ) → length l ≤ i → 0 ≡ getD l i 0
-past-end l i h = sym (List·getD-eq-default l 0 h)
-
--- and so is one further on
+-- past the end, and so further on, all is 0
 pub far-past-end : (l : List ℕ) (k i : ℕ) → length l ≤ i → 0 ≡ getD l (k + i) 0
 far-past-end l k i h = past-end l (k + i) (omega arith)
 

@@ -6,7 +6,7 @@ use native.Mathlib.Omega.{arith}
 use mathlib.Core.Path.{_≡_, refl, ap, _∙_}
 use mathlib.Core.List.{List, _∷_}
 use borrow.Author.Tests.{lt-ltb, le-ltb}
-use lib.ListN.{length, List·getD-eq-default}
+use lib.ListN.{length, take, List·getD-eq-default}
 use lib.IntN.{ℤ, pos, negsuc}
 use mir.Syntax.{w32}
 use mir.Val.{SFits, toZ, ofZ}
@@ -19,8 +19,9 @@ use Rattle.records.specs.declared.Number.the-variants.{Constant, SizePlus}
 use Rattle.records.specs.Fields.{byteAt, writtenAt, numberOf, numbersFrom, removalsOf}
 use Rattle.step.specs.declared.Qubits.{Qubits}
 use Rattle.step.specs.Steps.{qubitsOf, valueOf, touchedBy}
-use Rattle.step.proofs.Places.{past-end, less-one}
-use Rattle.step.proofs.Entries.{size-bound}
+use Rattle.records.proofs.Laws.{past-end}
+use Rattle.step.proofs.Places.{less-one}
+use Rattle.step.proofs.Entries.{take-shorter, take-self}
 use Rattle.step.proofs.Constants.{written-fair}
 
 -- at place 0 there are no removals
@@ -35,11 +36,15 @@ remaining-past bs zero l h = refl
 remaining-past bs (suc at) l h = rw (List·getD-eq-default bs 0 h)
 
 -- the whole is what is left at the first number
-pub remaining-whole : (bs : List ℕ) (at : ℕ) (l : List ℕ) → (at ≡ 0 → ⊥)
+whole-is : (bs : List ℕ) (at : ℕ) (l : List ℕ) → (at ≡ 0 → ⊥)
     → removeAll (length l) (numbersFrom (byteAt bs at) bs (at + 1)) l ≡ remaining (removalsOf bs at) l
 unfolding removalsOf
-remaining-whole bs zero l h = absurd (h refl)
-remaining-whole bs (suc at) l h = rw (add-one (suc at))
+whole-is bs zero l h = absurd (h refl)
+whole-is bs (suc at) l h = rw (add-one (suc at))
+
+pub remaining-whole : (bs : List ℕ) (at n : ℕ) (q : Qubits) → n ≡ length (qubitsOf q) → (at ≡ 0 → ⊥)
+    → removeAll n (numbersFrom (byteAt bs at) bs (at + 1)) (take n (q .at)) ≡ remaining (removalsOf bs at) (qubitsOf q)
+remaining-whole bs at n q e h = rw (e, take-self (q .len) (q .at)) (whole-is bs at (qubitsOf q) h)
 
 removals-more : (bs : List ℕ) (place left n : ℕ) (l : List ℕ) → 0 < left
     → removeAll n (numbersFrom (left - 1) bs (place + 3)) (remove (position (value (numberOf (writtenAt bs place)) n)) l)
@@ -48,21 +53,15 @@ unfolding numbersFrom removeAll
 removals-more bs place zero n l h = absurd (not-suc-le-zero h)
 removals-more bs place (suc left) n l h = rw (less-one left)
 
--- one number, as the code reads, values and removes it
-module _ (bs whole : List ℕ) (place left n : ℕ) (a : Number) (z : ℤ) (q r : Qubits)
-    (number : a ≡ writtenAt bs place) (size : n ≡ length whole) (f : SFits w32 z) (valued : z ≡ valueOf a n)
-    (removed : qubitsOf r ≡ remove (position (toZ w32 (ofZ w32 z))) (qubitsOf q)) where
-  removed-one : qubitsOf r ≡ remove (position (value (numberOf (writtenAt bs place)) (length whole))) (qubitsOf q)
-  removed-one =
-    let v : z ≡ value (numberOf (writtenAt bs place)) (length whole) = valued ∙ rw (number, size) (written-fair bs place (length whole)) in
-    removed ∙ ap (λ (x : ℤ). remove (position x) (qubitsOf q)) (toZ-ofZ f ∙ v)
-
-  -- this removal and then those behind it are all from here on
-  pub remaining-goes-on : 0 < left
-    → removeAll (length whole) (numbersFrom (left - 1) bs (place + 3)) (qubitsOf r)
-      ≡ removeAll (length whole) (numbersFrom left bs place) (qubitsOf q)
-  remaining-goes-on h =
-    ap (removeAll (length whole) (numbersFrom (left - 1) bs (place + 3))) removed-one ∙ removals-more bs place left (length whole) (qubitsOf q) h
+-- a number, as the code reads, values and removes it, and then those behind it are all from here on
+pub remaining-goes-on : (bs : List ℕ) (place left n : ℕ) (a : Number) (z : ℤ) (l r : List ℕ) → a ≡ writtenAt bs place → SFits w32 z → z ≡ valueOf a n
+    → r ≡ remove (position (toZ w32 (ofZ w32 z))) l → 0 < left
+    → removeAll n (numbersFrom (left - 1) bs (place + 3)) r ≡ removeAll n (numbersFrom left bs place) l
+remaining-goes-on bs place left n a z l r number f valued removed h =
+    let v : z ≡ value (numberOf (writtenAt bs place)) n = valued ∙ rw number (written-fair bs place n) in
+    let one : r ≡ remove (position (value (numberOf (writtenAt bs place)) n)) l =
+          removed ∙ ap (λ (x : ℤ). remove (position x) l) (toZ-ofZ f ∙ v) in
+    ap (removeAll n (numbersFrom (left - 1) bs (place + 3))) one ∙ removals-more bs place left n l h
 
 -- no number left: nothing is removed any more
 pub remaining-ends : (bs : List ℕ) (place left n : ℕ) (l : List ℕ) → left ≤ 0 → removeAll n (numbersFrom left bs place) l ≡ l
@@ -89,5 +88,5 @@ pub touched-is : (bs : List ℕ) (at : ℕ) (a : Number) (q rest : Qubits) (n r 
 touched-is bs at a q rest n r z long left size f valued entered =
     let l = qubitsOf q in
     let m = remaining (removalsOf bs at) l in
-    let short : length m ≤ 32767 = omega (arith, remaining-no-longer (removalsOf bs at) l, size-bound q (length l) 32 long refl) in
+    let short : length m ≤ 32767 = omega (arith, remaining-no-longer (removalsOf bs at) l, take-shorter (q .len) (q .at)) in
     entered ∙ rw (left, toZ-ofZ f, valued, size) (entry-guarded m a (length l) short)

@@ -1,15 +1,20 @@
 // Lists of qubits, and the one step that check, run and emission take from a record.
 ghost use mathlib.Core.Path.{_≡_};
 ghost use Prim.Native.Nat.{min};
-ghost use lib.ListN.{length};
+ghost use lib.ListN.{length, take};
 ghost use Rattle.model.specs.Lists.{qubits, entry, remove, remaining, position, holds};
-ghost use Rattle.records.specs.Fields.{byteAt, writtenAt, removalsOf};
+ghost use Rattle.records.specs.Fields.{removalsOf};
 ghost use Rattle.table.specs.Index.{startOf, behindOf, testAt};
 ghost use Rattle.step.specs.Steps.{qubitsOf, valueOf, within, touchedBy, nextOf, stepAt};
-use records::{Number, Record, record_at, signed};
+use records::{Number, Record, record_at, written_at};
 
 // "a signed 16-bit constant"
 const MOST_CONSTANT: i32 = 32767;
+
+// Qubits 1 to 32.
+const QUBITS: [u8; 32] = [
+    1, 2, 3, 4, 5, 6, 7, 8, 9, 10, 11, 12, 13, 14, 15, 16, 17, 18, 19, 20, 21, 22, 23, 24, 25, 26, 27, 28, 29, 30, 31, 32,
+];
 
 // A list of qubits: its first `len` entries count.
 pub struct Qubits {
@@ -59,14 +64,7 @@ pub fn size(list: Qubits) -> u8
 pub fn all(n: u8) -> Qubits
     ensures { λ r. ⌜ qubitsOf r ≡ qubits (min n 32) ⌝ }
 {
-    let len = capped(n);
-    let mut at = [0; 32];
-    let mut i: u8 = 0;
-    while i < len {
-        at[i as usize] = i + 1;
-        i += 1;
-    }
-    Qubits { at, len }
+    Qubits { at: QUBITS, len: capped(n) }
 }
 
 // A number's value in a procedure whose whole list has this size. No table has a constant above 16 bits; without the test its sum could leave i32.
@@ -109,42 +107,22 @@ pub fn entry(list: Qubits, k: i32) -> u8
     list.at[before]
 }
 
-// The list without its entry at a position; empty where there is none.
-pub fn remove(list: Qubits, k: i32) -> Qubits
-    ensures { λ r. ⌜ qubitsOf r ≡ remove (position k) (qubitsOf list) ⌝ }
+// The entry at a position is taken out of the list that stands in an array: its new length. It is empty where there is no such entry.
+fn remove(at: &mut [u8; 32], len: u8, k: i32) -> u8
+    requires { ⌜ length (now at) ≡ 32 ⌝ }
+    ensures { λ r. ⌜ take r (now (at .exit)) ≡ remove (position k) (take len (now (at .entry))) ⌝ }
+    ensures { λ r. ⌜ length (now (at .exit)) ≡ 32 ⌝ }
 {
-    let len = size(list);
-    let mut i = within(len, k);
-    let mut at = list.at;
+    let size = capped(len);
+    let mut i = within(size, k);
     if i == 0 {
-        return Qubits { at, len: 0 };
+        return 0;
     }
-    while i < len as usize {
+    while i < size as usize {
         at[i - 1] = at[i];
         i += 1;
     }
-    Qubits { at, len: len - 1 }
-}
-
-// The byte at a place, 0 past the end.
-fn byte(table: &[u8], at: usize) -> u8
-    ensures { λ r. ⌜ r ≡ byteAt (now (table .entry)) at ⌝ }
-{
-    if at < table.len() { table[at] } else { 0 }
-}
-
-// The number whose three bytes stand from a place on.
-fn written_at(table: &[u8], at: usize) -> Number
-    ensures { λ r. ⌜ r ≡ writtenAt (now (table .entry)) at ⌝ }
-{
-    if table.len() <= at {
-        return Number::Constant(0);
-    }
-    let constant = signed(byte(table, at + 1), byte(table, at + 2));
-    if table[at] == 0 {
-        return Number::Constant(constant);
-    }
-    Number::SizePlus(constant)
+    size - 1
 }
 
 // What the removals at a place leave of a list, "each from what the last one left"; their numbers take the size of the whole list. Place 0 has none.
@@ -157,16 +135,18 @@ pub fn remaining(table: &[u8], at: usize, list: Qubits) -> Qubits
     if table.len() <= at {
         return list;
     }
-    let mut rest = list;
+    let whole = size(list);
+    let mut rest = list.at;
+    let mut len = whole;
     let mut left = table[at];
     let mut place = at + 1;
     while 0 < left {
-        let k = value(written_at(table, place), size(list));
-        rest = remove(rest, k);
+        let k = value(written_at(table, place), whole);
+        len = remove(&mut rest, len, k);
         place += 3;
         left -= 1;
     }
-    rest
+    Qubits { at: rest, len }
 }
 
 // "NOT and qcase touch the entry at position a of the remaining list"; 0 where they touch nothing.

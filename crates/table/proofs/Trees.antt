@@ -17,10 +17,8 @@ use Rattle.model.specs.Reading.{conditionKind, statementKind, conditionOf, cond
 use Rattle.model.proofs.Tests.{byBool, byLt, clash}
 use Rattle.records.specs.declared.Record.{Record}
 use Rattle.records.specs.declared.Record.the-variants as kind
-use Rattle.records.specs.declared.Answer.the-variants as answer
-use Rattle.records.specs.Fields.{pick, byteAt, fieldsAt, recordAt, fieldsOf}
-use Rattle.records.proofs.Reader.{inputAt, byte-there, byte-lacks, fields-cases, record-again}
-use Rattle.records.proofs.Ends.{kindOf, record-ends}
+use Rattle.records.specs.Fields.{pick, byteAt, recordOf, recordAt, fieldsOf}
+use Rattle.records.proofs.Reader.{inputAt, byte-there, byte-lacks, kindOf, fields-cases, record-again}
 use Rattle.table.specs.declared.Tree.the-variants as tree
 use Rattle.table.specs.Index.{startOf, behindOf, testOf, testAt, statementOf, statementAt}
 use Rattle.table.specs.Reading.{Ran, ran, behindTree, noted, wanted, parts, contentsAt, many, refusal, behindFields}
@@ -249,7 +247,7 @@ module _ {A : Type 0} (p : ℕ) (bs : List ℕ) (at i : ℕ) (ix : List ℕ) (fo
   -- a record that was opened: its fields, and its children
   contents-agree :
       (map k : ℕ) (f : Fields → Input → Parsed A) (g : ℕ → Ran) → at + 2 ≤ length bs → k < 12 → at ≤ 2 + 30 * i →
-      ((r : Record) (next : ℕ) → i < 255 → fieldsAt p k (stands 0 map) bs (at + 2) ≡ answer.Record r next → kindOf r ≡ k →
+      ((r : Record) (next : ℕ) → i < 255 → recordOf p k (stands 0 map) bs (at + 2) ≡ r → kindOf r ≡ k →
       next ≤ 2 + 30 * (i + 1) →
       Agree bs i ix found (f (fieldsOf bs r) (inputAt bs next (i + 1))) (g next)) →
       Agree bs i ix found (contents p map k (inputAt bs (at + 2) i) f)
@@ -260,10 +258,9 @@ module _ {A : Type 0} (p : ℕ) (bs : List ℕ) (at i : ℕ) (ix : List ℕ) (fo
       (λ l. rw (lt-ltb i 255 l)
       (byBool (permitted k map)
       (λ t. rw (t, ← add-one i)
-      (fields-cases p k map bs (at + 2) (i + 1) (omega arith) t (λ q x. Agree bs i ix found (andThen q f) (behindFields x ix g))
-      (λ r next e.
-      let w = record-ends p k (stands 0 map) bs (at + 2) r next inside small e in
-      go r next l e (w .0) (omega (arith, w .1 .high)))
+      (fields-cases p k map bs (at + 2) (i + 1) (omega arith) inside small t
+      (λ q x. Agree bs i ix found (andThen q f) (behindFields x ix g))
+      (λ r next e is w. go r next l e is (omega (arith, w .high)))
       (λ m. refuses m ix)))
       (λ t. rw t (refuses 5 ix))))
       (λ l. rw (le-ltb i 255 l) (refuses 7 ix))
@@ -433,7 +430,7 @@ condition-agrees p bs (suc depth) at i ix near n =
     contents-agree p bs at i ix _ (byteAt bs at) (byteAt bs (at + 1)) _ _ inside small near λ r next h f q close.
     settled bs i ix _ conditionKind (λ w. conditionOf (condition p depth) w (fieldsOf bs r) (inputAt bs next (i + 1)))
     (λ k. childrenAt (treeAt p bs depth) k at next i ix) (kindOf r) (byteAt bs (at + 1)) what q e
-    (condition-of p bs depth at i ix h near n next close (condition-agrees p bs depth) r (record-again p bs at next r f))
+    (condition-of p bs depth at i ix h near n next close (condition-agrees p bs depth) r (record-again p bs at r f))
 
 -- a statement's tree is read at every place as the model reads it from the bytes from there on
 pub statement-agrees : (p : ℕ) (bs : List ℕ) (depth : ℕ) → Bodies p bs depth
@@ -447,4 +444,4 @@ statement-agrees p bs (suc depth) at i ix near n =
     (λ w. model.statementOf (condition p depth) (statement p depth) w (fieldsOf bs r) (inputAt bs next (i + 1)))
     (λ k. childrenAt (treeAt p bs depth) k at next i ix) (kindOf r) (byteAt bs (at + 1)) what q e
     (statement-of p bs depth at i ix h near n next close (condition-agrees p bs depth) (statement-agrees p bs depth) r
-    (record-again p bs at next r f))
+    (record-again p bs at r f))

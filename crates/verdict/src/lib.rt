@@ -31,7 +31,7 @@ fn judge_read(table: &[u8], index: &[u16], p: u8, n: u8) -> u8
     0
 }
 
-// "Order: 9; header 1, 2, 3; each record ..; 8; 10 over the whole table, then 11, then 12". The index is what walkers of the table need afterwards.
+// "Order: 9; header 1 .., 2, 3; each record ..; 8; 10 over the whole table, then 11, then 12". The index is what walkers of the table need afterwards.
 pub fn judge(table: &[u8], n: u32, index: &mut [u16; 544]) -> Judged
     ensures { λ r. ⌜ judgedAs r (now (table .entry)) (now (index .exit)) ≡ accepted (now (table .entry)) n ⌝ }
 {

@@ -1,8 +1,42 @@
-//! Safe bindings of `libfoq.a`, the proved operations on FOQ tables and
-//! circuits (document 01). What each promises stands in `host/include/foq.h`.
+//! FOQ programs from Rust: safe bindings of `libfoq.a`, whose code is proved.
+//!
+//! A *table* is a FOQ program as bytes. It works on n qubits, 1 to 32, and its
+//! only operator is NOT: from a basis state it ends in a basis state. Such a
+//! state is a *word*, in which qubit i is bit i − 1. A *circuit* is the same
+//! program as controlled NOTs and swaps, also as bytes.
+//!
+//! | Function | What it does |
+//! |---|---|
+//! | [`verdict`] | accepts a table, or refuses it |
+//! | [`run`] | runs a table from a start word to its end word |
+//! | [`compile`], [`compile_to_vec`] | translates a table into its circuit |
+//! | [`circuit_read`] | reads a circuit: its qubits, ancillas and gates |
+//! | [`circuit_run`] | runs a circuit from a start word |
+//!
+//! [`PAIRS`] is a table to try. Its circuit ends as its run does, whatever the
+//! word:
+//!
+//! ```
+//! use foq::{circuit_run, compile_to_vec, run, LEAST_WORKSPACE, PAIRS};
+//!
+//! let circuit = compile_to_vec(PAIRS, 3)?;
+//! for word in 0..8 {
+//!     let end = run(PAIRS, 3, word, &mut [0; LEAST_WORKSPACE])?;
+//!     assert_eq!(circuit_run(&circuit, word)?.word(), end);
+//! }
+//! # Ok::<(), foq::Refusal>(())
+//! ```
+//!
+//! Every input has its answer, a refusal with its number among them. The
+//! functions take no memory of their own but stack; [`verdict`], [`run`] and
+//! [`compile`] are lent a workspace of at least [`LEAST_WORKSPACE`] bytes, which
+//! may hold anything and is zero afterwards. What is proved of each answer, how
+//! much stack is enough, and what tables and circuits look like stands in
+//! `host/include/foq.h`.
 //!
 //! The functions here give a [`Result`]; those of [`border`] give the structs
-//! that C sees.
+//! that C sees. The archive must be there before this crate is built: `rt
+//! staticlib foq` in the repository makes it.
 
 pub mod border;
 mod refusal;
@@ -10,12 +44,17 @@ mod refusal;
 pub use border::{BLOCK_LENGTH, LEAST_WORKSPACE, MOST_CIRCUIT};
 pub use refusal::Refusal;
 
+/// A table to try, PAIRS of document 01. Its procedure flips its qubit where it
+/// has one; otherwise it calls itself without its first two qubits where these
+/// are alike.
+pub const PAIRS: &[u8] = include_bytes!("../../../examples/pairs.foq");
+
 /// A circuit's header.
 #[derive(Clone, Copy, Debug, PartialEq, Eq)]
 pub struct Circuit {
     /// The number of data wires, 1 to 32.
     pub qubits: u32,
-    /// The ancilla byte.
+    /// The number of ancillas.
     pub ancillas: u32,
     /// The number of gates.
     pub gates: u32,
@@ -26,7 +65,7 @@ pub struct Circuit {
 pub struct Block {
     /// The number of data wires.
     pub data: u8,
-    /// The number of ancillas.
+    /// The number of ancillas, whose wires follow the data wires.
     pub ancillas: u8,
     /// The wires' bits; those past the last wire are zero.
     pub bits: [u8; BLOCK_LENGTH],
@@ -34,6 +73,14 @@ pub struct Block {
 
 impl Block {
     /// The bit of a wire; wires count from 1, and there is no wire 0.
+    ///
+    /// ```
+    /// let circuit = foq::compile_to_vec(foq::PAIRS, 3)?;
+    /// let block = foq::circuit_run(&circuit, 0)?;
+    /// let wires: Vec<bool> = (1..=6).map(|wire| block.holds(wire)).collect();
+    /// assert_eq!(wires, [false, false, true, false, false, false]);
+    /// # Ok::<(), foq::Refusal>(())
+    /// ```
     #[must_use]
     pub fn holds(&self, wire: u8) -> bool {
         match wire.checked_sub(1) {
@@ -41,10 +88,32 @@ impl Block {
             None => false,
         }
     }
+
+    /// The word of the data wires.
+    ///
+    /// ```
+    /// let circuit = foq::compile_to_vec(foq::PAIRS, 3)?;
+    /// assert_eq!(foq::circuit_run(&circuit, 3)?.word(), 7);
+    /// # Ok::<(), foq::Refusal>(())
+    /// ```
+    #[must_use]
+    pub fn word(&self) -> u64 {
+        let wires = 1..=self.data.min(32);
+        let bits = wires.map(|wire| u64::from(self.holds(wire)) << (wire - 1));
+        bits.sum()
+    }
 }
 
 /// The verdict: whether a table is accepted for n qubits. The workspace is zero
 /// afterwards.
+///
+/// ```
+/// use foq::{verdict, Refusal, LEAST_WORKSPACE, PAIRS};
+///
+/// let workspace = &mut [0; LEAST_WORKSPACE];
+/// assert_eq!(verdict(PAIRS, 3, workspace), Ok(()));
+/// assert_eq!(verdict(PAIRS, 33, workspace), Err(Refusal::WRONG_QUBITS));
+/// ```
 ///
 /// # Errors
 /// [`Refusal::WRONG_QUBITS`]; then 1 to 8 in the order of the bytes; then
@@ -55,7 +124,15 @@ pub fn verdict(table: &[u8], n: u32, workspace: &mut [u8]) -> Result<(), Refusal
 }
 
 /// The run: the end word of a table on n qubits from a start word. The
-/// workspace is zero afterwards.
+/// workspace is zero afterwards. Nothing refuses a long run.
+///
+/// ```
+/// use foq::{run, Refusal, LEAST_WORKSPACE, PAIRS};
+///
+/// let workspace = &mut [0; LEAST_WORKSPACE];
+/// assert_eq!(run(PAIRS, 3, 0, workspace), Ok(4));
+/// assert_eq!(run(PAIRS, 3, 8, workspace), Err(Refusal::HIGH_BIT));
+/// ```
 ///
 /// # Errors
 /// Those of [`verdict`], with [`Refusal::HIGH_BIT`] before
@@ -69,6 +146,17 @@ pub fn run(table: &[u8], n: u32, word: u64, workspace: &mut [u8]) -> Result<u64,
 /// Compile: the circuit of a table on n qubits is written into the room, whose
 /// rest stays as it was; a refusal leaves all of it. Gives the circuit's bytes
 /// within the room. The workspace is zero afterwards.
+///
+/// ```
+/// use foq::{compile, Refusal, LEAST_WORKSPACE, PAIRS};
+///
+/// let workspace = &mut [0; LEAST_WORKSPACE];
+/// let room = &mut [0; 49];
+/// assert_eq!(compile(PAIRS, 3, room, workspace)?.len(), 49);
+/// let short = &mut [0; 48];
+/// assert_eq!(compile(PAIRS, 3, short, workspace), Err(Refusal::NO_ROOM));
+/// # Ok::<(), foq::Refusal>(())
+/// ```
 ///
 /// # Errors
 /// Those of [`verdict`]; then [`Refusal::NO_ROOM`] for the header, then
@@ -86,7 +174,34 @@ pub fn compile<'a>(
     Ok(&room[..length])
 }
 
+/// Compile with a room and a workspace of its own, in which every circuit has
+/// its place: the circuit's bytes.
+///
+/// ```
+/// let circuit = foq::compile_to_vec(foq::PAIRS, 3)?;
+/// // Edition, qubits, ancillas and four bytes of gate count.
+/// assert_eq!(circuit[..7], [1, 3, 3, 9, 0, 0, 0]);
+/// # Ok::<(), foq::Refusal>(())
+/// ```
+///
+/// # Errors
+/// Those of [`compile`].
+pub fn compile_to_vec(table: &[u8], n: u32) -> Result<Vec<u8>, Refusal> {
+    let mut room = vec![0; MOST_CIRCUIT];
+    let circuit = compile(table, n, &mut room, &mut vec![0; LEAST_WORKSPACE])?;
+    Ok(circuit.to_vec())
+}
+
 /// The circuit reader.
+///
+/// ```
+/// use foq::{circuit_read, compile_to_vec, Circuit, Refusal, PAIRS};
+///
+/// let header = Circuit { qubits: 3, ancillas: 3, gates: 9 };
+/// assert_eq!(circuit_read(&compile_to_vec(PAIRS, 3)?), Ok(header));
+/// assert_eq!(circuit_read(PAIRS), Err(Refusal::NOT_WELL_FORMED));
+/// # Ok::<(), foq::Refusal>(())
+/// ```
 ///
 /// # Errors
 /// [`Refusal::NOT_WELL_FORMED`].
@@ -101,6 +216,14 @@ pub fn circuit_read(circuit: &[u8]) -> Result<Circuit, Refusal> {
 }
 
 /// The circuit run, from a start word.
+///
+/// ```
+/// // A NOT of wire 2 under wire 1: two qubits, no ancilla, one gate.
+/// let circuit = [1, 2, 0, 1, 0, 0, 0, 1, 2, 1, 1];
+/// assert_eq!(foq::circuit_run(&circuit, 0b01)?.word(), 0b11);
+/// assert_eq!(foq::circuit_run(&circuit, 0b10)?.word(), 0b10);
+/// # Ok::<(), foq::Refusal>(())
+/// ```
 ///
 /// # Errors
 /// [`Refusal::NOT_WELL_FORMED`], then [`Refusal::HIGH_BIT`].

@@ -49,6 +49,13 @@ refusals! {
 
 impl Refusal {
     /// The number, as document 01 has it.
+    ///
+    /// ```
+    /// let refusal = foq::compile_to_vec(&[], 3).unwrap_err();
+    /// assert_eq!(refusal, foq::Refusal::TABLE_STOPS);
+    /// assert_eq!(refusal.number(), 1);
+    /// assert_eq!(refusal.to_string(), "refusal 1: the table stops too soon");
+    /// ```
     #[must_use]
     pub fn number(self) -> u32 {
         self.0

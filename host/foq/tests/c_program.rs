@@ -1,106 +1,44 @@
-//! The C programs of `host/c`, compiled and run, say what the bindings say.
-//! Where their input is empty they hand over a null pointer.
+//! The C programs of `host/c`, compiled as C11 and as C++ and run, say what the
+//! bindings say.
 
-use foq::{circuit_read, circuit_run, run, verdict, Block, Circuit, Refusal, LEAST_WORKSPACE};
+mod programs;
+
+use foq::border::{self, Answer};
+use foq::{circuit_read, circuit_run, compile_to_vec, run, verdict, Refusal};
+use foq::{LEAST_WORKSPACE, MOST_CIRCUIT, PAIRS};
 use foq_generator::circuits::{circuit, circuit_of, sizes};
 use foq_generator::damage::damaged;
 use foq_generator::programs::{program, SMALL};
-use foq_generator::tables::{full, two_in_sequence, without_removal};
+use foq_generator::tables::{
+    every_kind, full, nested_classes, one_in_each_branch, sixteen_in_turn, two_in_sequence,
+    without_removal,
+};
 use foq_generator::tree::{encode, not, table, Statement};
-use foq_generator::{Random, PAIRS};
-use foq_reference::{compile, LONGEST_CIRCUIT, SHORTEST_WORKSPACE};
-use std::io::Write;
+use foq_generator::Random;
+use foq_reference::{read_circuit, Action, Control, Gate};
+use programs::{compiled, example, flags, output, printed, scratch, C11, CPP, SANITIZED};
+use std::collections::BTreeMap;
+use std::fs;
 use std::path::{Path, PathBuf};
-use std::process::{Command, Output, Stdio};
 
-/// A path within the repository.
-fn repository(path: &str) -> PathBuf {
-    Path::new(env!("CARGO_MANIFEST_DIR"))
-        .join("../..")
-        .join(path)
-}
-
-/// Compiles the program of this name, with every warning an error.
-fn compiled(name: &str) -> PathBuf {
-    let program = Path::new(env!("CARGO_TARGET_TMPDIR")).join(name);
-    let status = Command::new("cc")
-        .args(["-std=c11", "-Wall", "-Wextra", "-Werror", "-O2", "-I"])
-        .arg(repository("host/include"))
-        .arg(repository("host/c").join(name).with_extension("c"))
-        .arg(repository("target/staticlib/libfoq.a"))
-        .arg("-o")
-        .arg(&program)
-        .status();
-    assert!(status.unwrap().success());
-    program
-}
-
-/// Runs the program on its input with these arguments.
-fn output(program: &Path, arguments: &[&str], bytes: &[u8]) -> Output {
-    let mut child = Command::new(program)
-        .args(arguments)
-        .stdin(Stdio::piped())
-        .stdout(Stdio::piped())
-        .stderr(Stdio::piped())
-        .spawn()
-        .unwrap();
-    let mut input = child.stdin.take().unwrap();
-    // A program that wants no more input than it has read closes the pipe.
-    let _ = input.write_all(bytes);
-    drop(input);
-    child.wait_with_output().unwrap()
-}
-
-/// What the program prints for its input and these numbers.
-fn printed(program: &Path, bytes: &[u8], numbers: &[u64]) -> String {
-    let arguments: Vec<String> = numbers.iter().map(u64::to_string).collect();
-    let arguments: Vec<&str> = arguments.iter().map(String::as_str).collect();
-    let output = output(program, &arguments, bytes);
-    assert!(output.stderr.is_empty(), "{output:?}");
-    assert!(output.status.success());
-    String::from_utf8(output.stdout).unwrap()
-}
-
-fn refused_line(refusal: Refusal) -> String {
-    format!("refused {}\n", refusal.number())
-}
-
-fn header_line(read: Result<Circuit, Refusal>) -> String {
-    match read {
-        Ok(Circuit {
-            qubits,
-            ancillas,
-            gates,
-        }) => format!("{qubits} qubits, {ancillas} ancillas, {gates} gates\n"),
-        Err(refusal) => refused_line(refusal),
+#[test]
+fn the_example_of_the_header_runs() {
+    let source = example("example.c");
+    for (compiler, name) in [(C11, "example-c"), (CPP, "example-cpp")] {
+        let program = programs::compile(&source, compiler, name, &flags());
+        assert_eq!(printed(&program, &[], &[]), b"7 and 7\n");
     }
-}
-
-fn wires_line(ran: Result<Block, Refusal>) -> String {
-    match ran {
-        Ok(block) => {
-            let wires = 1..=block.data + block.ancillas;
-            let bits = wires.map(|wire| if block.holds(wire) { '1' } else { '0' });
-            format!("wires {}\n", bits.collect::<String>())
-        }
-        Err(refusal) => refused_line(refusal),
-    }
-}
-
-/// What the bindings make the circuit program print.
-fn circuit_lines(circuit: &[u8], word: u64) -> String {
-    header_line(circuit_read(circuit)) + &wires_line(circuit_run(circuit, word))
 }
 
 /// The circuit of PAIRS.
 fn pairs(n: u32) -> Vec<u8> {
-    compile(PAIRS, n, LONGEST_CIRCUIT, SHORTEST_WORKSPACE).unwrap()
+    compile_to_vec(PAIRS, n).unwrap()
 }
 
 /// Circuits and words of every answer, and some at random.
 fn circuits() -> Vec<(Vec<u8>, u64)> {
     let mut random = Random::from_seed(41);
-    let nots: Vec<[u8; 2]> = vec![[0, 1]; LONGEST_CIRCUIT / 2];
+    let nots: Vec<[u8; 2]> = vec![[0, 1]; MOST_CIRCUIT / 2];
     let mut inputs = vec![
         (vec![], 0),
         (vec![], u64::MAX),
@@ -109,9 +47,9 @@ fn circuits() -> Vec<(Vec<u8>, u64)> {
         (pairs(32), (1 << 32) - 1),
         (pairs(32), 1 << 32),
         (circuit(&mut random, 32, 223, 100), 0x1234_5678),
-        (circuit(&mut random, 32, 223, LONGEST_CIRCUIT), 0x8765_4321),
+        (circuit(&mut random, 32, 223, MOST_CIRCUIT), 0x8765_4321),
         (circuit_of(32, 224, &nots[..1]), 0),
-        (circuit_of(1, 0, &nots[..(LONGEST_CIRCUIT - 7) / 2]), 1),
+        (circuit_of(1, 0, &nots[..(MOST_CIRCUIT - 7) / 2]), 1),
         (circuit_of(1, 0, &nots), 1),
     ];
     inputs.extend((0..8).map(|word| (pairs(3), word)));
@@ -125,42 +63,6 @@ fn circuits() -> Vec<(Vec<u8>, u64)> {
     inputs
 }
 
-#[test]
-fn the_circuit_program_prints_what_the_bindings_say() {
-    let program = compiled("circuit");
-    let (mut blocks, mut high_bits, mut not_well_formed) = (0, 0, 0);
-    for (circuit, word) in circuits() {
-        let expected = circuit_lines(&circuit, word);
-        assert_eq!(printed(&program, &circuit, &[word]), expected);
-        blocks += usize::from(expected.contains("wires"));
-        high_bits += usize::from(expected.contains("refused 13"));
-        not_well_formed += usize::from(expected.contains("refused 14"));
-    }
-    println!("{blocks} blocks, {high_bits} of 13, {not_well_formed} of 14");
-    assert!(blocks >= 30 && high_bits >= 20 && not_well_formed >= 30);
-    let shown = printed(&program, &pairs(3), &[0]);
-    assert_eq!(shown, "3 qubits, 3 ancillas, 9 gates\nwires 001000\n");
-    let refused = printed(&program, &[], &[0]);
-    assert_eq!(refused, "refused 14\nrefused 14\n");
-    for arguments in [&[][..], &["-1"], &["x"], &["18446744073709551616"]] {
-        assert!(!output(&program, arguments, &pairs(3)).status.success());
-    }
-}
-
-/// What the bindings make the table program print, with a workspace of this
-/// length.
-fn table_lines(table: &[u8], n: u32, word: u64, length: usize) -> String {
-    let judged = match verdict(table, n, &mut vec![1; length]) {
-        Ok(()) => "accepted\n".to_string(),
-        Err(refusal) => refused_line(refusal),
-    };
-    let ran = match run(table, n, word, &mut vec![1; length]) {
-        Ok(end) => format!("end word {end}\n"),
-        Err(refusal) => refused_line(refusal),
-    };
-    judged + &ran
-}
-
 /// Tables, numbers of qubits and words of every answer, and some at random.
 fn tables() -> Vec<(Vec<u8>, u32, u64)> {
     let mut random = Random::from_seed(42);
@@ -168,7 +70,7 @@ fn tables() -> Vec<(Vec<u8>, u32, u64)> {
     let mut tables = vec![
         (vec![], 3, 0),
         (vec![], 0, 0),
-        (vec![1; 1 << 20], 3, 0),
+        (vec![1; 1 << 17], 3, 0),
         (table(full(8), &[]), 32, u64::from(u32::MAX)),
         (table(full(8), &[Statement::Skip]), 3, 0),
         (vec![2, 0, 0, 0], 3, 0),
@@ -177,6 +79,7 @@ fn tables() -> Vec<(Vec<u8>, u32, u64)> {
         (vec![1, 0, 1, 0], 3, 0),
         (vec![1, 0, 8, 5, 1], 3, 0),
         (vec![1, 0, 0, 0, 0], 3, 0),
+        (vec![1, 0, 0, 0], 1, 0),
         (without_removal(), 3, 0),
         (two_in_sequence(), 3, 0),
         (table(not(0), &[]), 3, 8),
@@ -186,6 +89,10 @@ fn tables() -> Vec<(Vec<u8>, u32, u64)> {
         (pairs.clone(), 33, 0),
         (pairs.clone(), u32::MAX, u64::MAX),
         ([&pairs[..], &[0; 1 << 16]].concat(), 3, 0),
+        (one_in_each_branch(), 20, 0xA_BCDE),
+        (every_kind(), 32, 0x89AB_CDEF),
+        (sixteen_in_turn(), 16, 1),
+        (nested_classes(3), 32, 1),
     ];
     tables.extend((0..8).map(|word| (pairs.clone(), 3, word)));
     for _ in 0..40 {
@@ -198,48 +105,313 @@ fn tables() -> Vec<(Vec<u8>, u32, u64)> {
     tables
 }
 
-#[test]
-fn the_table_program_prints_what_the_bindings_say() {
-    let program = compiled("table");
-    let mut refusals: Vec<u32> = vec![];
-    let mut ends = 0;
-    for (table, n, word) in tables() {
-        let expected = table_lines(&table, n, word, LEAST_WORKSPACE);
-        let numbers = [u64::from(n), word];
-        assert_eq!(printed(&program, &table, &numbers), expected);
-        for length in [0, 1, LEAST_WORKSPACE - 1, LEAST_WORKSPACE, 40_000] {
-            let expected = table_lines(&table, n, word, length);
-            let numbers = [u64::from(n), word, length as u64];
-            assert_eq!(printed(&program, &table, &numbers), expected);
-            refusals.extend(refusal_numbers(&expected));
+fn refused_line(refusal: Refusal) -> String {
+    format!("refused {}\n", refusal.number())
+}
+
+/// The lines of a well-formed circuit's gates, as the second interpreter reads
+/// them.
+fn gate_lines(circuit: &[u8]) -> String {
+    let gates = read_circuit(circuit).unwrap().gates;
+    let line = |(number, gate): (usize, Gate)| {
+        let mut line = match gate.action {
+            Action::Not { target } => format!("{number} X {target}"),
+            Action::Swap { lower, upper } => format!("{number} S {lower} {upper}"),
+        };
+        for Control { wire, asks } in gate.controls {
+            line += &format!(" {}{wire}", if asks { '+' } else { '-' });
         }
-        ends += usize::from(expected.contains("end word"));
+        line + "\n"
+    };
+    (1..).zip(gates).map(line).collect()
+}
+
+/// What the tool is to print of a circuit.
+fn circuit_lines(circuit: &[u8], word: u64) -> String {
+    let read = match circuit_read(circuit) {
+        Ok(header) => format!(
+            "{} qubits, {} ancillas, {} gates\n{}",
+            header.qubits,
+            header.ancillas,
+            header.gates,
+            gate_lines(circuit)
+        ),
+        Err(refusal) => refused_line(refusal),
+    };
+    let ran = match circuit_run(circuit, word) {
+        Ok(block) => {
+            let wires = 1..=block.data + block.ancillas;
+            let bits = wires.map(|wire| if block.holds(wire) { '1' } else { '0' });
+            format!("wires {}\n", bits.collect::<String>())
+        }
+        Err(refusal) => refused_line(refusal),
+    };
+    read + &ran
+}
+
+/// What the tool is to print of a table.
+fn table_lines(table: &[u8], n: u32, word: u64) -> String {
+    let workspace = &mut vec![1; LEAST_WORKSPACE];
+    let judged = match verdict(table, n, workspace) {
+        Ok(()) => "accepted\n".to_string(),
+        Err(refusal) => refused_line(refusal),
+    };
+    let ran = match run(table, n, word, workspace) {
+        Ok(end) => format!("end word {end}\n"),
+        Err(refusal) => refused_line(refusal),
+    };
+    let compiled = match compile_to_vec(table, n) {
+        Ok(circuit) => {
+            let length = circuit.len();
+            format!("circuit of {length} bytes\n") + &circuit_lines(&circuit, word)
+        }
+        Err(refusal) => refused_line(refusal),
+    };
+    judged + &ran + &compiled
+}
+
+/// The tool, as C and as C++.
+struct Tools([PathBuf; 2]);
+
+impl Tools {
+    fn compiled(name: &str) -> Tools {
+        Tools([(C11, "c"), (CPP, "cpp")].map(|(compiler, language)| {
+            compiled("foq_tool.c", compiler, &format!("{name}-{language}"))
+        }))
     }
-    refusals.sort_unstable();
-    refusals.dedup();
-    println!("{ends} end words, refusals {refusals:?}");
-    assert!(ends >= 40);
-    assert_eq!(refusals, [1, 2, 3, 4, 5, 6, 7, 8, 9, 10, 11, 12, 13, 21]);
-    let shown = printed(&program, PAIRS, &[3, 0]);
-    assert_eq!(shown, "accepted\nend word 4\n");
-    let refused = printed(&program, &[], &[3, 0]);
-    assert_eq!(refused, "refused 1\nrefused 1\n");
-    for arguments in [
-        &["3"][..],
-        &["-1", "0"],
-        &["4294967296", "0"],
-        &["3", "18446744073709551616"],
-        &["3", "0", "65537"],
-        &["3", "0", "0", "0"],
-    ] {
-        assert!(!output(&program, arguments, PAIRS).status.success());
+
+    /// Asserts that both print this for their input.
+    fn assert_print(&self, arguments: &[&str], input: &[u8], expected: &str) {
+        for tool in &self.0 {
+            let printed = printed(tool, arguments, input);
+            assert_eq!(String::from_utf8_lossy(&printed), expected);
+        }
+    }
+
+    /// Asserts that both refuse to run.
+    fn assert_fail(&self, arguments: &[&str]) {
+        for tool in &self.0 {
+            assert!(!output(tool, arguments, PAIRS).status.success());
+        }
     }
 }
 
-/// The numbers of the refusals among these lines.
-fn refusal_numbers(lines: &str) -> Vec<u32> {
+/// How many answers of each number there are.
+type Numbers = BTreeMap<u32, usize>;
+
+/// Counts the refusals among these lines.
+fn count_refusals(lines: &str, numbers: &mut Numbers) {
     let refused = lines
         .lines()
         .filter_map(|line| line.strip_prefix("refused "));
-    refused.map(|number| number.parse().unwrap()).collect()
+    for number in refused {
+        *numbers.entry(number.parse().unwrap()).or_default() += 1;
+    }
+}
+
+#[test]
+fn the_tool_shows_tables_as_the_bindings_do() {
+    let tools = Tools::compiled("table-tool");
+    let file = scratch("tool.circuit");
+    let (mut circuits, mut refusals) = (0, Numbers::new());
+    for (table, n, word) in tables() {
+        let expected = table_lines(&table, n, word);
+        count_refusals(&expected, &mut refusals);
+        let (qubits, word) = (n.to_string(), word.to_string());
+        let arguments = ["table", "/dev/stdin", &qubits, &word];
+        tools.assert_print(&arguments, &table, &expected);
+        if let Ok(circuit) = compile_to_vec(&table, n) {
+            let with_file = [&arguments[..], &[file.to_str().unwrap()]].concat();
+            tools.assert_print(&with_file, &table, &expected);
+            assert_eq!(fs::read(&file).unwrap(), circuit);
+            circuits += 1;
+        }
+    }
+    println!("{circuits} circuits, refusals {refusals:?}");
+    assert!(circuits >= 40);
+    let all = [1, 2, 3, 4, 5, 6, 7, 8, 9, 10, 11, 12, 13, 22, 23];
+    assert!(refusals.keys().eq(&all));
+    let worked = "accepted\nend word 4\ncircuit of 49 bytes\n3 qubits, 3 ancillas, 9 gates\n\
+        1 X 4\n2 X 5 -1 -2 +4\n3 X 6 +1 +2 +4\n4 X 5 +6\n5 X 3 +5\n6 X 5 +6\n\
+        7 X 6 +1 +2 +4\n8 X 5 -1 -2 +4\n9 X 4\nwires 001000\n";
+    tools.assert_print(&["table", "/dev/stdin", "3", "0x0"], PAIRS, worked);
+}
+
+#[test]
+fn the_tool_shows_circuits_as_the_bindings_do() {
+    let tools = Tools::compiled("circuit-tool");
+    let (mut blocks, mut refusals) = (0, Numbers::new());
+    for (circuit, word) in circuits() {
+        let expected = circuit_lines(&circuit, word);
+        blocks += usize::from(expected.contains("wires"));
+        count_refusals(&expected, &mut refusals);
+        let arguments = ["circuit", "/dev/stdin", &word.to_string()];
+        tools.assert_print(&arguments, &circuit, &expected);
+    }
+    println!("{blocks} blocks, refusals {refusals:?}");
+    assert!(blocks >= 30 && refusals[&13] >= 20 && refusals[&14] >= 30);
+    for arguments in [
+        &["circuit", "/dev/stdin"][..],
+        &["circuit", "/dev/stdin", "-1"],
+        &["circuit", "/dev/stdin", "18446744073709551616"],
+        &["circuit", "/dev/stdin", "0", "0"],
+        &["circuit", "/nowhere", "0"],
+        &["table", "/dev/stdin", "3", "x"],
+        &["table", "/dev/stdin", "4294967296", "0"],
+        &["table", "/dev/stdin", "3", "0", "/nowhere/circuit"],
+        &["tables", "/dev/stdin", "3", "0"],
+        &[],
+    ] {
+        tools.assert_fail(arguments);
+    }
+}
+
+/// What the border program is to call the functions with.
+struct Case {
+    bytes: Vec<u8>,
+    n: u32,
+    word: u64,
+    room: usize,
+    workspace: usize,
+}
+
+impl Case {
+    /// As the program reads it.
+    fn encoded(&self) -> Vec<u8> {
+        let Case { n, word, room, .. } = self;
+        let (workspace, length) = (self.workspace, self.bytes.len());
+        let line = format!("{n} {word} {room} {workspace} {length}\n");
+        [line.as_bytes(), &self.bytes].concat()
+    }
+
+    /// The answer of compile, and what stands in the room.
+    fn compiled(&self) -> (Answer, Vec<u8>) {
+        let mut room = vec![2; self.room];
+        let workspace = &mut vec![1; self.workspace];
+        let answer = border::compile(&self.bytes, self.n, &mut room, workspace);
+        room.truncate(answer.value as usize);
+        (answer, room)
+    }
+
+    /// What the program is to print.
+    fn expected(&self) -> Vec<u8> {
+        let (bytes, n, word) = (&self.bytes, self.n, self.word);
+        let workspace = &mut vec![1; self.workspace];
+        let judged = border::verdict(bytes, n, workspace);
+        let ran = border::run(bytes, n, word, workspace);
+        let (compiled, circuit) = self.compiled();
+        let header = border::circuit_read(bytes);
+        let block = border::circuit_run(bytes, word);
+        let bits: String = block
+            .bits
+            .iter()
+            .map(|byte| format!("{byte:02x}"))
+            .collect();
+        let line = format!(
+            "{judged} | {} {} | {} {} | {} {} {} {} | {} {} {} {bits}\n",
+            ran.number,
+            ran.value,
+            compiled.number,
+            compiled.value,
+            header.number,
+            header.qubits,
+            header.ancillas,
+            header.gates,
+            block.number,
+            block.data,
+            block.ancillas,
+        );
+        [line.as_bytes(), &circuit].concat()
+    }
+}
+
+/// Workspaces and rooms to try a table with: each workspace beside a long
+/// room, and each room, about the length of the circuit too, beside a
+/// workspace that is just long enough.
+fn lengths(circuit: usize) -> Vec<(usize, usize)> {
+    let enough = [0, 1, LEAST_WORKSPACE - 1, LEAST_WORKSPACE, 40_000];
+    let spaces = enough.map(|workspace| (MOST_CIRCUIT, workspace));
+    let mut rooms = vec![0, 1, 6, 7, 8, MOST_CIRCUIT - 1, MOST_CIRCUIT + 9];
+    rooms.extend([circuit.saturating_sub(1), circuit, circuit + 1]);
+    let rooms = rooms.into_iter().map(|room| (room, LEAST_WORKSPACE));
+    spaces.into_iter().chain(rooms).collect()
+}
+
+/// Tables with many rooms and workspaces, and circuits.
+fn cases() -> Vec<Case> {
+    let mut cases = Vec::new();
+    for (bytes, n, word) in tables() {
+        let circuit = compile_to_vec(&bytes, n).map_or(0, |circuit| circuit.len());
+        for (room, workspace) in lengths(circuit) {
+            let bytes = bytes.clone();
+            cases.push(Case {
+                bytes,
+                n,
+                word,
+                room,
+                workspace,
+            });
+        }
+    }
+    cases.extend(circuits().into_iter().map(|(bytes, word)| Case {
+        bytes,
+        n: 3,
+        word,
+        room: 0,
+        workspace: 0,
+    }));
+    cases
+}
+
+/// Asserts that the border program, started like this, says what the bindings
+/// say of every case.
+fn assert_border(program: &Path, arguments: &[&str], cases: &[Case]) {
+    let input: Vec<u8> = cases.iter().flat_map(Case::encoded).collect();
+    let printed = printed(program, arguments, &input);
+    let mut rest = &printed[..];
+    for case in cases {
+        let expected = case.expected();
+        let given = &rest[..expected.len().min(rest.len())];
+        assert_eq!(
+            String::from_utf8_lossy(given),
+            String::from_utf8_lossy(&expected)
+        );
+        rest = &rest[expected.len()..];
+    }
+    assert!(rest.is_empty());
+}
+
+#[test]
+fn every_function_answers_at_the_border_as_the_bindings_say() {
+    let cases = cases();
+    for (compiler, name) in [
+        (C11, "border-c"),
+        (CPP, "border-cpp"),
+        (SANITIZED, "border-sanitized"),
+    ] {
+        assert_border(&compiled("border.c", compiler, name), &[], &cases);
+    }
+    let mut numbers = Numbers::new();
+    let (mut exact, mut one_less, mut null) = (0, 0, 0);
+    for case in &cases {
+        let (answer, circuit) = case.compiled();
+        *numbers.entry(answer.number).or_default() += 1;
+        exact += usize::from(answer.number == 0 && circuit.len() == case.room);
+        let whole = compile_to_vec(&case.bytes, case.n);
+        let lacks_one = whole.is_ok_and(|whole| whole.len() == case.room + 1);
+        one_less += usize::from(answer.number == 23 && lacks_one);
+        null += usize::from(answer.number == 23 && case.room == 0);
+    }
+    println!("{numbers:?}; {exact} rooms exact, {one_less} one less, {null} null");
+    assert!(exact >= 40 && one_less >= 40 && null >= 40);
+    let all = [0, 1, 2, 3, 4, 5, 6, 7, 8, 9, 10, 11, 12, 21, 22, 23];
+    assert!(numbers.keys().eq(&all));
+}
+
+#[test]
+#[ignore = "needs valgrind, and takes a minute"]
+fn nothing_unset_is_used_at_the_border() {
+    let program = compiled("border.c", C11, "border-valgrind");
+    let arguments = ["--quiet", "--error-exitcode=1", program.to_str().unwrap()];
+    assert_border(Path::new("valgrind"), &arguments, &cases());
 }

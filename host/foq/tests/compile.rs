@@ -8,7 +8,7 @@ mod answers;
 mod counts;
 mod lent;
 mod room;
-mod stack;
+mod small_stack;
 mod steps;
 
 use answers::{answer, tables_in_order};
@@ -29,7 +29,7 @@ use foq_reference::{
 };
 use lent::{Workspace, LENGTHS};
 use room::Room;
-use stack::on_that_stack;
+use small_stack::on_that_stack;
 use std::time::{Duration, Instant};
 use steps::count_steps;
 

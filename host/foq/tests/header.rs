@@ -1,7 +1,9 @@
-//! The constants of `foq.h`, of the bindings and of the definitions that the
-//! proofs cite are the same ones.
+//! The constants of `foq.h` are those of the definitions that the proofs cite,
+//! of the bindings, and of the bytes that tables and circuits are made of.
 
-use foq::{Refusal, BLOCK_LENGTH, LEAST_WORKSPACE};
+use foq::{Refusal, BLOCK_LENGTH, LEAST_WORKSPACE, MOST_CIRCUIT};
+use foq_generator::tree::{choose, not, sequence, table, Condition, Number, Statement};
+use foq_reference::{circuit_bytes, Action, Circuit, Control, Gate};
 use std::collections::BTreeMap;
 
 const HEADER: &str = include_str!("../../include/foq.h");
@@ -18,6 +20,15 @@ fn defined() -> Constants {
         let name = words.next()?.to_string();
         let number = words.next()?.strip_suffix('u')?.parse().ok()?;
         Some((name, number))
+    });
+    constants.collect()
+}
+
+/// The constants of the header whose name begins so, without that.
+fn defined_as(beginning: &str) -> Constants {
+    let constants = defined().into_iter().filter_map(|(name, number)| {
+        let rest = name.strip_prefix(beginning)?;
+        Some((rest.to_string(), number))
     });
     constants.collect()
 }
@@ -46,24 +57,107 @@ fn in_capitals(name: &str) -> String {
 
 #[test]
 fn the_header_has_the_constants_of_the_definitions() {
-    assert_eq!(defined(), proved());
-    assert_eq!(defined().len(), 30);
+    let mut limits = defined();
+    let others = ["KIND_", "MAP_", "BASE_", "GATE_", "ENOUGH_STACK"];
+    limits.retain(|name, _| !others.iter().any(|other| name.starts_with(other)));
+    assert_eq!(limits, proved());
+    assert_eq!(limits.len(), 30);
 }
 
 #[test]
-fn the_bindings_have_the_refusals_of_the_header() {
+fn the_bindings_have_the_constants_of_the_header() {
     let defined = defined();
     for (name, refusal) in Refusal::ALL {
-        assert_eq!(defined.get(*name), Some(&refusal.number()));
+        assert_eq!(defined[*name], refusal.number());
     }
     assert_eq!(Refusal::ALL.len(), 17);
-    let lengths = [
+    for (name, length) in [
         ("BLOCK_LENGTH", BLOCK_LENGTH),
         ("LEAST_WORKSPACE", LEAST_WORKSPACE),
-    ];
-    for (name, length) in lengths {
-        assert_eq!(defined.get(name), Some(&(length as u32)));
+        ("MOST_CIRCUIT", MOST_CIRCUIT),
+    ] {
+        assert_eq!(defined[name], length as u32);
     }
+}
+
+/// Asserts that a record begins with the map of these fields and this kind.
+fn assert_record(record: &[u8], fields: &[&str], kind: &str) {
+    let maps = defined_as("MAP_");
+    let map: u32 = fields.iter().map(|field| maps[*field]).sum();
+    let kind = defined_as("KIND_")[kind];
+    assert_eq!([record[0], record[1]].map(u32::from), [map, kind]);
+}
+
+#[test]
+fn the_header_has_the_kinds_and_maps_of_statements() {
+    let one = Number::Constant(1);
+    let skip = || Box::new(Statement::Skip);
+    let yes = Condition::Equal(one, one);
+    let touching: &[&str] = &["REMOVALS", "A"];
+    let calling: &[&str] = &["REMOVALS", "PROCEDURE"];
+    for (kind, fields, statement) in [
+        ("SKIP", &[][..], Statement::Skip),
+        ("NOT", touching, Statement::Not(vec![one], one)),
+        ("SEQUENCE", &[], Statement::Sequence(skip(), skip())),
+        ("IF", &[], Statement::If(yes, skip(), skip())),
+        (
+            "QCASE",
+            touching,
+            Statement::Qcase(vec![one], one, skip(), skip()),
+        ),
+        ("CALL", calling, Statement::Call(vec![one], 1)),
+    ] {
+        assert_record(&table(statement, &[])[2..], fields, kind);
+    }
+}
+
+#[test]
+fn the_header_has_the_kinds_and_maps_of_conditions() {
+    let one = Number::Constant(1);
+    let yes = || Box::new(Condition::Equal(one, one));
+    let comparing: &[&str] = &["A", "B"];
+    for (kind, fields, condition) in [
+        ("GREATER", comparing, Condition::Greater(one, one)),
+        ("AT_LEAST", comparing, Condition::AtLeast(one, one)),
+        ("EQUAL", comparing, Condition::Equal(one, one)),
+        ("AND", &[], Condition::And(yes(), yes())),
+        ("OR", &[], Condition::Or(yes(), yes())),
+        ("NEGATION", &[], Condition::Not(yes())),
+    ] {
+        let main = choose(condition, Statement::Skip, Statement::Skip);
+        assert_record(&table(main, &[])[4..], fields, kind);
+    }
+    assert_eq!(defined_as("KIND_").len(), 12);
+    assert_eq!(defined_as("MAP_").len(), 4);
+}
+
+#[test]
+fn the_header_has_the_bases_of_numbers() {
+    let size = Statement::Not(vec![], Number::SizePlus(0));
+    let bytes = table(sequence(not(1), size), &[]);
+    let bases = defined_as("BASE_");
+    assert_eq!(u32::from(bytes[6]), bases["CONSTANT"]);
+    assert_eq!(u32::from(bytes[11]), bases["SIZE"]);
+    assert_eq!(bases.len(), 2);
+}
+
+#[test]
+fn the_header_has_the_maps_of_gates() {
+    let control = |asks| Control { wire: 3, asks };
+    let target = Action::Not { target: 1 };
+    let swap = Action::Swap { lower: 1, upper: 2 };
+    let maps = defined_as("GATE_");
+    for (name, action, controls) in [
+        ("ON_ONE", target, vec![control(true)]),
+        ("ON_ZERO", target, vec![control(false)]),
+        ("SWAP", swap, vec![]),
+    ] {
+        let gates = vec![Gate { action, controls }];
+        let (n, ancillas) = (3, 0);
+        let bytes = circuit_bytes(&Circuit { n, ancillas, gates });
+        assert_eq!(u32::from(bytes[7]), maps[name]);
+    }
+    assert_eq!(maps.len(), 3);
 }
 
 #[test]

@@ -6,7 +6,7 @@
 mod answers;
 mod counts;
 mod lent;
-mod stack;
+mod small_stack;
 mod steps;
 
 use answers::{answer, tables_in_order};
@@ -22,7 +22,7 @@ use foq_generator::tree::{encode, table, Statement};
 use foq_generator::{Random, PAIRS};
 use foq_reference::{emission, read_table, run, LONGEST_CIRCUIT, SHORTEST_WORKSPACE};
 use lent::{Workspace, LENGTHS};
-use stack::on_that_stack;
+use small_stack::on_that_stack;
 use steps::count_steps;
 
 /// Asks the product and the second interpreter.

@@ -6,6 +6,7 @@ use borrow.Fn.PlainCycle.{Measures, is, falls, and}
 use Rattle.events.proofs.emit_swaps.Reads as emit-swaps
 use Rattle.events.proofs.emit_swaps.Kinds as emit-swaps-kinds
 use Rattle.events.proofs.+emit_swaps.Lts-emit_swaps as emit-swaps-lts
+use Rattle.events.proofs.differ_from.Reads as differ-from-reads
 use Rattle.events.proofs.emit_swap.Reads as emit-swap-reads
 use Rattle.events.proofs.entry_at.Reads as entry-at-reads
 use Rattle.events.proofs.exchanged.Reads as exchanged-reads
@@ -26,29 +27,28 @@ emit-swaps-below t =
 
 pub +emit-swaps-spec : {M : Type 1} → statement M
 +emit-swaps-spec = close μ-emit-swaps λ t. emit-swaps-lts.spec (
+  differ-from-reads.Asked,
+  differ-from-reads.Learnt,
   size-reads.Asked,
   size-reads.Learnt,
   entry-at-reads.Asked,
   entry-at-reads.Learnt,
-  emit-swaps-below t,
-  emit-swaps.Post,
   exchanged-reads.Asked,
   exchanged-reads.Learnt,
+  emit-swaps-below t,
+  emit-swaps.Post,
   emit-swap-reads.Asked,
   emit-swap-reads.Learnt,
 )
     (emit-swaps-at t)
     emit-swaps.Post
     (λ c κs. search swapping)
-    (λ c. search swapping)
-    (λ c κs. search swapping)
-    (λ c. search swapping)
-    (λ c κs. search swapping)
     (λ c κs. search swapping)
     (λ c. search swapping)
     (λ c κs. search swapping)
     (λ c. search swapping)
-    (λ c. search swapping)
+    (λ c κs. search swapping)
+    (λ c κs. search swapping)
     (λ c κs. search swapping)
     (λ c. search swapping)
     (λ c κs. search swapping)

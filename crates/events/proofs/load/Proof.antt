@@ -1,17 +1,20 @@
--- `load` meets its contract: each way out is one law.
-use Prim.Native.Nat.{_+_, _*_, _-_}
+-- `load` meets its contract: the first i bytes of the slot's list are there.
+use Prim.Native.Nat.{_+_, _*_, _-_, _≤_}
 use mathlib.Core.Path.{_≡_}
+use borrow.Author.Needs.{needs}
 use lib.ListN.{length, take}
 use Rattle.events.specs.Scan.{bytesFrom, slotLength}
-use Rattle.events.proofs.Leaves.{filling}
+use native.Mathlib.Omega.{arith}
+use Rattle.events.proofs.Leaves.{load-next, filling}
 use Rattle.events.proofs.load.Statement.{statement}
 use Rattle.events.proofs.load.Tie as tie
 
 abbrev Inv-loop : tie.InvT-loop
-Inv-loop ws a from len at₀ i₀ at i = (from ≡ 34 * a + 2) × (len ≡ slotLength ws a) × (length at ≡ 32) × (take i at ≡ bytesFrom ws from i)
+Inv-loop ws a from len at₀ n i₀ at i =
+    (from ≡ 34 * a + 2) × (len ≡ slotLength ws a) × (n ≡ len) × (i ≤ n) × (n ≤ 32) × (length at ≡ 32) × (take i at ≡ bytesFrom ws from i)
 
 abbrev μ-loop : tie.MeasureT-loop
-μ-loop ws a from len at₀ i₀ at i = 32 - i
+μ-loop ws a from len at₀ n i₀ at i = n - i
 
 pub load-spec : {M : Type 1} → statement M
 load-spec = tie.close (tie.spec
@@ -20,11 +23,14 @@ load-spec = tie.close (tie.spec
     (λ c. search filling)
     (λ c. search filling)
     (λ c κs. search filling)
-    (λ c. (search filling, search filling, search filling, search filling))
+    (λ c. search filling)
+    (λ c. (search filling, search filling, search filling, search filling, omega arith, search filling, search filling))
     (λ c. search filling)
     (λ c κs. search filling)
     (λ c. search filling)
     (λ c. search filling)
     (λ c. search filling)
-    (λ c. (search filling, search filling, search filling, search filling))
+    (λ c. let at-loop = c .before .before in
+      let next = load-next _ _ _ _ (at-loop .loop .inv .6) in
+      (search filling, search filling, search filling, search filling, search filling, search filling, search (needs, next, at-loop .loop .inv .4, at-loop .loop .inv .5)))
     (λ c. search filling))

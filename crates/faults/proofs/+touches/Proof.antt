@@ -8,9 +8,7 @@ use Rattle.faults.proofs.touches.Kinds as touches-kinds
 use Rattle.faults.proofs.+touches.Lts-touches as touches-lts
 use Rattle.faults.proofs.called.Reads as called-reads
 use Rattle.faults.proofs.closes.Reads as closes-reads
-use Rattle.faults.proofs.join.Reads as join-reads
-use Rattle.faults.proofs.none.Reads as none-reads
-use Rattle.faults.proofs.one.Reads as one-reads
+use Rattle.faults.proofs.mark.Reads as mark-reads
 use Rattle.step.proofs.all.Reads as all-reads
 use Rattle.step.proofs.holds.Reads as holds-reads
 use Rattle.step.proofs.remaining.Reads as remaining-reads
@@ -29,18 +27,14 @@ touches-below t = and 3 touches-kinds.ps (falls 3 touches-kinds.ps _<_ μ-touche
 
 pub +touches-spec : {M : Type 1} → statement M
 +touches-spec = close μ-touches λ t. touches-lts.spec (
-  none-reads.Asked,
-  none-reads.Learnt,
   all-reads.Asked,
   all-reads.Learnt,
   step-at-reads.Asked,
   step-at-reads.Learnt,
-  one-reads.Asked,
-  one-reads.Learnt,
+  mark-reads.Asked,
+  mark-reads.Learnt,
   touches-below t,
   touches.Post,
-  join-reads.Asked,
-  join-reads.Learnt,
   holds-reads.Asked,
   holds-reads.Learnt,
   closes-reads.Asked,
@@ -52,19 +46,16 @@ pub +touches-spec : {M : Type 1} → statement M
 )
     (touches-at t)
     touches.Post
-    (λ c κs. search walking)
     (λ c. search walking)
     (λ c κs. search walking)
     (λ c κs. search walking)
     (λ c. search walking)
-    (λ c κs. search walking)
     (λ c. search walking)
     (λ c κs. search walking)
     (λ c. search walking)
     (λ c. search walking)
     (λ c κs. search walking)
     (λ c. search walking)
-    (λ c κs. search walking)
     (λ c κs. search walking)
     (λ c. search walking)
     (λ c. search walking)
@@ -80,18 +71,13 @@ pub +touches-spec : {M : Type 1} → statement M
     (λ c. search walking)
     (λ c κs. search walking)
     (λ c κs. search walking)
-    (λ c κs. search walking)
     (λ c. search walking)
     (λ c κs. search walking)
     (λ c κs. search walking)
     (λ c. search walking)
-    (λ c κs. search walking)
     (λ c. search walking)
-    (λ c κs. search walking)
     (λ c. search walking)
-    (λ c κs. search walking)
     (λ c. search walking)
-    (λ c κs. search walking)
     (λ c. search walking)
     (λ c. search walking)
     (λ c. search walking)

@@ -1,5 +1,5 @@
 -- `faults::carry` meets its contract: position u of the callee, where it is touched. Assumes nothing.
-use Rattle.faults.proofs.Ways.{knowing}
+use Rattle.faults.proofs.Ways.{carrying}
 use Rattle.faults.proofs.carry.Statement.{statement}
 use Rattle.faults.proofs.carry.Tie as tie
 
@@ -7,10 +7,9 @@ pub carry-spec : {M : Type 1} → statement M
 carry-spec =
     tie.close
     (tie.spec
-    (λ c κs. search knowing)
-    (λ c κs. search knowing)
-    (λ c. search knowing)
-    (λ c κs. search knowing)
-    (λ c κs. search knowing)
-    (λ c. search knowing)
-    (λ c. search knowing))
+    (λ c κs. search carrying)
+    (λ c. search carrying)
+    (λ c κs. search carrying)
+    (λ c κs. search carrying)
+    (λ c. search carrying)
+    (λ c. search carrying))

@@ -4,4 +4,11 @@ use Rattle.faults.proofs.closes.Statement.{statement}
 use Rattle.faults.proofs.closes.Tie as tie
 
 pub closes-spec : {M : Type 1} → statement M
-closes-spec = tie.close (tie.spec (λ c κs. search rows) (λ c κs. search rows) (λ c κs. search rows) (λ c. search rows) (λ c. search rows))
+closes-spec =
+    tie.close
+    (tie.spec
+    (λ c κs. search rows)
+    (λ c κs. search rows)
+    (λ c κs. search rows)
+    (λ c. search rows)
+    (λ c. search rows))

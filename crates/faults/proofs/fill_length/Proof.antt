@@ -7,10 +7,10 @@ use Rattle.faults.proofs.fill_length.Statement.{statement}
 use Rattle.faults.proofs.fill_length.Tie as tie
 
 abbrev Inv-loop : tie.InvT-loop
-Inv-loop table index p m matrix known₀ ranks k₀ known k = (k ≤ p) × (known ≡ filledLength p table index matrix k m known₀)
+Inv-loop table index p m ranks known₀ highest k₀ known k = (k ≤ p) × (known ≡ filledLength p table index ranks k m known₀)
 
 abbrev μ-loop : tie.MeasureT-loop
-μ-loop table index p m matrix known₀ ranks k₀ known k = p - k
+μ-loop table index p m ranks known₀ highest k₀ known k = p - k
 
 pub fill-length-spec : {M : Type 1} → statement M
 fill-length-spec =

@@ -7,10 +7,10 @@ use Rattle.faults.proofs.fill_rank.Statement.{statement}
 use Rattle.faults.proofs.fill_rank.Tie as tie
 
 abbrev Inv-loop : tie.InvT-loop
-Inv-loop table index p k m matrix known₀ f₀ known f = (f ≤ p) × (known ≡ filledRank p table index matrix f k m known₀)
+Inv-loop table index p k m ranks known₀ f₀ known f = (f ≤ p) × (known ≡ filledRank p table index ranks f k m known₀)
 
 abbrev μ-loop : tie.MeasureT-loop
-μ-loop table index p k m matrix known₀ f₀ known f = p - f
+μ-loop table index p k m ranks known₀ f₀ known f = p - f
 
 pub fill-rank-spec : {M : Type 1} → statement M
 fill-rank-spec =

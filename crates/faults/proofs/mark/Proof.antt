@@ -1,4 +1,4 @@
--- `faults::mark` meets its contract: one position more, which stands in the row or past it. Assumes nothing.
+-- `faults::mark` meets its contract: one number more, which stands in the word or past it. Assumes nothing.
 use Rattle.faults.proofs.Ways.{rows}
 use Rattle.faults.proofs.mark.Statement.{statement}
 use Rattle.faults.proofs.mark.Tie as tie

@@ -1,5 +1,5 @@
 -- `faults::rank` meets its contract: before body x those below x are counted. Assumes nothing.
-use Rattle.faults.proofs.Fills.{filling}
+use Rattle.faults.proofs.Fills.{ranking}
 use Prim.Native.Nat.{_≤_, _-_}
 use mathlib.Core.Path.{_≡_}
 use Rattle.faults.specs.Filling.{rankBelow}
@@ -18,11 +18,11 @@ rank-spec =
     (tie.spec
     Inv-loop
     μ-loop
-    (λ c. search filling)
-    (λ c κs. search filling)
-    (λ c. search filling)
-    (λ c. search filling)
-    (λ c. search filling)
-    (λ c. search filling)
-    (λ c. search filling)
-    (λ c. search filling))
+    (λ c. search ranking)
+    (λ c κs. search ranking)
+    (λ c. search ranking)
+    (λ c. search ranking)
+    (λ c. search ranking)
+    (λ c. search ranking)
+    (λ c. search ranking)
+    (λ c. search ranking))

@@ -1,4 +1,4 @@
--- `records::permitted` meets its contract: by the entries of the two tables, whose sum fits a byte. Assumes nothing.
+-- `records::permitted` meets its contract: by the entries of the table, whose sum fits a byte. Assumes nothing.
 use native.Mathlib.Omega.{arith}
 use borrow.Author.Needs.{needs}
 use Rattle.records.proofs.Laws.{maps, maps-fit}

@@ -1,12 +1,10 @@
--- `records::read_fields` meets its contract: one arm for each kind. Assumes nothing.
+-- `records::read_fields` meets its contract: by the bits that the map of the kind must have. Assumes nothing.
 use borrow.Author.Needs.{needs}
 use Rattle.records.proofs.Laws.{kinds}
-use Rattle.records.specs.Fields.{fieldsAt, touching, comparing}
 use Rattle.records.proofs.read_fields.Statement.{statement}
 use Rattle.records.proofs.read_fields.Tie as tie
 
 pub read-fields-spec : {M : Type 1} → statement M
-unfolding fieldsAt touching comparing
 read-fields-spec =
     tie.close
     (tie.spec
@@ -15,15 +13,6 @@ read-fields-spec =
     (λ c κs. search needs)
     (λ c κs. search needs)
     (λ c κs. search needs)
-    (λ c κs. search needs)
-    (λ c. search kinds)
-    (λ c. search kinds)
-    (λ c. search kinds)
-    (λ c. search kinds)
-    (λ c. search kinds)
-    (λ c. search kinds)
-    (λ c. search kinds)
-    (λ c. search kinds)
     (λ c. search kinds)
     (λ c. search kinds)
     (λ c. search kinds)

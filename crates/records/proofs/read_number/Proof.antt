@@ -1,12 +1,12 @@
 -- `records::read_number` meets its contract: each way out by the tests before it. Assumes nothing.
 use borrow.Author.Needs.{needs}
 use Rattle.records.proofs.Laws.{tests}
-use Rattle.records.specs.Fields.{numberAt, based}
+use Rattle.records.specs.Fields.{numberAt}
 use Rattle.records.proofs.read_number.Statement.{statement}
 use Rattle.records.proofs.read_number.Tie as tie
 
 pub read-number-spec : {M : Type 1} → statement M
-unfolding numberAt based
+unfolding numberAt
 read-number-spec =
     tie.close
     (tie.spec
@@ -15,12 +15,6 @@ read-number-spec =
     (λ c. search tests)
     (λ c. search needs)
     (λ c. search tests)
-    (λ c. search needs)
-    (λ c. search needs)
-    (λ c. search needs)
-    (λ c. search needs)
     (λ c κs. search needs)
     (λ c. search needs)
-    (λ c. search needs)
-    (λ c. search tests)
     (λ c. search tests))

@@ -1,0 +1,25 @@
+-- `seek` meets its contract: what is left from here on is the whole.
+use Prim.Native.Nat.{_-_}
+use mathlib.Core.Path.{_≡_}
+use Rattle.events.specs.Slots.{seekOf}
+use Rattle.events.proofs.Leaves.{seeking}
+use Rattle.events.proofs.seek.Statement.{statement}
+use Rattle.events.proofs.seek.Tie as tie
+
+abbrev Inv-loop : tie.InvT-loop
+Inv-loop ws base m e upto a₀ a = seekOf ws base m a (upto - a) ≡ seekOf ws base m e (upto - e)
+
+abbrev μ-loop : tie.MeasureT-loop
+μ-loop ws base m e upto a₀ a = upto - a
+
+pub seek-spec : {M : Type 1} → statement M
+seek-spec = tie.close (tie.spec
+    Inv-loop
+    μ-loop
+    (λ c. search seeking)
+    (λ c κs. search seeking)
+    (λ c. search seeking)
+    (λ c. search seeking)
+    (λ c. search seeking)
+    (λ c. search seeking)
+    (λ c. search seeking))

@@ -1,0 +1,76 @@
+-- `faults::counts` meets its contract: each step of the walk is the record's, and the depth falls. Assumes nothing.
+use Rattle.faults.proofs.Counting.{counting}
+use Prim.Native.Nat.{ℕ, _<_}
+use borrow.Fn.Kinds.{In}
+use borrow.Fn.PlainCycle.{Measures, is, falls, and}
+use Rattle.faults.proofs.counts.Reads as counts
+use Rattle.faults.proofs.counts.Kinds as counts-kinds
+use Rattle.faults.proofs.+counts.Lts-counts as counts-lts
+use Rattle.faults.proofs.count_at.Reads as count-at-reads
+use Rattle.faults.proofs.mark.Reads as mark-reads
+use Rattle.step.proofs.all.Reads as all-reads
+use Rattle.step.proofs.step_at.Reads as step-at-reads
+use Rattle.faults.proofs.+counts.{statement}
+use Rattle.faults.proofs.+counts.Tie.{close}
+
+abbrev μ-counts : Measures 2 counts-kinds.ps ℕ
+μ-counts κs a = a .1 .1 .1 .1 .0
+
+abbrev counts-at : ℕ → In 2 counts-kinds.ps
+counts-at t = and 2 counts-kinds.ps (is 2 counts-kinds.ps μ-counts t) counts.Pre
+
+abbrev counts-below : ℕ → In 2 counts-kinds.ps
+counts-below t = and 2 counts-kinds.ps (falls 2 counts-kinds.ps _<_ μ-counts t) counts.Pre
+
+pub +counts-spec : {M : Type 1} → statement M
++counts-spec = close μ-counts λ t. counts-lts.spec (
+  all-reads.Asked,
+  all-reads.Learnt,
+  step-at-reads.Asked,
+  step-at-reads.Learnt,
+  counts-below t,
+  counts.Post,
+  count-at-reads.Asked,
+  count-at-reads.Learnt,
+  mark-reads.Asked,
+  mark-reads.Learnt,
+)
+    (counts-at t)
+    counts.Post
+    (λ c. search counting)
+    (λ c κs. search counting)
+    (λ c κs. search counting)
+    (λ c. search counting)
+    (λ c. search counting)
+    (λ c. search counting)
+    (λ c. search counting)
+    (λ c κs. search counting)
+    (λ c. search counting)
+    (λ c κs. search counting)
+    (λ c. search counting)
+    (λ c. search counting)
+    (λ c κs. search counting)
+    (λ c. search counting)
+    (λ c κs. search counting)
+    (λ c. search counting)
+    (λ c. search counting)
+    (λ c κs. search counting)
+    (λ c. search counting)
+    (λ c κs. search counting)
+    (λ c. search counting)
+    (λ c κs. search counting)
+    (λ c κs. search counting)
+    (λ c. search counting)
+    (λ c. search counting)
+    (λ c. search counting)
+    (λ c. search counting)
+    (λ c. search counting)
+    (λ c. search counting)
+    (λ c. search counting)
+    (λ c. search counting)
+    (λ c. search counting)
+    (λ c. search counting)
+    (λ c. search counting)
+    (λ c. search counting)
+    (λ c. search counting)
+    (λ c. search counting)

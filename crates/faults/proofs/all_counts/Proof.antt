@@ -1,0 +1,28 @@
+-- `faults::all_counts` meets its contract: before body f those below f are counted. Assumes nothing.
+use Rattle.faults.proofs.Counting.{counting}
+use Prim.Native.Nat.{_≤_, _-_}
+use mathlib.Core.Path.{_≡_}
+use Rattle.faults.specs.Lengths.{countsBelow}
+use Rattle.faults.proofs.all_counts.Statement.{statement}
+use Rattle.faults.proofs.all_counts.Tie as tie
+
+abbrev Inv-loop : tie.InvT-loop
+Inv-loop table index p all₀ f₀ all f = (f ≤ p) × (all ≡ countsBelow p table index f)
+
+abbrev μ-loop : tie.MeasureT-loop
+μ-loop table index p all₀ f₀ all f = p - f
+
+pub all-counts-spec : {M : Type 1} → statement M
+all-counts-spec =
+    tie.close
+    (tie.spec
+    Inv-loop
+    μ-loop
+    (λ c. search counting)
+    (λ c κs. search counting)
+    (λ c κs. search counting)
+    (λ c. search counting)
+    (λ c. search counting)
+    (λ c. search counting)
+    (λ c. search counting)
+    (λ c. search counting))

@@ -1,0 +1,13 @@
+-- `put` meets its contract.
+use borrow.Author.Needs.{needs}
+use Rattle.lines.proofs.Putting.{putting}
+use Rattle.lines.proofs.put.Statement.{statement}
+use Rattle.lines.proofs.put.Tie as tie
+
+pub put-spec : {M : Type 1} → statement M
+put-spec = tie.close (tie.spec
+    (λ c. search putting)
+    (λ c. search needs)
+    (λ c. search needs)
+    (λ c. search needs)
+    (λ c. search putting))

@@ -1,0 +1,229 @@
+// "Worked programs", on the listing: its lines, put into a text one behind the other. Each function takes the place from which it puts its
+// bytes and gives the place behind them; where the text ends, it stops.
+ghost use mathlib.Core.Path.{_≡_};
+ghost use mathlib.Core.List.{[], _∷_, _++_};
+ghost use Rattle.model.specs.Answers.{circuitRead, refuses};
+ghost use Rattle.model.specs.Listing.{space, plus, decimal, signed, hyphens, controlText, gateLine, firstLine, listed};
+ghost use Rattle.circuit.specs.Views.{part, inputAt, listIn, gateIn};
+ghost use Rattle.lines.specs.Puts.{written, puts};
+ghost use Rattle.lines.specs.Rows.{lower, actionWith, linesRead};
+use circuit::GateAt;
+use circuit::GateRead;
+use circuit::WireList;
+use circuit::read_circuit;
+use circuit::read_gate;
+
+// One byte.
+pub fn put(text: &mut [u8], at: usize, byte: u8) -> usize
+    ensures { λ r. ⌜ written (now (text .exit)) r ≡ puts (byte ∷ []) (now (text .entry)) at ⌝ }
+{
+    if text.len() <= at {
+        return at;
+    }
+    text[at] = byte;
+    at + 1
+}
+
+// The decimal digits of a number, the highest first.
+pub fn put_decimal(text: &mut [u8], at: usize, number: u64) -> usize
+    ensures { λ r. ⌜ written (now (text .exit)) r ≡ puts (decimal number) (now (text .entry)) at ⌝ }
+{
+    if number < 10 {
+        return put(text, at, 48 + number as u8);
+    }
+    let next = put_decimal(text, at, number / 10);
+    put(text, next, 48 + (number % 10) as u8)
+}
+
+// A space and a number.
+pub fn put_spaced(text: &mut [u8], at: usize, number: u64) -> usize
+    ensures { λ r. ⌜ written (now (text .exit)) r ≡ puts (space ∷ decimal number) (now (text .entry)) at ⌝ }
+{
+    let next = put(text, at, b' ');
+    put_decimal(text, next, number)
+}
+
+// A control: a space, its sign and its wire.
+pub fn put_control(text: &mut [u8], at: usize, sign: u8, wire: u8) -> usize
+    ensures { λ r. ⌜ written (now (text .exit)) r ≡ puts (signed sign wire) (now (text .entry)) at ⌝ }
+{
+    let space_end = put(text, at, b' ');
+    let sign_end = put(text, space_end, sign);
+    put_decimal(text, sign_end, wire as u64)
+}
+
+// The controls on 0 at `count` places of the circuit: each a hyphen and its wire.
+pub fn put_hyphens(text: &mut [u8], at: usize, circuit: &[u8], from: usize, count: usize) -> usize
+    ensures { λ r. ⌜ written (now (text .exit)) r ≡ puts (hyphens (part (now (circuit .entry)) from count)) (now (text .entry)) at ⌝ }
+{
+    let mut place = at;
+    let mut next = from;
+    let mut left = count;
+    while 0 < left {
+        if circuit.len() <= next {
+            return place;
+        }
+        place = put_control(text, place, b'-', circuit[next]);
+        next += 1;
+        left -= 1;
+    }
+    place
+}
+
+// How many of `count` wires come before the first that is not below `wire`?
+pub fn count_below(circuit: &[u8], from: usize, count: usize, wire: u8) -> usize
+    ensures { λ r. ⌜ r ≡ lower wire (part (now (circuit .entry)) from count) ⌝ }
+{
+    let mut next = from;
+    let mut left = count;
+    let mut below = 0;
+    while 0 < left {
+        if circuit.len() <= next {
+            return below;
+        }
+        if wire <= circuit[next] {
+            return below;
+        }
+        next += 1;
+        left -= 1;
+        below += 1;
+    }
+    below
+}
+
+// A control on 1 behind `count` controls on 0.
+pub fn put_placed(
+    text: &mut [u8],
+    at: usize,
+    circuit: &[u8],
+    from: usize,
+    count: usize,
+    wire: u8,
+) -> usize
+    ensures { λ r. ⌜ written (now (text .exit)) r ≡
+        puts (hyphens (part (now (circuit .entry)) from count) ++ signed plus wire) (now (text .entry)) at ⌝ }
+{
+    let hyphens_end = put_hyphens(text, at, circuit, from, count);
+    put_control(text, hyphens_end, b'+', wire)
+}
+
+// "controls ascending (+ on 1, − on 0, printed as a hyphen)": before each control on 1 come the controls on 0 below it.
+pub fn put_controls(
+    text: &mut [u8],
+    at: usize,
+    circuit: &[u8],
+    ones: WireList,
+    zeros: WireList,
+) -> usize
+    ensures { λ r. ⌜ written (now (text .exit)) r ≡
+        puts (controlText (listIn (now (circuit .entry)) ones) (listIn (now (circuit .entry)) zeros)) (now (text .entry)) at ⌝ }
+{
+    let mut place = at;
+    let mut one = ones.from;
+    let mut ones_left = ones.count;
+    let mut zero = zeros.from;
+    let mut zeros_left = zeros.count;
+    while 0 < ones_left {
+        if circuit.len() <= one {
+            return put_hyphens(text, place, circuit, zero, zeros_left);
+        }
+        let wire = circuit[one];
+        let below = count_below(circuit, zero, zeros_left, wire);
+        place = put_placed(text, place, circuit, zero, below, wire);
+        one += 1;
+        ones_left -= 1;
+        zero += below;
+        zeros_left -= below;
+    }
+    put_hyphens(text, place, circuit, zero, zeros_left)
+}
+
+// "X or S, target (for a swap both, lower first)"
+pub fn put_action(text: &mut [u8], at: usize, swaps: bool, target: u8, second: u8) -> usize
+    ensures { λ r. ⌜ written (now (text .exit)) r ≡ puts (actionWith swaps target second) (now (text .entry)) at ⌝ }
+{
+    if !swaps {
+        let letter_end = put(text, at, b'X');
+        return put_spaced(text, letter_end, target as u64);
+    }
+    let letter_end = put(text, at, b'S');
+    let target_end = put_spaced(text, letter_end, target as u64);
+    put_spaced(text, target_end, second as u64)
+}
+
+// "gate number, X or S, target .., controls": the line of a gate that stands in the circuit.
+pub fn gate_line(text: &mut [u8], at: usize, circuit: &[u8], gate: GateAt, number: u64) -> usize
+    ensures { λ r. ⌜ written (now (text .exit)) r ≡ puts (gateLine number (gateIn (now (circuit .entry)) gate)) (now (text .entry)) at ⌝ }
+{
+    let number_end = put_decimal(text, at, number);
+    let space_end = put(text, number_end, b' ');
+    let action_end = put_action(text, space_end, gate.swaps, gate.target, gate.second);
+    let controls_end = put_controls(text, action_end, circuit, gate.ones, gate.zeros);
+    put(text, controls_end, b'\n')
+}
+
+// "the first line is n, ancillas, size"
+pub fn first_line(text: &mut [u8], at: usize, n: u32, ancillas: u32, size: u32) -> usize
+    ensures { λ r. ⌜ written (now (text .exit)) r ≡ puts (firstLine n ancillas size) (now (text .entry)) at ⌝ }
+{
+    let n_end = put_decimal(text, at, n as u64);
+    let ancillas_end = put_spaced(text, n_end, ancillas as u64);
+    let size_end = put_spaced(text, ancillas_end, size as u64);
+    put(text, size_end, b'\n')
+}
+
+// "A refusal prints its number alone."
+pub fn refusal_line(text: &mut [u8], at: usize, number: u32) -> usize
+    ensures { λ r. ⌜ written (now (text .exit)) r ≡ puts (listed (refuses number)) (now (text .entry)) at ⌝ }
+{
+    let number_end = put_decimal(text, at, number as u64);
+    put(text, number_end, b'\n')
+}
+
+// The lines of `count` gates from a place of the circuit on, numbered from 1, as far as they are gates over wires 1 to `most`.
+pub fn gate_lines(
+    text: &mut [u8],
+    at: usize,
+    circuit: &[u8],
+    from: usize,
+    most: u8,
+    count: u32,
+) -> usize
+    ensures { λ r. ⌜ written (now (text .exit)) r ≡
+        puts (linesRead most 1 count (inputAt (now (circuit .entry)) from)) (now (text .entry)) at ⌝ }
+{
+    let mut place = at;
+    let mut next = from;
+    let mut number = 1u64;
+    let mut left = count;
+    while 0 < left {
+        let found = read_gate(circuit, next, most);
+        let GateRead::Found(gate) = found else {
+            return place;
+        };
+        place = gate_line(text, place, circuit, gate, number);
+        next = gate.next;
+        number += 1;
+        left -= 1;
+    }
+    place
+}
+
+// The listing of a circuit: its first line and a line for each gate; 14 if it is not well formed.
+pub fn list_circuit(text: &mut [u8], at: usize, circuit: &[u8]) -> usize
+    ensures { λ r. ⌜ written (now (text .exit)) r ≡ puts (listed (circuitRead (now (circuit .entry)))) (now (text .entry)) at ⌝ }
+{
+    let header = read_circuit(circuit);
+    if header.number != 0 {
+        return refusal_line(text, at, header.number);
+    }
+    let first_end = first_line(text, at, header.qubits, header.ancillas, header.gates);
+    gate_lines(
+        text,
+        first_end,
+        circuit,
+        7,
+        (header.qubits + header.ancillas) as u8,
+        header.gates,
+    )
+}

@@ -1,0 +1,2 @@
+-- What the proof of `spelled` uses.
+mod Counting

@@ -1,0 +1,147 @@
+/*
+ * Calls every function once for each case on standard input. A case is a line
+ * "N WORD ROOM WORKSPACE LENGTH" and that many bytes, which are taken as a table
+ * and as a circuit. What is printed is a line
+ *
+ *     verdict | number end-word | number length | number qubits ancillas gates |
+ *     number data ancillas bits-in-hexadecimal
+ *
+ * and behind it the bytes that compile wrote.
+ *
+ * A slice stands just before a fence, so that reading or writing past its end
+ * stops the program, and so does writing into the table or circuit. An empty
+ * slice is null. The bytes before a slice, a refused room and what follows a
+ * circuit must stay as they are, a workspace must come back as zeros: otherwise
+ * the program stops too.
+ */
+#define _DEFAULT_SOURCE
+#include <string.h>
+#include <sys/mman.h>
+
+#include "foq.h"
+#include "program.h"
+
+/* The longest slice, and the length of a fence. */
+#define MOST 131072u
+#define FENCE 65536u
+
+#define DIRT 0xA5
+
+/* The ends of the three slices, where their fences begin. */
+static uint8_t *bytes_end, *room_end, *workspace_end;
+
+/* Memory that ends at a fence; gives its end. */
+static uint8_t *before_a_fence(void)
+{
+    void *start = mmap(NULL, MOST + FENCE, PROT_READ | PROT_WRITE,
+                       MAP_PRIVATE | MAP_ANONYMOUS, -1, 0);
+    expect(start != MAP_FAILED, "no memory");
+    uint8_t *end = (uint8_t *)start + MOST;
+    expect(mprotect(end, FENCE, PROT_NONE) == 0, "no fence");
+    return end;
+}
+
+/* The last bytes before a fence, among dirt. An empty slice is null. */
+static uint8_t *lent(uint8_t *end, size_t length)
+{
+    memset(end - MOST, DIRT, MOST);
+    return length == 0 ? NULL : end - length;
+}
+
+/* Says whether all bytes of a range are this one. */
+static int all_are(const uint8_t *from, const uint8_t *to, int byte)
+{
+    while (from < to)
+        if (*from++ != byte)
+            return 0;
+    return 1;
+}
+
+/* A workspace comes back as zeros, and nothing before it has changed. */
+static void expect_workspace(size_t length)
+{
+    const uint8_t *start = workspace_end - length;
+    expect(all_are(start, workspace_end, 0), "a workspace is not zero");
+    expect(all_are(workspace_end - MOST, start, DIRT), "bytes before it changed");
+}
+
+static void call_verdict(const uint8_t *table, size_t length, uint32_t n,
+                         size_t space)
+{
+    uint32_t number =
+        foq_verdict(table, length, n, lent(workspace_end, space), space);
+    expect_workspace(space);
+    printf("%" PRIu32, number);
+}
+
+static void call_run(const uint8_t *table, size_t length, uint32_t n,
+                     uint64_t word, size_t space)
+{
+    foq_answer answer =
+        foq_run(table, length, n, word, lent(workspace_end, space), space);
+    expect_workspace(space);
+    printf(" | %" PRIu32 " %" PRIu64, answer.number, answer.value);
+}
+
+/* Gives the length of the circuit, which then stands in the room. */
+static size_t call_compile(const uint8_t *table, size_t length, uint32_t n,
+                           size_t room, size_t space)
+{
+    foq_answer answer = foq_compile(table, length, n, lent(room_end, room), room,
+                                    lent(workspace_end, space), space);
+    const uint8_t *start = room_end - room;
+    expect_workspace(space);
+    expect(answer.value <= room, "a circuit is longer than its room");
+    expect(all_are(start + answer.value, room_end, DIRT), "the room's rest changed");
+    expect(all_are(room_end - MOST, start, DIRT), "bytes before the room changed");
+    printf(" | %" PRIu32 " %" PRIu64, answer.number, answer.value);
+    return answer.value;
+}
+
+static void call_circuit(const uint8_t *circuit, size_t length, uint64_t word)
+{
+    foq_circuit header = foq_circuit_read(circuit, length);
+    foq_block block = foq_circuit_run(circuit, length, word);
+    printf(" | %" PRIu32 " %" PRIu32 " %" PRIu32 " %" PRIu32, header.number,
+           header.qubits, header.ancillas, header.gates);
+    printf(" | %" PRIu32 " %d %d ", block.number, block.data, block.ancillas);
+    for (unsigned i = 0; i < FOQ_BLOCK_LENGTH; i++)
+        printf("%02x", block.bits[i]);
+    putchar('\n');
+}
+
+/* Reads the bytes of a case, which then can only be read. */
+static const uint8_t *read_bytes(size_t length)
+{
+    uint8_t *start = bytes_end - MOST;
+    expect(mprotect(start, MOST, PROT_READ | PROT_WRITE) == 0, "no memory");
+    uint8_t *bytes = lent(bytes_end, length);
+    expect(fread(bytes_end - length, 1, length, stdin) == length,
+           "a case stops too soon");
+    expect(mprotect(start, MOST, PROT_READ) == 0, "no memory");
+    return bytes;
+}
+
+int main(void)
+{
+    uint32_t n;
+    uint64_t word;
+    size_t room, space, length;
+    bytes_end = before_a_fence();
+    room_end = before_a_fence();
+    workspace_end = before_a_fence();
+    while (scanf("%" SCNu32 " %" SCNu64 " %zu %zu %zu", &n, &word, &room, &space,
+                 &length) == 5) {
+        expect(getchar() == '\n' && room <= MOST && space <= MOST &&
+                   length <= MOST,
+               "a case is not one");
+        const uint8_t *bytes = read_bytes(length);
+        call_verdict(bytes, length, n, space);
+        call_run(bytes, length, n, word, space);
+        size_t compiled = call_compile(bytes, length, n, room, space);
+        call_circuit(bytes, length, word);
+        fwrite(room_end - room, 1, compiled, stdout);
+    }
+    expect(feof(stdin), "a case is not one");
+    return EXIT_SUCCESS;
+}

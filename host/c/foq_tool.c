@@ -1,0 +1,149 @@
+/*
+ * Shows what a table does on n qubits, from a start word: the verdict, the run,
+ * and the circuit with its own run, wire 1 leftmost.
+ *
+ *     $ foq_tool table pairs.foq 3 0 pairs.circuit
+ *     accepted
+ *     end word 4
+ *     circuit of 49 bytes
+ *     3 qubits, 3 ancillas, 9 gates
+ *     1 X 4
+ *     2 X 5 -1 -2 +4
+ *     ..
+ *     9 X 4
+ *     wires 001000
+ *
+ * The last argument, which may be left out, is a file for the circuit's bytes.
+ * From then on the circuit speaks for itself:
+ *
+ *     $ foq_tool circuit pairs.circuit 0
+ *     3 qubits, 3 ancillas, 9 gates
+ *     ..
+ *
+ * A gate is its number, X or S for NOT or swap, its wires and its controls: + on
+ * 1, - on 0. Where a function refuses, the line is "refused" and its number.
+ */
+#include <string.h>
+
+#include "foq.h"
+#include "program.h"
+
+/* A record has at most a map, a kind, eight removals and a number. */
+#define LONGEST_RECORD (2 + 1 + 3 * FOQ_MOST_REMOVALS + 3)
+
+/* Of a longer table no more is looked at: one record too many, or bytes left. */
+#define LONGEST_TABLE (2 + FOQ_MOST_RECORDS * LONGEST_RECORD + 2)
+
+static uint8_t table[LONGEST_TABLE];
+/* One byte more than a circuit can have: what is longer is refused too. */
+static uint8_t circuit[FOQ_MOST_CIRCUIT + 1];
+static uint8_t workspace[FOQ_LEAST_WORKSPACE];
+
+/* Says whether an answer is a success; otherwise prints the refusal. */
+static int succeeds(uint32_t number)
+{
+    if (number != FOQ_SUCCESS)
+        printf("refused %" PRIu32 "\n", number);
+    return number == FOQ_SUCCESS;
+}
+
+/* Notes the sign of each wire in a gate's list; gives what follows the list. */
+static const uint8_t *note_controls(char *signs, char sign, const uint8_t *list)
+{
+    uint8_t count = *list++;
+    while (count-- > 0)
+        signs[*list++] = sign;
+    return list;
+}
+
+/* Prints a gate of a well-formed circuit; gives what follows it. */
+static const uint8_t *print_gate(uint32_t number, const uint8_t *gate)
+{
+    char signs[FOQ_MOST_WIRES + 1] = {0};
+    unsigned map = *gate++;
+    unsigned target = *gate++;
+    if (map & FOQ_GATE_ON_ONE)
+        gate = note_controls(signs, '+', gate);
+    if (map & FOQ_GATE_ON_ZERO)
+        gate = note_controls(signs, '-', gate);
+    printf("%" PRIu32 " %c %u", number, map & FOQ_GATE_SWAP ? 'S' : 'X', target);
+    if (map & FOQ_GATE_SWAP)
+        printf(" %u", (unsigned)*gate++);
+    for (unsigned wire = 1; wire <= FOQ_MOST_WIRES; wire++)
+        if (signs[wire] != 0)
+            printf(" %c%u", signs[wire], wire);
+    putchar('\n');
+    return gate;
+}
+
+static void print_wires(const foq_block *block)
+{
+    fputs("wires ", stdout);
+    for (int place = 0; place < block->data + block->ancillas; place++)
+        putchar(block->bits[place / 8] >> (place % 8) & 1 ? '1' : '0');
+    putchar('\n');
+}
+
+/* Prints a circuit and its wires at the end. */
+static void show_circuit(size_t length, uint64_t word)
+{
+    foq_circuit header = foq_circuit_read(circuit, length);
+    if (succeeds(header.number)) {
+        printf("%" PRIu32 " qubits, %" PRIu32 " ancillas, %" PRIu32 " gates\n",
+               header.qubits, header.ancillas, header.gates);
+        const uint8_t *gate = circuit + FOQ_HEADER_LENGTH;
+        for (uint32_t number = 1; number <= header.gates; number++)
+            gate = print_gate(number, gate);
+    }
+    foq_block block = foq_circuit_run(circuit, length, word);
+    if (succeeds(block.number))
+        print_wires(&block);
+}
+
+static void write_circuit(const char *name, size_t length)
+{
+    FILE *file = fopen(name, "wb");
+    if (file == NULL || fwrite(circuit, 1, length, file) != length ||
+        fclose(file) != 0)
+        fail(name);
+}
+
+/* Prints the verdict, the run and the circuit, and keeps it in a file, if any. */
+static void show_table(size_t length, uint32_t n, uint64_t word, const char *file)
+{
+    if (succeeds(foq_verdict(table, length, n, workspace, sizeof workspace)))
+        puts("accepted");
+    foq_answer run =
+        foq_run(table, length, n, word, workspace, sizeof workspace);
+    if (succeeds(run.number))
+        printf("end word %" PRIu64 "\n", run.value);
+    foq_answer compiled = foq_compile(table, length, n, circuit, sizeof circuit,
+                                      workspace, sizeof workspace);
+    if (!succeeds(compiled.number))
+        return;
+    printf("circuit of %" PRIu64 " bytes\n", compiled.value);
+    show_circuit(compiled.value, word);
+    if (file != NULL)
+        write_circuit(file, compiled.value);
+}
+
+int main(int count, char **arguments)
+{
+    uint64_t n, word;
+    if ((count == 5 || count == 6) && strcmp(arguments[1], "table") == 0 &&
+        read_number(arguments[3], UINT32_MAX, &n) &&
+        read_number(arguments[4], UINT64_MAX, &word)) {
+        size_t length = read_file(arguments[2], table, sizeof table);
+        show_table(length, (uint32_t)n, word, arguments[5]);
+        return EXIT_SUCCESS;
+    }
+    if (count == 4 && strcmp(arguments[1], "circuit") == 0 &&
+        read_number(arguments[3], UINT64_MAX, &word)) {
+        show_circuit(read_file(arguments[2], circuit, sizeof circuit), word);
+        return EXIT_SUCCESS;
+    }
+    fputs("usage: foq_tool table FILE N WORD [CIRCUIT]\n"
+          "       foq_tool circuit FILE WORD\n",
+          stderr);
+    return EXIT_FAILURE;
+}

@@ -1,0 +1,258 @@
+//! Both sides are asked, and their answers held against each other.
+
+use crate::input::{Circuit, Input, Table};
+use crate::operations::Operations;
+use foq::border::{self, Answer};
+use foq_reference::{read_circuit, Gate, LONGEST_CIRCUIT};
+use std::fmt::Debug;
+
+/// What the answers look like from afar. An input of a class that was not seen
+/// before is worth keeping. Sizes go by the number of their bits.
+#[derive(Clone, Copy, Debug, Default, PartialEq, Eq, PartialOrd, Ord)]
+pub struct Class {
+    /// Whether the input is a table; otherwise it is a circuit.
+    pub is_table: bool,
+    /// The number that verdict gives.
+    pub verdict: u32,
+    /// The number that compile gives, with a room that is always enough.
+    pub compile: u32,
+    /// The number that the run of the table or circuit gives.
+    pub run: u32,
+    /// The circuit's length or, where there is none, the table's.
+    pub length: usize,
+    /// The circuit's ancillas; the very number where a table has them.
+    pub ancillas: usize,
+    /// The circuit's gates.
+    pub gates: usize,
+    /// The swaps among them.
+    pub swaps: usize,
+}
+
+impl Class {
+    /// Adds the size of a circuit, and of its gates where it is well formed.
+    fn with_circuit(self, circuit: &[u8], gates: Option<Vec<Gate>>) -> Class {
+        let length = magnitude(circuit.len());
+        let Some(gates) = gates else {
+            return Class { length, ..self };
+        };
+        let swaps = gates.iter().filter(|gate| gate.is_swap()).count();
+        Class {
+            length,
+            ancillas: magnitude(circuit[2].into()),
+            gates: magnitude(gates.len()),
+            swaps: magnitude(swaps),
+            ..self
+        }
+    }
+}
+
+/// What differs, in words.
+pub type Difference = String;
+
+/// Both answers, which must be the same.
+fn same<T: PartialEq + Debug>(what: &str, product: T, second: T) -> Result<T, Difference> {
+    if product == second {
+        return Ok(product);
+    }
+    Err(format!("{what}: {product:?} instead of {second:?}"))
+}
+
+/// A byte that stands where nothing is written.
+const DIRT: u8 = 0xA5;
+/// Bytes on either side of what is lent.
+const MARGIN: usize = 64;
+
+/// Lends dirty bytes out of the midst of others, which must stay as they are.
+/// Gives the answer and the bytes afterwards.
+fn lend<T>(length: usize, call: impl FnOnce(&mut [u8]) -> T) -> Result<(T, Vec<u8>), Difference> {
+    let mut bytes = vec![DIRT; MARGIN + length + MARGIN];
+    let answer = call(&mut bytes[MARGIN..][..length]);
+    let after = bytes.split_off(MARGIN + length);
+    let lent = bytes.split_off(MARGIN);
+    let unchanged = |bytes: &[u8]| bytes.iter().all(|&byte| byte == DIRT);
+    same("bytes around", unchanged(&bytes) && unchanged(&after), true)?;
+    Ok((answer, lent))
+}
+
+/// Lends a workspace, which must come back as zeros.
+fn with_workspace<T>(length: usize, call: impl FnOnce(&mut [u8]) -> T) -> Result<T, Difference> {
+    let (answer, workspace) = lend(length, call)?;
+    let zero = workspace.iter().all(|&byte| byte == 0);
+    same("workspace is zero", zero, true)?;
+    Ok(answer)
+}
+
+/// A size by the number of its bits.
+fn magnitude(size: usize) -> usize {
+    (usize::BITS - size.leading_zeros()) as usize
+}
+
+fn verdict(product: &impl Operations, table: &Table) -> Result<u32, Difference> {
+    let Table { bytes, n, .. } = table;
+    let ours = with_workspace(table.workspace, |lent| product.verdict(bytes, *n, lent))?;
+    let theirs = foq_reference::verdict(bytes, *n, table.workspace);
+    same("verdict", ours, theirs)
+}
+
+fn run(product: &impl Operations, table: &Table) -> Result<Answer, Difference> {
+    let Table { bytes, n, word, .. } = table;
+    let ours = with_workspace(table.workspace, |lent| product.run(bytes, *n, *word, lent))?;
+    let theirs = match foq_reference::run(bytes, *n, *word, table.workspace) {
+        Ok(value) => Answer { number: 0, value },
+        Err(number) => Answer { number, value: 0 },
+    };
+    same("run", ours, theirs)
+}
+
+/// What compile gives: a number, and the circuit where that is 0.
+struct Compiled {
+    number: u32,
+    circuit: Vec<u8>,
+}
+
+/// Compiles into a room of this length.
+fn compile(
+    product: &impl Operations,
+    table: &Table,
+    length: usize,
+) -> Result<Compiled, Difference> {
+    let Table { bytes, n, .. } = table;
+    let (ours, room) = lend(length, |room| {
+        with_workspace(table.workspace, |workspace| {
+            product.compile(bytes, *n, room, workspace)
+        })
+    })?;
+    let theirs = foq_reference::compile(bytes, *n, length, table.workspace);
+    let number = theirs.as_ref().map_or_else(|number| *number, |_| 0);
+    let circuit = theirs.unwrap_or_default();
+    let value = circuit.len() as u64;
+    same("compile", ours?, Answer { number, value })?;
+    let (written, rest) = room.split_at(circuit.len());
+    same("circuit", written, &circuit[..])?;
+    same("room's rest", rest.iter().all(|&byte| byte == DIRT), true)?;
+    Ok(Compiled { number, circuit })
+}
+
+/// Reads a circuit. Gives its gates, where it is well formed.
+fn read(product: &impl Operations, circuit: &[u8]) -> Result<Option<Vec<Gate>>, Difference> {
+    let theirs = read_circuit(circuit);
+    let header = match &theirs {
+        Ok(circuit) => border::Circuit {
+            number: 0,
+            qubits: circuit.n.into(),
+            ancillas: circuit.ancillas.into(),
+            gates: circuit.gates.len() as u32,
+        },
+        Err(number) => border::Circuit {
+            number: *number,
+            ..border::Circuit::default()
+        },
+    };
+    same("circuit read", product.circuit_read(circuit), header)?;
+    Ok(theirs.ok().map(|circuit| circuit.gates))
+}
+
+fn run_circuit(
+    product: &impl Operations,
+    circuit: &[u8],
+    word: u64,
+) -> Result<border::Block, Difference> {
+    let theirs = match foq_reference::circuit_run(circuit, word) {
+        Ok(block) => border::Block {
+            number: 0,
+            data: block.n,
+            ancillas: block.ancillas,
+            bits: block.wires,
+        },
+        Err(number) => border::Block {
+            number,
+            ..border::Block::default()
+        },
+    };
+    same("circuit run", product.circuit_run(circuit, word), theirs)
+}
+
+/// The circuit of a table ends as its run does, with nothing but the end word
+/// in the block.
+fn runs_alike(
+    product: &impl Operations,
+    table: &Table,
+    circuit: &[u8],
+) -> Result<Answer, Difference> {
+    let ran = run(product, table)?;
+    let block = run_circuit(product, circuit, table.word)?;
+    if ran.number == 0 {
+        let mut bits = [0; foq::BLOCK_LENGTH];
+        bits[..8].copy_from_slice(&ran.value.to_le_bytes());
+        same("wires at the end", block.bits, bits)?;
+    }
+    Ok(ran)
+}
+
+/// A table is judged, compiled into a room that is always enough and into one of
+/// the length at hand, and run. Where it has a circuit it is also compiled into
+/// a room of just that length and of one byte less. Where its circuit does not
+/// fit it is not run: that could take for ever.
+fn compare_table(product: &impl Operations, table: &Table) -> Result<Class, Difference> {
+    let judged = verdict(product, table)?;
+    let Compiled { number, circuit } = compile(product, table, LONGEST_CIRCUIT)?;
+    compile(product, table, table.room)?;
+    let mut class = Class {
+        is_table: true,
+        verdict: judged,
+        compile: number,
+        length: magnitude(table.bytes.len()),
+        ..Class::default()
+    };
+    if number == 0 {
+        compile(product, table, circuit.len())?;
+        compile(product, table, circuit.len() - 1)?;
+        class.run = runs_alike(product, table, &circuit)?.number;
+        class = class.with_circuit(&circuit, read(product, &circuit)?);
+        class.ancillas = circuit[2].into();
+    } else if judged != 0 {
+        class.run = run(product, table)?.number;
+    }
+    Ok(class)
+}
+
+fn compare_circuit(product: &impl Operations, circuit: &Circuit) -> Result<Class, Difference> {
+    let Circuit { bytes, word } = circuit;
+    let gates = read(product, bytes)?;
+    let run = run_circuit(product, bytes, *word)?.number;
+    let class = Class {
+        run,
+        ..Class::default()
+    };
+    Ok(class.with_circuit(bytes, gates))
+}
+
+/// Asks both sides. Gives the class of their answers.
+///
+/// # Errors
+/// What differs.
+pub fn compare(product: &impl Operations, input: &Input) -> Result<Class, Difference> {
+    match input {
+        Input::Table(table) => compare_table(product, table),
+        Input::Circuit(circuit) => compare_circuit(product, circuit),
+    }
+}
+
+/// Holds the listing program's output for a table against the second
+/// interpreter's. Says whether there is such a program.
+///
+/// # Errors
+/// What differs.
+pub fn compare_listing(product: &impl Operations, table: &Table) -> Result<bool, Difference> {
+    let Ok(n) = u8::try_from(table.n) else {
+        return Ok(false);
+    };
+    let input = [&[n], &table.bytes[..]].concat();
+    let Some(ours) = product.listing(&input) else {
+        return Ok(false);
+    };
+    let theirs = foq_reference::listing(&input);
+    let text = |bytes: &[u8]| String::from_utf8_lossy(bytes).into_owned();
+    same("listing", text(&ours), text(&theirs))?;
+    Ok(true)
+}

@@ -1,0 +1,127 @@
+//! A fault planted in one operation is found and shown on a small input; the
+//! product itself has none among as many inputs.
+
+use foq::border::{self, Answer, Block, Circuit};
+use foq_fuzz::input::Input;
+use foq_fuzz::operations::{Operations, Product};
+use foq_fuzz::{fuzz, Tried};
+
+/// Inputs that are tried at most.
+const INPUTS: u64 = 4_000;
+
+/// What is found.
+fn found(product: &impl Operations) -> Option<(Input, String)> {
+    let goes_on = |tried: &Tried| tried.tables + tried.circuits < INPUTS;
+    let (_, mismatch) = fuzz(product, 1, goes_on);
+    mismatch.map(|found| (found.input, found.difference))
+}
+
+/// Asserts that a fault is found, on an input of few bytes.
+fn assert_found(product: &impl Operations, operation: &str) {
+    let (input, difference) = found(product).expect(operation);
+    println!("{difference}: {input}");
+    assert!(difference.starts_with(operation));
+    assert!(input.bytes().len() <= 40);
+}
+
+#[test]
+fn the_product_has_no_fault_among_some_inputs() {
+    assert_eq!(found(&Product::of_the_repository()), None);
+}
+
+/// Accepts what has an access fault.
+struct Lenient;
+
+impl Operations for Lenient {
+    fn verdict(&self, table: &[u8], n: u32, workspace: &mut [u8]) -> u32 {
+        match border::verdict(table, n, workspace) {
+            12 => 0,
+            number => number,
+        }
+    }
+}
+
+/// Hands the start word back where the table has two procedures.
+struct Lazy;
+
+impl Operations for Lazy {
+    fn run(&self, table: &[u8], n: u32, word: u64, workspace: &mut [u8]) -> Answer {
+        let mut answer = border::run(table, n, word, workspace);
+        if answer.number == 0 && table[1] > 1 {
+            answer.value = word;
+        }
+        answer
+    }
+}
+
+/// Writes a byte of the room behind a circuit with more than four ancillas.
+struct Untidy;
+
+impl Operations for Untidy {
+    fn compile(&self, table: &[u8], n: u32, room: &mut [u8], workspace: &mut [u8]) -> Answer {
+        let answer = border::compile(table, n, room, workspace);
+        let behind = room.get(2).is_some_and(|&ancillas| ancillas > 4);
+        if let Some(byte) = room.get_mut(answer.value as usize) {
+            *byte ^= u8::from(behind && answer.number == 0);
+        }
+        answer
+    }
+}
+
+/// Leaves a workspace as it was where the table is refused.
+struct Forgetful;
+
+impl Operations for Forgetful {
+    fn compile(&self, table: &[u8], n: u32, room: &mut [u8], workspace: &mut [u8]) -> Answer {
+        let before = workspace.to_vec();
+        let answer = border::compile(table, n, room, workspace);
+        if answer.number == 11 {
+            workspace.copy_from_slice(&before);
+        }
+        answer
+    }
+}
+
+/// Reads a circuit with a byte too many.
+struct Careless;
+
+impl Operations for Careless {
+    fn circuit_read(&self, circuit: &[u8]) -> Circuit {
+        let whole = border::circuit_read(circuit);
+        match circuit.split_last() {
+            Some((_, rest)) if whole.number != 0 => border::circuit_read(rest),
+            _ => whole,
+        }
+    }
+}
+
+/// Leaves the last wire of a block out.
+struct Short;
+
+impl Operations for Short {
+    fn circuit_run(&self, circuit: &[u8], word: u64) -> Block {
+        let mut block = border::circuit_run(circuit, word);
+        block.bits[31] = 0;
+        block
+    }
+}
+
+/// Prints nothing.
+struct Mute;
+
+impl Operations for Mute {
+    fn listing(&self, _: &[u8]) -> Option<Vec<u8>> {
+        Some(Vec::new())
+    }
+}
+
+#[test]
+fn planted_faults_are_found() {
+    assert_found(&Lenient, "verdict");
+    assert_found(&Lazy, "run");
+    assert_found(&Untidy, "room's rest");
+    assert_found(&Forgetful, "workspace");
+    assert_found(&Careless, "circuit read");
+    assert_found(&Short, "circuit run");
+    assert_found(&Mute, "listing");
+}
