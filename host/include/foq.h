@@ -56,9 +56,9 @@
  * FOQ_ENOUGH_STACK bytes of stack are enough for a call. That is not proved but
  * measured, on x86-64, at the deepest tables that could be made:
  *
- *     foq_verdict       44 KiB
- *     foq_run          337 KiB
- *     foq_compile      341 KiB
+ *     foq_verdict       31 KiB
+ *     foq_run          302 KiB
+ *     foq_compile      319 KiB
  *     foq_circuit_read   1 KiB
  *     foq_circuit_run    1 KiB
  */
@@ -238,8 +238,8 @@ foq_answer foq_run(const uint8_t *table, size_t length, uint32_t n,
  * line of calls from main.
  *
  * The emission of a hostile table could be astronomical, but a call ends at the
- * first step that does not fit. On one machine PAIRS took a fifth of a
- * millisecond and the slowest table that is known eleven seconds: a host that
+ * first step that does not fit. On one machine PAIRS took a twentieth of a
+ * millisecond and the slowest table that is known three seconds: a host that
  * takes tables from strangers compiles them where it can stop them.
  */
 foq_answer foq_compile(const uint8_t *table, size_t length, uint32_t n,

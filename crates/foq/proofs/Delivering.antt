@@ -16,7 +16,7 @@ use Rattle.compile.specs.declared.Compiled.{Compiled}
 use Rattle.compile.specs.Passes.{compiledOf}
 use Rattle.compile.specs.Compiling.{Answered, answered}
 use Rattle.compile.specs.Compiling as compiling
-use Rattle.compile.proofs.Numbered.{Numbered, compile-numbered}
+use Rattle.compile.proofs.Numbered.{Refusal, compile-numbered}
 use Rattle.foq.specs.Compiling.{lengthAnswer, Delivered}
 
 -- the two halves of an answer
@@ -46,7 +46,7 @@ unfolding number valueOr
 delivers table n space workspace room (gives bytes) e zero-is =
     subst (Demand3 table n) (sym (given-bytes bytes room)) (compile-promises table n space workspace e .0)
 delivers table n space workspace room (refuses k) e zero-is =
-    let some : 1 ≤ k = rw e at (compile-numbered table n space workspace) in absurd (omega arith)
+    let number : Refusal k = rw e at (compile-numbered table n space workspace) in let some = number .0 in absurd (omega arith)
 
 module _ (table room : List ℕ) (n workspace : ℕ) (r : Compiled) (room₁ : List ℕ)
     (is : answered r room₁ ≡ compiling.answerOf (compile table n (length room) workspace) room) where

@@ -63,7 +63,7 @@ module _ (bs room ws : List ℕ) (n : ℕ) (r : Compiled) (room₁ : List ℕ)
         go : (x : Outcome (List ℕ)) → o ≡ x → Numbered x → r ≡ compiledOf x → room₁ ≡ roomAfter x room →
             (bytes : List ℕ) × (o ≡ gives bytes) × (r .length ≡ length bytes) × (room₁ ≡ bytes ++ drop (length bytes) room)
         go (gives bytes) q k e f = (bytes, q, ap (λ (y : Compiled). y .length) e, f)
-        go (refuses k) q some e f = let same : r .number ≡ k = ap (λ (y : Compiled). y .number) e in absurd (omega arith)
+        go (refuses k) q refusal e f = let some = refusal .0 in let same : r .number ≡ k = ap (λ (y : Compiled). y .number) e in absurd (omega arith)
 
     pub table-room : length room₁ ≡ length room → r .length ≤ 65536
     table-room same =
