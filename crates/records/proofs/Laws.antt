@@ -175,6 +175,19 @@ pub removals-lack : (removes : Bool) (bs : List ℕ) (at : ℕ) → removes ≡ 
 unfolding maybeRemovalsAt
 removals-lack removes bs at e = rw e
 
+-- their place, where it has 16 bits
+pub place-stands : (removes : Bool) (at : ℕ) → removes ≡ true → at < 65536 → at ≡ placeOf removes at
+unfolding placeOf
+place-stands removes at e l = rw (e, lt-ltb at 65536 l)
+
+pub place-past : (removes : Bool) (at : ℕ) → removes ≡ true → 65536 ≤ at → 0 ≡ placeOf removes at
+unfolding placeOf
+place-past removes at e l = rw (e, le-ltb at 65536 l)
+
+pub place-lacks : (removes : Bool) (at : ℕ) → removes ≡ false → 0 ≡ placeOf removes at
+unfolding placeOf
+place-lacks removes at e = rw e
+
 -- a record is made of its fields
 pub made-touching :
     (k place at n : ℕ) (removes : Bool) (a : Number) (r : Record) → place ≡ placeOf removes at → r ≡ touching k place a →
@@ -308,7 +321,18 @@ pub ruleset reading = (
   made-call,
 )
 
-pub ruleset written = (needs, past-end, written-past, written-constant, written-size, behind-stand, behind-lack)
+pub ruleset written = (
+  needs,
+  past-end,
+  written-past,
+  written-constant,
+  written-size,
+  place-stands,
+  place-past,
+  place-lacks,
+  behind-stand,
+  behind-lack,
+)
 
 pub ruleset kinds = (
   needs,

@@ -149,13 +149,13 @@ removals-agree bs (suc at) k z =
 
 -- removals, if any
 behind-agrees :
-    (removes : Bool) (bs : List ℕ) (at k : ℕ) → 0 < at → at ≤ length bs →
+    (removes : Bool) (bs : List ℕ) (at k : ℕ) → 0 < at → at < 65536 → at ≤ length bs →
     Agree (Within bs at 25 (behindRemovals removes bs at))
     (parsed (removalsOf bs (placeOf removes at)) (inputAt bs (behindRemovals removes bs at) k)) (answer.Place (behindRemovals removes bs at))
     (optional removes removals [] (inputAt bs at k)) (maybeRemovalsAt removes bs at)
 unfolding optional maybeRemovalsAt placeOf removalsOf behindRemovals
-behind-agrees true bs at k z h = removals-agree bs at k z
-behind-agrees false bs at k z h = reads (record { low = omega arith; high = omega arith; inside = h })
+behind-agrees true bs at k z l h = rw (lt-ltb at 65536 l) (removals-agree bs at k z)
+behind-agrees false bs at k z l h = reads (record { low = omega arith; high = omega arith; inside = h })
 
 -- a procedure is a byte
 procedure-agrees :
@@ -233,7 +233,7 @@ module _ (p : ℕ) (bs : List ℕ) (at k : ℕ) (h : at ≤ length bs) where
       number-then _ _ _ _ _ _ (number-agrees bs (at + 3) k) λ b.
       reads (refl, record { low = omega arith; high = omega arith; inside = b }))))
 
-  module _ (z : 0 < at) where
+  module _ (z : 0 < at) (s : at < 65536) where
     -- removals, if any, then number a
     touched-from :
         (j : ℕ) (make : ℕ → Number → Record) → ((place : ℕ) (a : Number) → kindOf (make place a) ≡ j) →
@@ -245,7 +245,7 @@ module _ (p : ℕ) (bs : List ℕ) (at k : ℕ) (h : at ≤ length bs) where
     touched-from j make e f removes =
         settled j (behindRemovals removes bs at + 3) _ (make (placeOf removes at) (writtenAt bs (behindRemovals removes bs at))) (e _ _)
         (rw f
-        (place-then _ _ _ _ _ (behind-agrees removes bs at k z h) λ w.
+        (place-then _ _ _ _ _ (behind-agrees removes bs at k z s h) λ w.
         number-then _ _ _ _ _ _ (number-agrees bs (behindRemovals removes bs at) k) λ q.
         reads (refl, record { low = omega arith; high = omega arith; inside = q })))
 
@@ -269,7 +269,7 @@ module _ (p : ℕ) (bs : List ℕ) (at k : ℕ) (h : at ≤ length bs) where
     unfolding withProcedure fieldsOf kindOf
     called-from removes =
         settled 5 (behindRemovals removes bs at + 1) _ (kind.Call (placeOf removes at) (byteAt bs (behindRemovals removes bs at))) refl
-        (place-then _ _ _ _ _ (behind-agrees removes bs at k z h) λ w.
+        (place-then _ _ _ _ _ (behind-agrees removes bs at k z s h) λ w.
         procedure-then _ _ _ _ _ _ (procedure-agrees p bs (behindRemovals removes bs at) k) λ q.
         reads (calling-is p _ _ (q .0) (q .1), record { low = omega arith; high = omega arith; inside = q .2 }))
 
@@ -331,7 +331,7 @@ number-read bs at k = go (number-agrees bs at k)
     go (reads q) = refl
     go (refuses m) = refl
 
-module _ (p j map : ℕ) (bs : List ℕ) (at k : ℕ) (z : 0 < at) (h : at ≤ length bs) (l : j < 12) (t : permitted j map ≡ true) where
+module _ (p j map : ℕ) (bs : List ℕ) (at k : ℕ) (z : 0 < at) (s : at < 65536) (h : at ≤ length bs) (l : j < 12) (t : permitted j map ≡ true) where
   -- the fields of a record are read at a place as the model reads them from the bytes from there on, where the map is permitted
   fields-agree : RecordAgree bs at k j (recordOf p j (stands 0 map) bs at) (fields p map (inputAt bs at k)) (fieldsAt p j (stands 0 map) bs at)
   unfolding fieldsAt recordOf plain touching comparing fieldsOf kindOf
@@ -339,11 +339,11 @@ module _ (p j map : ℕ) (bs : List ℕ) (at k : ℕ) (z : 0 < at) (h : at ≤ l
       by-kinds (λ (i : ℕ). permitted i map ≡ true →
       RecordAgree bs at k i (recordOf p i (stands 0 map) bs at) (fields p map (inputAt bs at k)) (fieldsAt p i (stands 0 map) bs at))
       (empty-agrees p bs at k h 0 kind.Skip refl refl map)
-      (touched-agrees p bs at k h z 1 kind.Not (λ place a. refl) (λ place a. refl) map)
+      (touched-agrees p bs at k h z s 1 kind.Not (λ place a. refl) (λ place a. refl) map)
       (empty-agrees p bs at k h 2 kind.Sequence refl refl map)
       (empty-agrees p bs at k h 3 kind.If refl refl map)
-      (touched-agrees p bs at k h z 4 kind.Qcase (λ place a. refl) (λ place a. refl) map)
-      (called-agrees p bs at k h z map)
+      (touched-agrees p bs at k h z s 4 kind.Qcase (λ place a. refl) (λ place a. refl) map)
+      (called-agrees p bs at k h z s map)
       (compared-agrees p bs at k h 6 kind.Greater (λ a b. refl) (λ a b. refl) map)
       (compared-agrees p bs at k h 7 kind.AtLeast (λ a b. refl) (λ a b. refl) map)
       (compared-agrees p bs at k h 8 kind.Equal (λ a b. refl) (λ a b. refl) map)

@@ -93,9 +93,9 @@ unfoldable pub maybeRemovalsAt : Bool → List ℕ → ℕ → Answer
 maybeRemovalsAt true bs at = removalsAt bs at
 maybeRemovalsAt false bs at = answer.Place at
 
--- the place of the removals' count, 0 where there are none
+-- the place of the removals' count, 0 where there are none. A place past 16 bits would be passed over: reading comes to none.
 unfoldable pub placeOf : Bool → ℕ → ℕ
-placeOf true at = at
+placeOf true at = pick (ltb at 65536) at 0
 placeOf false at = 0
 
 -- the place behind the removals, a count and three bytes each, where bit 0 stands in the map

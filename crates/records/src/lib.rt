@@ -24,14 +24,14 @@ pub enum Number {
     SizePlus(i32),
 }
 
-// The twelve kinds. Removals stand in the table: here is the place of their count, 0 where there are none.
+// The twelve kinds. Removals stand in the table: here is the place of their count, 0 where there are none. It has 16 bits, as places in the index have.
 pub enum Record {
     Skip,
-    Not(usize, Number),
+    Not(u16, Number),
     Sequence,
     If,
-    Qcase(usize, Number),
-    Call(usize, u8),
+    Qcase(u16, Number),
+    Call(u16, u8),
     Greater(Number, Number),
     AtLeast(Number, Number),
     Equal(Number, Number),
@@ -169,11 +169,15 @@ fn maybe_removals(table: &[u8], at: usize, removes: bool) -> Answer
     }
 }
 
-// The place of the removals' count, 0 where there are none.
-fn place(removes: bool, at: usize) -> usize
+// The place of the removals' count, 0 where there are none. Reading comes to no place past 16 bits.
+fn place(removes: bool, at: usize) -> u16
     ensures { λ r. ⌜ r ≡ placeOf removes at ⌝ }
 {
-    if removes { at } else { 0 }
+    if removes {
+        if at < 65536 { at as u16 } else { 0 }
+    } else {
+        0
+    }
 }
 
 // A record without fields, of this kind: skip, sequence, if, and, or, not.
@@ -191,7 +195,7 @@ fn plain(kind: u8) -> Record
 }
 
 // NOT, kind 1, or qcase, kind 4, of these fields.
-fn touching(kind: u8, place: usize, a: Number) -> Record
+fn touching(kind: u8, place: u16, a: Number) -> Record
     ensures { λ r. ⌜ r ≡ touching kind place a ⌝ }
 {
     if kind == 1 {
@@ -215,7 +219,7 @@ fn comparing(kind: u8, a: Number, b: Number) -> Record
 }
 
 // The call of a procedure, 1 to p. Any other counts as skip: no table that has been read has one.
-fn calling(place: usize, called: u8, p: u8) -> Record
+fn calling(place: u16, called: u8, p: u8) -> Record
     ensures { λ r. ⌜ r ≡ calling p place called ⌝ }
 {
     if called == 0 {

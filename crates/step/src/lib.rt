@@ -190,11 +190,11 @@ pub fn step_at(table: &[u8], index: &[u16], p: u8, i: usize, list: Qubits) -> St
     let found = record_at(table, start(index, i), p);
     match found {
         Record::Skip => Step::Nothing,
-        Record::Not(at, a) => Step::Touches(touched(table, at, a, list)),
+        Record::Not(at, a) => Step::Touches(touched(table, at as usize, a, list)),
         Record::Sequence => Step::Sequence(first, second),
         Record::If => Step::Chooses(first, second, behind(index, second)),
-        Record::Qcase(at, a) => Step::Branches(touched(table, at, a, list), first, second),
-        Record::Call(at, f) => Step::Calls(f, at),
+        Record::Qcase(at, a) => Step::Branches(touched(table, at as usize, a, list), first, second),
+        Record::Call(at, f) => Step::Calls(f, at as usize),
         Record::Greater(a, b) => Step::Holds(value(a, n) > value(b, n)),
         Record::AtLeast(a, b) => Step::Holds(value(a, n) >= value(b, n)),
         Record::Equal(a, b) => Step::Holds(value(a, n) == value(b, n)),

@@ -258,7 +258,7 @@ module _ {A : Type 0} (p : ℕ) (bs : List ℕ) (at i : ℕ) (ix : List ℕ) (fo
       (λ l. rw (lt-ltb i 255 l)
       (byBool (permitted k map)
       (λ t. rw (t, ← add-one i)
-      (fields-cases p k map bs (at + 2) (i + 1) (omega arith) inside small t
+      (fields-cases p k map bs (at + 2) (i + 1) (omega arith) (omega arith) inside small t
       (λ q x. Agree bs i ix found (andThen q f) (behindFields x ix g))
       (λ r next e is w. go r next l e is (omega (arith, w .high)))
       (λ m. refuses m ix)))
