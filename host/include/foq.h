@@ -56,9 +56,9 @@
  * FOQ_ENOUGH_STACK bytes of stack are enough for a call. That is not proved but
  * measured, on x86-64, at the deepest tables that could be made:
  *
- *     foq_verdict       31 KiB
- *     foq_run          302 KiB
- *     foq_compile      319 KiB
+ *     foq_verdict       30 KiB
+ *     foq_run          319 KiB
+ *     foq_compile      317 KiB
  *     foq_circuit_read   1 KiB
  *     foq_circuit_run    1 KiB
  */

@@ -17,6 +17,7 @@ use Rattle.model.specs.Gates.{Gate, flip, swap, act, acts}
 use Rattle.model.specs.Circuit.{Circuit, wires, within, blockOf, circuitBlock}
 use Rattle.model.specs.Answers.{Outcome, gives, refuses, after, require, Block, circuitRead, circuitRun}
 use Rattle.model.proofs.Tests.{and-left, and-right}
+use Rattle.model.proofs.Outcomes.{not-both}
 use Rattle.model.proofs.ListLaws.{member-head, member-tail, member-cases, member-skip, member-nil, not-in-nil}
 use Rattle.model.proofs.GateLaws.{targets, act-frame}
 use Rattle.model.proofs.Words.{past-bit, word-below, word-zero, word-wire, same-block, block-bit}
@@ -89,16 +90,14 @@ run-past bytes word {b} = go (circuitRead bytes) refl
     past-of x = ZeroPast (x .dataWires + x .ancillas) (x .bits)
     block : Circuit → Block
     block c = record { dataWires = c .dataWires; ancillas = c .ancillas; bits = circuitBlock c word }
-    not-both : {k : ℕ} {x : Block} → refuses k ≡ gives x → ⊥
-    not-both e = let z : _≡_ {A = ℕ} 0 1 = cc in omega arith
     tested : (c : Circuit) → WellFormed c → (low : Bool) → ltb word (2 ^ (c .dataWires)) ≡ low →
         require low highBit (gives (block c)) ≡ gives b → past-of b
     tested c f true low e = let same : block c ≡ b = cc in subst past-of same (circuit-past c f word (ltb-true word (2 ^ (c .dataWires)) low))
-    tested c f false low e = absurd (not-both e)
+    tested c f false low e = not-both e
     go : (x : Outcome Circuit) → circuitRead bytes ≡ x →
         after x (λ c. require (ltb word (2 ^ (c .dataWires))) highBit (gives (block c))) ≡ gives b → past-of b
     go (gives c) r e = tested c (write-circuitRead bytes r .0) (ltb word (2 ^ (c .dataWires))) refl e
-    go (refuses k) r e = absurd (not-both e)
+    go (refuses k) r e = not-both e
 
 -- an end word has no bit but those of its qubits
 pub end-below : (P : Program) (n word : ℕ) → endWord P n word < 2 ^ n

@@ -13,7 +13,7 @@ use Rattle.model.specs.Reach.{recursive, width, anyTooWide}
 use Rattle.model.specs.Gates.{Controls, noControls, asking}
 use Rattle.model.specs.Emission.{Chains, startChain, whole, Invocation, invocation, invoked, isWide, invocations, left, right, under}
 use Rattle.model.specs.Emission.{Emitted, bodyInvocations, around, bodies, bodiesFrom, chainsWithin, emission}
-use Rattle.model.proofs.Tests.{byBool}
+use Rattle.model.proofs.Tests.{byBool, not-zero}
 use Rattle.model.proofs.Calls.{Named, reach-call, rank, rank-positive, rank-most, rank-reach, rank-falls, all-narrow}
 use Rattle.agreement.proofs.Clauses.{whole-yes, whole-no, invocations-wide, invocations-thin, invocations-yes, invocations-no}
 use Rattle.agreement.proofs.Clauses.{invocations-recursive, invocations-other, left-wide, left-thin, left-yes, left-no, left-recursive}
@@ -37,10 +37,7 @@ thin-others Q r (NOT rs a) o h = tt
 thin-others Q r (sequence s t) o h = (thin-others Q r s (o .0) (omega arith), thin-others Q r t (o .1) (omega arith))
 thin-others Q r (if c s t) o h = (thin-others Q r s (o .0) (omega arith), thin-others Q r t (o .1) (omega arith))
 thin-others Q r (qcase rs a s t) o h = (thin-others Q r s (o .0) (omega arith), thin-others Q r t (o .1) (omega arith))
-thin-others Q r (call rs f) o h = byBool (r f) (λ e. absurd (one-is-not-zero (rw (e, width) at h))) o
-  where
-    one-is-not-zero : _≡_ {A = ℕ} 1 0 → ⊥
-    one-is-not-zero e = omega arith
+thin-others Q r (call rs f) o h = byBool (r f) (λ e. absurd (not-zero 0 (rw (e, width) at h))) o
 
 -- where two accounts of chains agree on the procedures that start them, what is emitted is the same
 module _ (Q : ℕ → Type 0) (chains chains′ : Chains) (A : Agree Q chains chains′) where

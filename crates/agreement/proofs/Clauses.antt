@@ -1,18 +1,18 @@
 -- The clauses of the emission by the test that decides them, and what width at most 1 says of a statement's parts.
-use mathlib.Core.Path.{_≡_, refl, sym, _∙_}
-use mathlib.Core.Bool.{Bool, true, false, not, _&&_, true≢false}
+use mathlib.Core.Path.{_≡_}
+use mathlib.Core.Bool.{Bool, true, false, not, _&&_}
 use mathlib.Core.List.{List, [], _∷_, _++_}
-use Prim.Native.Nat.{ℕ, zero, suc, _+_, _≤_, _<_, max}
+use Prim.Native.Nat.{ℕ, _+_, _≤_, _<_}
 use native.Mathlib.Omega.{arith}
 use borrow.Author.Tests.{ltb-true, ltb-false}
 use lib.ListN.{length}
-use lib.Dec.{ltb, eqb}
+use lib.Dec.{eqb}
 use Rattle.model.specs.Syntax.{Number, Condition, Statement, skip, NOT, sequence, if, qcase, call, Program}
 use Rattle.model.specs.Lists.{remaining, holds, member}
 use Rattle.model.specs.Reach.{width}
 use Rattle.model.specs.Gates.{Controls}
-use Rattle.model.specs.Emission.{Event, Chains, startChain, whole, Invocation, invoked, isWide, invocations, invokes, returns, left, right, Emitted, bodyInvocations, around, bodies}
-use Rattle.model.proofs.Tests.{byBool}
+use Rattle.model.specs.Emission.{Chains, startChain, whole, Invocation, invoked, isWide, invocations, invokes, returns, left, right, Emitted, bodyInvocations, around, bodies}
+use Rattle.model.proofs.Tests.{byBool, not-zero}
 use Rattle.model.proofs.Calls.{Ranked}
 
 module _ (chains : Chains) (l : List ℕ) (cs : Controls) (next : ℕ) where
@@ -135,10 +135,7 @@ thin-low rank r k (NOT rs a) q h = tt
 thin-low rank r k (sequence s t) q h = (thin-low rank r k s (q .0) (omega arith), thin-low rank r k t (q .1) (omega arith))
 thin-low rank r k (if c s t) q h = (thin-low rank r k s (q .0) (omega arith), thin-low rank r k t (q .1) (omega arith))
 thin-low rank r k (qcase rs a s t) q h = (thin-low rank r k s (q .0) (omega arith), thin-low rank r k t (q .1) (omega arith))
-thin-low rank r k (call rs f) q h = byBool (r f) (λ e. absurd (one-is-not-zero (rw (e, width) at h))) (λ e. q .1 e)
-  where
-    one-is-not-zero : _≡_ {A = ℕ} 1 0 → ⊥
-    one-is-not-zero e = omega arith
+thin-low rank r k (call rs f) q h = byBool (r f) (λ e. absurd (not-zero 0 (rw (e, width) at h))) (λ e. q .1 e)
 
 -- is d the first of its pair, with a list of length m?
 abbrev pub opens : ℕ → List ℕ → Invocation → Bool

@@ -7,10 +7,10 @@ use native.Mathlib.Nat.{not-suc-le-zero}
 use native.Mathlib.Omega.{arith}
 use borrow.Author.Tests.{not-true}
 use Rattle.model.specs.Syntax.{Statement, skip, NOT, sequence, if, qcase, call, Program, count, body}
-use Rattle.model.specs.Reach.{calls, Reaches, direct, onward, reaches, recursive, anyLacksRemoval}
+use Rattle.model.specs.Reach.{calls, reaches, recursive, anyLacksRemoval}
 use Rattle.model.specs.Bound.{largest, fallsTo, classesWithin, rOf}
 use Rattle.model.proofs.Tests.{byBool, byEq, byLt, eqb-same, clash, not-true-false, and-left, and-right, and-both, or-left, or-right}
-use Rattle.model.proofs.Calls.{Named, Ranked, rank, rank-positive, rank-all, rank-falls, all-ranked, body-out, reach-sound, reach-call, reach-trans}
+use Rattle.model.proofs.Calls.{Named, Ranked, rank, rank-positive, rank-all, rank-falls, all-ranked, body-out, reach-sound, reached-named, reach-call, reach-trans}
 use Rattle.agreement.proofs.Clauses.{Low}
 
 -- the clauses of `largest` by its test
@@ -90,10 +90,6 @@ line-longest P (suc fuel) f = largest-cases (fallsTo P f) (classesWithin P fuel)
     (λ e. rw e ends)
     (λ g h e. rw e (falls h (line-longest P fuel g)))
 
-reached-named : (P : Program) → Named P → {f g : ℕ} → Reaches P f g → g ≤ count P
-reached-named P N (direct {f = f} {g = g} c) = N f g c .1
-reached-named P N (onward c r) = reached-named P N r
-
 -- the most classes on one line of falling calls from f on, f's own counted
 abbrev pub classes : Program → ℕ → ℕ
 classes P f = classesWithin P (suc (count P)) f
@@ -117,7 +113,7 @@ module _ (P : Program) (N : Named P) where
   falls-of f g h n = and-both (reaches P f g) (not (reaches P g f)) h (rw n)
 
   falls-named : (f g : ℕ) → fallsTo P f g ≡ true → g ≤ count P
-  falls-named f g h = reached-named P N (reach-sound P f g (falls-reach f g h))
+  falls-named f g h = reached-named P N (reach-sound P f g (falls-reach f g h)) .1
 
   -- a line is no longer than the rank of its first procedure
   line-rank : {f k : ℕ} → f ≤ count P → Line P f k → k ≤ rank P f

@@ -1,6 +1,6 @@
 -- What a list of events does to a state: its gates act, and taking or giving back an ancilla changes nothing.
 use Prim.Native.Nat.{ℕ}
-use mathlib.Core.Path.{_≡_, refl, sym, ap, _∙_}
+use mathlib.Core.Path.{_≡_, refl}
 use mathlib.Core.List.{List, [], _∷_, _++_, reverse, reverse-cons}
 use Rattle.model.specs.Meaning.{State}
 use Rattle.model.specs.Gates.{Gate, act, acts}

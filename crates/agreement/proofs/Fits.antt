@@ -3,7 +3,7 @@
 use mathlib.Core.Path.{_≡_, refl, sym, _∙_}
 use mathlib.Core.Logic.{inl, inr}
 use mathlib.Core.List.{List, [], _∷_}
-use Prim.Native.Nat.{ℕ, suc, _+_, _≤_, _<_}
+use Prim.Native.Nat.{ℕ, _+_, _≤_, _<_}
 use native.Mathlib.Nat.{not-suc-le-zero}
 use native.Mathlib.Omega.{arith}
 use borrow.Author.Tests.{lt-ltb, le-ltb, le-leb, lt-leb}
@@ -14,7 +14,7 @@ use Rattle.model.specs.Gates.{Gate}
 use Rattle.model.specs.Emission.{Event, takes, places, frees, emission, gates, peak}
 use Rattle.model.specs.Circuit.{encode, encodeAll}
 use Rattle.model.specs.Answers.{fit}
-use Rattle.model.proofs.Tests.{byLt}
+use Rattle.model.proofs.Tests.{byLt, not-zero}
 use Rattle.model.proofs.RoundTrip.{encodeAll-length}
 use Rattle.agreement.proofs.Peak.{highest, peak-highest, Taken}
 
@@ -51,9 +51,6 @@ module _ (room used : ℕ) (es : List Event) where
   fit-no-gate : (g : Gate) → room < used + length (encode g) → fit room used (places g ∷ es) ≡ noRoom
   unfolding fit
   fit-no-gate g h = rw (lt-leb (used + length (encode g)) room h, fit)
-
-not-zero : (k : ℕ) → _≡_ {A = ℕ} (suc k) 0 → ⊥
-not-zero k e = omega arith
 
 -- where it gives 0 every step fits
 pub fit-all : (room used : ℕ) (es : List Event) → fit room used es ≡ 0 → AllFit room used es

@@ -135,7 +135,7 @@ module _ (n : ℕ) where
       (λ e. rw (right-other chains r l cs next rs f top e) refl)
 
 -- events that only place gates
-abbrev OnlyGates : List Event → Type 0
+abbrev pub OnlyGates : List Event → Type 0
 OnlyGates [] = Unit {0}
 OnlyGates (takes w ∷ es) = ⊥
 OnlyGates (places g ∷ es) = OnlyGates es
@@ -147,7 +147,7 @@ only-append (takes w ∷ xs) ys x y = x
 only-append (places g ∷ xs) ys x y = only-append xs ys x y
 only-append (frees a ∷ xs) ys x y = x
 
-only-reverse : (es : List Event) → OnlyGates es → OnlyGates (reverse es)
+pub only-reverse : (es : List Event) → OnlyGates es → OnlyGates (reverse es)
 only-reverse [] x = tt
 only-reverse (takes w ∷ es) x = absurd x
 only-reverse (places g ∷ es) x = rw (reverse-cons (places g) es) (only-append (reverse es) (places g ∷ []) (only-reverse es x) tt)
@@ -167,7 +167,7 @@ swaps-only e (k ∷ ks) (w ∷ ws) = byBool (eqb w k)
     (λ q. rw (q, swaps) (swaps-only e ks ws))
     (λ q. rw (q, swaps) (swaps-only e ks (map (exchange w k) ws)))
 
-entries-only : (d : Invocation) (later : List Invocation) → OnlyGates (allEntryGates d later)
+pub entries-only : (d : Invocation) (later : List Invocation) → OnlyGates (allEntryGates d later)
 unfolding allEntryGates entryGates
 entries-only d [] = tt
 entries-only d (e ∷ later) = byBool (samePair d e)

@@ -1,25 +1,25 @@
 -- What compile promises, read off the definitions: demand 3 for every table that it compiles, and refusals 22 and 23 exactly where a step does not fit.
 use mathlib.Core.Path.{_≡_, refl, sym, ap, _∙_, subst}
 use mathlib.Core.Logic.{_≢_, _⊎_, inl, inr}
-use mathlib.Core.Bool.{Bool, true, false, not, _&&_, true≢false}
+use mathlib.Core.Bool.{Bool, true, false, not, _&&_}
 use mathlib.Core.List.{List, []}
-use Prim.Native.Nat.{ℕ, zero, suc, _+_, _^_, _≤_, _<_}
+use Prim.Native.Nat.{ℕ, zero, suc, _^_, _≤_, _<_}
 use native.Mathlib.Omega.{arith}
-use borrow.Author.Tests.{leb-true, lt-ltb, le-leb, lt-leb}
+use borrow.Author.Tests.{leb-true, lt-ltb, le-leb, lt-leb, not-true}
 use lib.ListN.{length}
-use lib.Dec.{ltb, leb}
-use Rattle.model.specs.Limits.{mostProcedures, mostQubits, headerLength, leastWorkspace, blockLength, shortWorkspace, noRoom}
+use lib.Dec.{leb}
+use Rattle.model.specs.Limits.{mostProcedures, mostQubits, headerLength, leastWorkspace, blockLength, noRoom}
 use Rattle.model.specs.Syntax.{Program, count}
-use Rattle.model.specs.Reading.{Input, Parsed, parsed, refused, readTable}
+use Rattle.model.specs.Reading.{Parsed, parsed, refused, readTable}
 use Rattle.model.specs.Faults.{programFaults}
 use Rattle.model.specs.Meaning.{State, stateOf, endState, endWord}
 use Rattle.model.specs.Reach.{anyLacksRemoval, anyTooWide}
-use Rattle.model.specs.Gates.{acts}
-use Rattle.model.specs.Emission.{emission, gates, peak}
+use Rattle.model.specs.Emission.{emission, peak}
 use Rattle.model.specs.Circuit.{Circuit, write, blockOf, circuitBlock}
-use Rattle.model.specs.Answers.{Outcome, gives, refuses, after, require, outcome, valueOr, accepted, fit, fitted, circuit, usable, run, compile, circuitRead, circuitRun}
+use Rattle.model.specs.Answers.{Outcome, gives, refuses, after, require, outcome, accepted, fit, fitted, circuit, usable, run, compile, circuitRead, circuitRun}
 use Rattle.model.specs.Demand.{Demand3}
 use Rattle.model.proofs.Tests.{and-left, and-right, byEq}
+use Rattle.model.proofs.Outcomes.{not-both, gives-same}
 use Rattle.model.proofs.Words.{word-zero, word-wire, same-block}
 use Rattle.model.proofs.Calls.{Named}
 use Rattle.model.proofs.Inversion.{read-named, read-count}
@@ -38,15 +38,6 @@ pub record Accepted (n : ℕ) (P : Program) : Type 0 where
   pub passes11 : anyTooWide P ≡ false
   pub passes12 : programFaults P n ≡ false
 
--- an outcome is not both a result and a refusal
-unfoldable isGiven : {A : Type 0} → Outcome A → Bool
-isGiven (gives a) = true
-isGiven (refuses k) = false
-
-not-both : {A B : Type 0} {a : A} {k : ℕ} → refuses k ≡ gives a → B
-unfolding isGiven
-not-both e = absurd (true≢false (sym (ap isGiven e)))
-
 -- a requirement that is passed holds, and what comes behind it gives the result
 required : {A : Type 0} (b : Bool) (k : ℕ) (x : Outcome A) {a : A} → require b k x ≡ gives a → (b ≡ true) × (x ≡ gives a)
 unfolding require
@@ -63,14 +54,6 @@ gave : {A B : Type 0} (x : Outcome A) (f : A → Outcome B) {b : B} → after x 
 unfolding after
 gave (gives a) f e = record { first = a; first-is = refl; then-is = e }
 gave (refuses k) f e = not-both e
-
-passed : (b : Bool) → not b ≡ true → b ≡ false
-passed true e = absurd (true≢false (sym e))
-passed false e = refl
-
-gives-same : {A : Type 0} {a b : A} → gives a ≡ gives b → a ≡ b
-unfolding valueOr
-gives-same {a = a} e = ap (valueOr a) e
 
 -- what is given by reading was read
 read-names : (table : List ℕ) (x : Parsed Program) (P : Program) → readTable table ≡ x → outcome x ≡ gives P → Named P
@@ -92,9 +75,9 @@ accepted-is table n P e =
       some = leb-true 1 n (and-left (leb 1 n) (leb n mostQubits) (range .0));
       few = leb-true n mostQubits (and-right (leb 1 n) (leb n mostQubits) (range .0));
       named = read-names table (readTable table) Q refl (reading .first-is);
-      passes10 = passed (anyLacksRemoval Q) (ten .0);
-      passes11 = passed (anyTooWide Q) (eleven .0);
-      passes12 = passed (programFaults Q n) (twelve .0) })
+      passes10 = not-true (anyLacksRemoval Q) (ten .0);
+      passes11 = not-true (anyTooWide Q) (eleven .0);
+      passes12 = not-true (programFaults Q n) (twelve .0) })
 
 -- an accepted table has at most 16 procedures
 few-read : (table : List ℕ) (x : Parsed Program) (P : Program) → readTable table ≡ x → outcome x ≡ gives P → count P ≤ mostProcedures

@@ -1,11 +1,11 @@
 -- Every gate of the emission is well formed: its controls ascend, no wire stands twice in it, and its wires are 1 to n plus the ancillas.
 use mathlib.Core.Path.{_≡_, refl, sym, _∙_, subst}
 use mathlib.Core.Logic.{_≢_, inl, inr}
-use mathlib.Core.Bool.{Bool, true, false, not, _&&_, _||_}
+use mathlib.Core.Bool.{Bool, true, false, not, _&&_}
 use mathlib.Core.List.{List, [], _∷_, _++_, map, reverse, reverse-cons}
 use Prim.Native.Nat.{ℕ, zero, suc, _+_, _≤_, _<_, min, max, suc-le-suc}
 use native.Mathlib.Omega.{arith}
-use borrow.Author.Tests.{lt-ltb, ltb-true, ltb-false, le-leb, eqb-false, not-true}
+use borrow.Author.Tests.{lt-ltb, ltb-false, le-leb, eqb-false, not-true}
 use lib.ListN.{length, length-append}
 use lib.Dec.{eqb, ltb}
 use Rattle.model.specs.Syntax.{Number, Statement, skip, NOT, sequence, if, qcase, call, Program, count, body}
@@ -18,8 +18,9 @@ use Rattle.model.specs.Gates.{Controls, noControls, insert, asking, flip, swap,
 use Rattle.model.specs.Emission.{Event, takes, places, frees, Chains, startChain, whole, Invocation, invocation, invoked, isWide, invocations, invokes, returns, left, right, under, swaps, entryGates, samePair, allEntryGates, Emitted, bodyInvocations, around, bodies, bodiesFrom, chainsWithin, emission, gates, peak}
 use Rattle.model.specs.Answers.{fit, circuit, usable}
 use Rattle.model.specs.Circuit.{write, wires, controlsOf, ascends, distinct, within, lowerFirst, gateIsWellFormed}
-use Rattle.model.proofs.Tests.{byBool, byEq, byLt, clash, not-true-false, and-left, and-right, and-both, or-cases, or-left, or-false, or-false-left, or-false-right}
-use Rattle.model.proofs.ListLaws.{qubits-data, range-distinct, member-head, member-tail, member-cases, member-skip, not-head, not-tail, not-in-nil, Distinct, Data, data-remaining, data-touched, remaining-distinct}
+use Rattle.model.proofs.Tests.{byBool, byEq, byLt, clash, not-true-false, and-left, and-right, and-both, or-false, or-false-left, or-false-right}
+use Rattle.model.proofs.ListLaws.{qubits-data, range-distinct, member-head, member-tail, member-cases, member-append, member-skip, not-head, not-tail, not-in-nil, Distinct, Data, data-remaining, data-touched, remaining-distinct}
+use Rattle.model.proofs.WireLists.{ascends-tail, ascends-larger, ascends-distinct}
 use Rattle.model.proofs.GateLaws.{insert-cases, asks, asks-none, asks-cases, exchange-left, exchange-right, exchange-other}
 use Rattle.model.proofs.Calls.{Named, Ranked, rank}
 use Rattle.model.proofs.RoundTrip.{AllWellFormed, write-length, WellFormed}
@@ -32,21 +33,7 @@ use Rattle.agreement.proofs.Agreement.{callRuns, callSafe, main-low, wo
 use Rattle.agreement.proofs.Fits.{fit-all, fits-length, fits-wires, fits-count}
 use Rattle.agreement.proofs.Peak.{StackedChains, left-stacked, AllRise, bodies-stacked, bodiesFrom-stacked, chains-stacked, taken-left, taken-right, TakenTo, stacked-to, taken-wires}
 
--- ascending lists: every wire behind the first is larger
-ascends-tail : (x : ℕ) (l : List ℕ) → ascends (x ∷ l) ≡ true → ascends l ≡ true
-unfolding ascends
-ascends-tail x [] h = refl
-ascends-tail x (y ∷ l) h = and-right (ltb x y) (ascends (y ∷ l)) h
-
-ascends-larger : (x : ℕ) (l : List ℕ) → ascends (x ∷ l) ≡ true → (v : ℕ) → member v l ≡ true → x < v
-unfolding ascends
-ascends-larger x [] h v m = not-in-nil v m
-ascends-larger x (y ∷ l) h v m =
-    let less = ltb-true x y (and-left (ltb x y) (ascends (y ∷ l)) h) in
-    member-cases v y l m
-      (λ e. rw e less)
-      (λ i. let larger = ascends-larger y l (and-right (ltb x y) (ascends (y ∷ l)) h) v i in omega arith)
-
+-- a smaller wire in front keeps a list ascending
 ascends-cons : (x : ℕ) (l : List ℕ) → ((v : ℕ) → member v l ≡ true → x < v) → ascends l ≡ true → ascends (x ∷ l) ≡ true
 unfolding ascends
 ascends-cons x [] h a = refl
@@ -65,25 +52,7 @@ insert-ascends w (x ∷ l) n a = byBool (ltb w x)
         (λ v m. insert-cases w v l m (λ q. rw q less) (λ i. ascends-larger x l a v i))
         (insert-ascends w l (not-tail w x l n) (ascends-tail x l a))))
 
--- no wire stands twice
-ascends-distinct : (l : List ℕ) → ascends l ≡ true → distinct l ≡ true
-unfolding distinct
-ascends-distinct [] a = refl
-ascends-distinct (x ∷ l) a =
-    rw (not-true-false (member x l) (λ m. irreflexive (ascends-larger x l a x m))) (ascends-distinct l (ascends-tail x l a))
-  where
-    irreflexive : x < x → ⊥
-    irreflexive h = omega arith
-
-member-append : (v : ℕ) (xs ys : List ℕ) → member v (xs ++ ys) ≡ member v xs || member v ys
-unfolding member
-member-append v [] ys = refl
-member-append v (x ∷ xs) ys = rw (member-append v xs ys) (onward (eqb v x) (member v xs) (member v ys))
-  where
-    onward : (a b c : Bool) → a || (b || c) ≡ (a || b) || c
-    onward true b c = refl
-    onward false b c = refl
-
+-- two lists that share no wire
 distinct-append : (xs ys : List ℕ) → distinct xs ≡ true → distinct ys ≡ true →
     ((v : ℕ) → member v xs ≡ true → member v ys ≡ false) → distinct (xs ++ ys) ≡ true
 unfolding distinct

@@ -1,6 +1,6 @@
--- The ways out of the circuit reader.
+-- The ways out of the reader of a header, and of the circuit reader.
 use mathlib.Core.Path.{_≡_, refl, sym, ap, _∙_}
-use mathlib.Core.Bool.{Bool, true, false, not, _&&_, false≢true}
+use mathlib.Core.Bool.{Bool, true, false, _&&_, false≢true}
 use mathlib.Core.List.{List, _∷_}
 use Prim.Native.Nat.{ℕ, zero, suc, _+_, _-_, _*_, _≤_, _<_}
 use native.Mathlib.Omega.{arith}
@@ -16,8 +16,11 @@ use Rattle.model.specs.Answers.{Outcome, gives, refuses, number, wellFormed, ci
 use Rattle.model.proofs.Tests.{byLt}
 use Rattle.circuit.proofs.Reading.{byte-at, byte-past}
 use Rattle.circuit.specs.Views.{inputAt, fills}
-use Rattle.circuit.specs.Header.{headerOf, refusedHeader}
+use Rattle.circuit.specs.Header.{closed, gatesBehind, circuitBehind, headerOf, refusedHeader}
 use Rattle.circuit.specs.declared.CircuitHeader.{CircuitHeader}
+use Rattle.circuit.specs.declared.Header.{Header}
+use Rattle.circuit.specs.declared.HeaderRead.{HeaderRead}
+use Rattle.circuit.specs.declared.HeaderRead.the-variants.{Opened, NoHeader}
 
 -- the header's number is the answer's
 pub header-number : (o : Outcome Circuit) → headerOf o .number ≡ number o
@@ -27,20 +30,20 @@ header-number (refuses k) = refl
 
 -- a reading that needs a byte which is not there is refused, whatever it makes of it
 byte-lacks : (bs : List ℕ) (at : ℕ) (f : ℕ → Input → Parsed Circuit) →
-    (at < length bs → headerOf (wellFormed (f (getD bs at 0) (inputAt bs (at + 1)))) ≡ refusedHeader) →
-    headerOf (wellFormed (andThen (byte (inputAt bs at)) f)) ≡ refusedHeader
-unfolding andThen wellFormed headerOf
+    (at < length bs → wellFormed (f (getD bs at 0) (inputAt bs (at + 1))) ≡ refuses notWellFormed) →
+    wellFormed (andThen (byte (inputAt bs at)) f) ≡ refuses notWellFormed
+unfolding andThen wellFormed
 byte-lacks bs at f h = byLt at (length bs) (λ l. rw (byte-at bs at l) (h l)) (λ l. rw (byte-past bs at l))
 
-provided-lacks : (b : Bool) (p : Parsed Circuit) → headerOf (wellFormed p) ≡ refusedHeader →
-    headerOf (wellFormed (provided b notWellFormed p)) ≡ refusedHeader
-unfolding provided wellFormed headerOf
+provided-lacks : (b : Bool) (p : Parsed Circuit) → wellFormed p ≡ refuses notWellFormed →
+    wellFormed (provided b notWellFormed p) ≡ refuses notWellFormed
+unfolding provided wellFormed
 provided-lacks true p h = h
 provided-lacks false p h = refl
 
 refused-lacks : {A : Type 0} (p : Parsed A) (f : A → Input → Parsed Circuit) → p ≡ refused tableStops →
-    headerOf (wellFormed (andThen p f)) ≡ refusedHeader
-unfolding andThen wellFormed headerOf
+    wellFormed (andThen p f) ≡ refuses notWellFormed
+unfolding andThen wellFormed
 refused-lacks p f e = rw e
 
 -- "4 bytes" of which some are missing
@@ -55,13 +58,95 @@ count-stops bs h =
     byte-stops bs 3 _ (λ a. byte-stops bs 4 _ (λ b. byte-stops bs 5 _ (λ c. byte-stops bs 6 _ (λ d. absurd (omega arith)))))
 
 -- a circuit whose header is not all there
-header-stops : (bs : List ℕ) → length bs < 7 → headerOf (wellFormed (circuitOf (inputAt bs 0))) ≡ refusedHeader
+header-stops : (bs : List ℕ) → length bs < 7 → wellFormed (circuitOf (inputAt bs 0)) ≡ refuses notWellFormed
 unfolding circuitOf
 header-stops bs h =
     byte-lacks bs 0 _ (λ a. provided-lacks (eqb (getD bs 0 0) 1) _
     (byte-lacks bs 1 _ (λ b. provided-lacks (leb 1 (getD bs 1 0) && leb (getD bs 1 0) 32) _
     (byte-lacks bs 2 _ (λ c. provided-lacks (leb (getD bs 1 0 + getD bs 2 0) 255) _
     (refused-lacks (fourByteNumber (inputAt bs 3)) _ (count-stops bs h)))))))
+
+-- the number in bytes 3 to 6
+abbrev countIn : List ℕ → ℕ
+countIn bs = getD bs 3 0 + 256 * getD bs 4 0 + 65536 * getD bs 5 0 + 16777216 * getD bs 6 0
+
+-- the header's tests of at least 7 bytes, then the gates
+opened : (bs : List ℕ) → 7 ≤ length bs →
+    circuitOf (inputAt bs 0) ≡ provided (eqb (getD bs 0 0) 1) notWellFormed (provided (leb 1 (getD bs 1 0) && leb (getD bs 1 0) 32) notWellFormed
+    (provided (leb (getD bs 1 0 + getD bs 2 0) 255) notWellFormed
+    (closed (getD bs 1 0) (getD bs 2 0) (readGates (getD bs 1 0 + getD bs 2 0) (countIn bs) (inputAt bs 7)))))
+unfolding circuitOf fourByteNumber andThen
+opened bs h =
+    rw (
+      byte-at bs 0 (omega arith),
+      byte-at bs 1 (omega arith),
+      byte-at bs 2 (omega arith),
+      byte-at bs 3 (omega arith),
+      byte-at bs 4 (omega arith),
+      byte-at bs 5 (omega arith),
+      byte-at bs 6 (omega arith),
+    )
+
+-- the ways out of `read_header`
+module _ (bs : List ℕ) where
+  pub header-long : 65536 < length bs → circuitBehind bs NoHeader ≡ circuitRead bs
+  unfolding readCircuit provided wellFormed circuitBehind
+  header-long h = rw (lt-leb (length bs) 65536 h)
+
+  module _ (l : length bs ≤ 65536) where
+    pub header-short : length bs < 7 → circuitBehind bs NoHeader ≡ circuitRead bs
+    unfolding readCircuit provided circuitBehind
+    header-short h = rw (le-leb (length bs) 65536 l) (sym (header-stops bs h))
+
+    module _ (h : 7 ≤ length bs) where
+      read : readCircuit bs ≡ circuitOf (inputAt bs 0)
+      unfolding readCircuit provided
+      read = rw (le-leb (length bs) 65536 l)
+
+      pub header-edition : (getD bs 0 0 ≡ 1 → ⊥) → circuitBehind bs NoHeader ≡ circuitRead bs
+      unfolding provided wellFormed circuitBehind
+      header-edition f = rw (read, opened bs h, ne-eqb (getD bs 0 0) 1 f)
+
+      module _ (e : getD bs 0 0 ≡ 1) where
+        pub header-none : getD bs 1 0 ≡ 0 → circuitBehind bs NoHeader ≡ circuitRead bs
+        unfolding provided wellFormed circuitBehind
+        header-none z = rw (read, opened bs h, e, z)
+
+        module _ (f : getD bs 1 0 ≡ 0 → ⊥) where
+          pub header-qubits : 32 < getD bs 1 0 → circuitBehind bs NoHeader ≡ circuitRead bs
+          unfolding provided wellFormed circuitBehind
+          header-qubits k = rw (read, opened bs h, e, le-leb 1 (getD bs 1 0) (omega arith), lt-leb (getD bs 1 0) 32 k)
+
+          module _ (k : getD bs 1 0 ≤ 32) where
+            pub header-wires : 255 - getD bs 1 0 < getD bs 2 0 → circuitBehind bs NoHeader ≡ circuitRead bs
+            unfolding provided wellFormed circuitBehind
+            header-wires m =
+                rw (
+                  read,
+                  opened bs h,
+                  e,
+                  le-leb 1 (getD bs 1 0) (omega arith),
+                  le-leb (getD bs 1 0) 32 k,
+                  lt-leb (getD bs 1 0 + getD bs 2 0) 255 (omega arith),
+                )
+
+            pub header-opened : getD bs 2 0 ≤ 255 - getD bs 1 0 → (count : ℕ) → count ≡ countIn bs →
+                circuitBehind bs (Opened (record {
+                  qubits = getD bs 1 0; ancillas = getD bs 2 0; wires = getD bs 1 0 + getD bs 2 0; gates = count })) ≡ circuitRead bs
+            unfolding provided circuitBehind
+            header-opened m count q =
+                rw (
+                  read,
+                  opened bs h,
+                  e,
+                  le-leb 1 (getD bs 1 0) (omega arith),
+                  le-leb (getD bs 1 0) 32 k,
+                  le-leb (getD bs 1 0 + getD bs 2 0) 255 (omega arith),
+                  q,
+                )
+
+pub ruleset headers =
+    (needs, header-long, header-short, header-edition, header-none, header-qubits, header-wires, header-opened)
 
 -- what was read, if it was, are n gates
 abbrev Counts : ℕ → Parsed (List Gate) → Type 0
@@ -84,11 +169,6 @@ read-counts most (suc n) i = each (readGate most i) (λ j. read-counts most n j)
     each (parsed g j) h = counts-front n (readGates most n j) g (h j)
     each (refused k) h = tt
 
--- a circuit of the gates read behind its header: "no byte is left"
-abbrev pub closed : ℕ → ℕ → Parsed (List Gate) → Parsed Circuit
-closed n ancillas p =
-    andThen p (λ gs o. provided (eqb (length (o .bytes)) 0) notWellFormed (parsed (record { dataWires = n; ancillas = ancillas; gates = gs }) o))
-
 module _ (n ancillas : ℕ) where
   header-good : (count : ℕ) (p : Parsed (List Gate)) → Counts count p → fills p ≡ true →
       headerOf (wellFormed (closed n ancillas p)) ≡ record { number = 0; qubits = n; ancillas = ancillas; gates = count }
@@ -101,96 +181,21 @@ module _ (n ancillas : ℕ) where
   header-bad (parsed gs o) e = rw e
   header-bad (refused k) e = refl
 
--- the number in bytes 3 to 6
-abbrev pub countIn : List ℕ → ℕ
-countIn bs = getD bs 3 0 + 256 * getD bs 4 0 + 65536 * getD bs 5 0 + 16777216 * getD bs 6 0
-
--- the header's tests of at least 7 bytes, then the gates
-pub opened : (bs : List ℕ) → 7 ≤ length bs →
-    circuitOf (inputAt bs 0) ≡ provided (eqb (getD bs 0 0) 1) notWellFormed (provided (leb 1 (getD bs 1 0) && leb (getD bs 1 0) 32) notWellFormed
-    (provided (leb (getD bs 1 0 + getD bs 2 0) 255) notWellFormed
-    (closed (getD bs 1 0) (getD bs 2 0) (readGates (getD bs 1 0 + getD bs 2 0) (countIn bs) (inputAt bs 7)))))
-unfolding circuitOf fourByteNumber andThen
-opened bs h =
-    rw (
-      byte-at bs 0 (omega arith),
-      byte-at bs 1 (omega arith),
-      byte-at bs 2 (omega arith),
-      byte-at bs 3 (omega arith),
-      byte-at bs 4 (omega arith),
-      byte-at bs 5 (omega arith),
-      byte-at bs 6 (omega arith),
-    )
-
 -- the ways out of `read_circuit`
-module _ (bs : List ℕ) where
-  pub circuit-long : (x : CircuitHeader) → x ≡ refusedHeader → 65536 < length bs → x ≡ headerOf (circuitRead bs)
-  unfolding readCircuit provided wellFormed headerOf
-  circuit-long x is h = rw (is, lt-leb (length bs) 65536 h)
+module _ (bs : List ℕ) (found : HeaderRead) (is : circuitBehind bs found ≡ circuitRead bs) where
+  pub circuit-none : found ≡ NoHeader → (x : CircuitHeader) → x ≡ refusedHeader → x ≡ headerOf (circuitRead bs)
+  unfolding circuitBehind headerOf
+  circuit-none e x q = rw (q, ← is, e)
 
-  module _ (l : length bs ≤ 65536) where
-    pub circuit-short : (x : CircuitHeader) → x ≡ refusedHeader → length bs < 7 → x ≡ headerOf (circuitRead bs)
-    unfolding readCircuit provided
-    circuit-short x is h = rw (is, le-leb (length bs) 65536 l) (sym (header-stops bs h))
+  module _ (h : Header) (e : found ≡ Opened h) (good : Bool) (p : good ≡ fills (gatesBehind bs h)) where
+    pub circuit-gates : good ≡ false → (x : CircuitHeader) → x ≡ refusedHeader → x ≡ headerOf (circuitRead bs)
+    unfolding circuitBehind
+    circuit-gates g x q = rw (q, ← is, e) (sym (header-bad (h .qubits) (h .ancillas) (gatesBehind bs h) (sym p ∙ g)))
 
-    module _ (h : 7 ≤ length bs) where
-      read : readCircuit bs ≡ circuitOf (inputAt bs 0)
-      unfolding readCircuit provided
-      read = rw (le-leb (length bs) 65536 l)
+    pub circuit-whole : good ≡ true →
+        record { number = 0; qubits = h .qubits; ancillas = h .ancillas; gates = h .gates } ≡ headerOf (circuitRead bs)
+    unfolding circuitBehind
+    circuit-whole g = rw (← is, e) (sym (header-good (h .qubits) (h .ancillas) (h .gates) (gatesBehind bs h)
+        (read-counts (h .wires) (h .gates) (inputAt bs 7)) (sym p ∙ g)))
 
-      pub circuit-edition : (x : CircuitHeader) → x ≡ refusedHeader → (getD bs 0 0 ≡ 1 → ⊥) → x ≡ headerOf (circuitRead bs)
-      unfolding provided wellFormed headerOf
-      circuit-edition x is f = rw (is, read, opened bs h, ne-eqb (getD bs 0 0) 1 f)
-
-      module _ (e : getD bs 0 0 ≡ 1) where
-        pub circuit-none : (x : CircuitHeader) → x ≡ refusedHeader → getD bs 1 0 ≡ 0 → x ≡ headerOf (circuitRead bs)
-        unfolding provided wellFormed headerOf
-        circuit-none x is z = rw (is, read, opened bs h, e, z)
-
-        module _ (f : getD bs 1 0 ≡ 0 → ⊥) where
-          pub circuit-qubits : (x : CircuitHeader) → x ≡ refusedHeader → 32 < getD bs 1 0 → x ≡ headerOf (circuitRead bs)
-          unfolding provided wellFormed headerOf
-          circuit-qubits x is k = rw (is, read, opened bs h, e, le-leb 1 (getD bs 1 0) (omega arith), lt-leb (getD bs 1 0) 32 k)
-
-          module _ (k : getD bs 1 0 ≤ 32) where
-            pub circuit-wires : (x : CircuitHeader) → x ≡ refusedHeader → 255 - getD bs 1 0 < getD bs 2 0 → x ≡ headerOf (circuitRead bs)
-            unfolding provided wellFormed headerOf
-            circuit-wires x is m =
-                rw (
-                  is,
-                  read,
-                  opened bs h,
-                  e,
-                  le-leb 1 (getD bs 1 0) (omega arith),
-                  le-leb (getD bs 1 0) 32 k,
-                  lt-leb (getD bs 1 0 + getD bs 2 0) 255 (omega arith),
-                )
-
-            module _ (m : getD bs 2 0 ≤ 255 - getD bs 1 0) (count : ℕ) (q : count ≡ countIn bs) (good : Bool)
-                (p : good ≡ fills (readGates (getD bs 1 0 + getD bs 2 0) count (inputAt bs 7))) where
-              behind : readCircuit bs ≡ closed (getD bs 1 0) (getD bs 2 0) (readGates (getD bs 1 0 + getD bs 2 0) count (inputAt bs 7))
-              unfolding provided
-              behind =
-                  rw (
-                    read,
-                    opened bs h,
-                    e,
-                    le-leb 1 (getD bs 1 0) (omega arith),
-                    le-leb (getD bs 1 0) 32 k,
-                    le-leb (getD bs 1 0 + getD bs 2 0) 255 (omega arith),
-                    ← q,
-                  )
-
-              pub circuit-gates : (x : CircuitHeader) → x ≡ refusedHeader → good ≡ false → x ≡ headerOf (circuitRead bs)
-              circuit-gates x is g = rw (is, behind)
-                  (sym (header-bad (getD bs 1 0) (getD bs 2 0) (readGates (getD bs 1 0 + getD bs 2 0) count (inputAt bs 7)) (sym p ∙ g)))
-
-              pub circuit-whole : good ≡ true →
-                  record { number = 0; qubits = getD bs 1 0; ancillas = getD bs 2 0; gates = count } ≡ headerOf (circuitRead bs)
-              circuit-whole g = rw behind
-                  (sym (header-good (getD bs 1 0) (getD bs 2 0) count (readGates (getD bs 1 0 + getD bs 2 0) count (inputAt bs 7))
-                  (read-counts (getD bs 1 0 + getD bs 2 0) count (inputAt bs 7)) (sym p ∙ g)))
-
-pub ruleset refusals = (circuit-long, circuit-short, circuit-edition, circuit-none, circuit-qubits, circuit-wires, circuit-gates)
-
-pub ruleset circuits = (needs, not-true, not-false, refusals, circuit-whole)
+pub ruleset circuits = (needs, not-true, not-false, circuit-none, circuit-gates, circuit-whole)

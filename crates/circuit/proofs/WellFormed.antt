@@ -1,7 +1,7 @@
 -- The code's checks of a gate are document 01's: ascending lists of wires within bounds that share no wire make a gate whose wires are distinct.
 use mathlib.Core.Path.{_≡_, refl, sym}
 use mathlib.Core.Logic.{_≢_}
-use mathlib.Core.Bool.{Bool, true, false, not, _&&_, _||_, false≢true, and-true, and-false, and-assoc, or-assoc}
+use mathlib.Core.Bool.{Bool, true, false, not, _&&_, _||_, false≢true, and-true, and-false}
 use mathlib.Core.List.{List, [], _∷_, _++_}
 use Prim.Native.Nat.{ℕ, _+_, _<_}
 use native.Mathlib.Omega.{arith}
@@ -9,16 +9,11 @@ use borrow.Author.Tests.{ltb-true, leb-true, ne-eqb, lt-ltb, le-leb}
 use lib.Dec.{eqb, ltb, leb}
 use Rattle.model.specs.Lists.{member}
 use Rattle.model.specs.Circuit.{wires, controlsOf, ascends, distinct, within, lowerFirst, gateIsWellFormed}
-use Rattle.model.proofs.Tests.{byBool, not-true-false, and-left, and-right, and-both}
-use Rattle.model.proofs.ListLaws.{member-cases}
+use Rattle.model.proofs.Tests.{byBool, same-test, and-left, and-right, and-both}
+use Rattle.model.proofs.ListLaws.{member-cases, member-append}
+use Rattle.model.proofs.WireLists.{ascends-tail, ascends-fresh, ascends-distinct, within-append}
 use Rattle.circuit.specs.Views.{gateWith}
 use Rattle.circuit.specs.Checks.{rising, meets, tidy, free, paired, checked}
-
--- two tests that hold together are the same
-same : (a b : Bool) → (a ≡ true → b ≡ true) → (b ≡ true → a ≡ true) → a ≡ b
-same true b f g = sym (f refl)
-same false true f g = g refl
-same false false f g = refl
 
 -- the three parts of a test on a list's first wire
 module _ (a b c : Bool) where
@@ -84,43 +79,10 @@ rises low most w (x ∷ l) h a i =
 rising-is : (most : ℕ) (l : List ℕ) → rising 0 most l ≡ ascends l && within most l
 unfolding rising ascends within
 rising-is most [] = refl
-rising-is most (w ∷ l) = same (rising 0 most (w ∷ l)) (ascends (w ∷ l) && within most (w ∷ l))
+rising-is most (w ∷ l) = same-test (rising 0 most (w ∷ l)) (ascends (w ∷ l) && within most (w ∷ l))
     (λ r. and-both (ascends (w ∷ l)) (within most (w ∷ l)) (rising-ascends 0 most (w ∷ l) r) (rising-within 0 most (w ∷ l) r))
     (λ b. let i : within most (w ∷ l) ≡ true = and-right (ascends (w ∷ l)) (within most (w ∷ l)) b in
     rises 0 most w l (leb-true 1 w (first (leb 1 w) (leb w most) (within most l) i)) (and-left (ascends (w ∷ l)) (within most (w ∷ l)) b) i)
-
--- two lists put together: a wire of either, bounds on both
-member-append : (w : ℕ) (l m : List ℕ) → member w (l ++ m) ≡ member w l || member w m
-unfolding member
-member-append w [] m = refl
-member-append w (x ∷ l) m = rw (member-append w l m) (sym (or-assoc (eqb w x) (member w l) (member w m)))
-
-within-append : (most : ℕ) (l m : List ℕ) → within most (l ++ m) ≡ within most l && within most m
-unfolding within
-within-append most [] m = refl
-within-append most (w ∷ l) m = rw (within-append most l m) (sym (and-assoc (leb 1 w && leb w most) (within most l) (within most m)))
-
--- ascending from some wire on: the tail's wires lie above the head
-ascends-tail : (w : ℕ) (l : List ℕ) → ascends (w ∷ l) ≡ true → ascends l ≡ true
-unfolding ascends
-ascends-tail w [] a = refl
-ascends-tail w (x ∷ l) a = and-right (ltb w x) (ascends (x ∷ l)) a
-
-ascends-above : (w : ℕ) (l : List ℕ) (v : ℕ) → ascends (w ∷ l) ≡ true → member v l ≡ true → w < v
-unfolding ascends member
-ascends-above w [] v a m = absurd (false≢true m)
-ascends-above w (x ∷ l) v a m =
-    let h : w < x = ltb-true w x (and-left (ltb w x) (ascends (x ∷ l)) a) in
-    member-cases v x l m (λ e. rw e h)
-    (λ q. let k : x < v = ascends-above x l v (and-right (ltb w x) (ascends (x ∷ l)) a) q in omega arith)
-
-ascends-fresh : (w : ℕ) (l : List ℕ) → ascends (w ∷ l) ≡ true → member w l ≡ false
-ascends-fresh w l a = not-true-false (member w l) (λ m. let h : w < w = ascends-above w l w a m in omega arith)
-
-ascends-distinct : (l : List ℕ) → ascends l ≡ true → distinct l ≡ true
-unfolding distinct
-ascends-distinct [] a = refl
-ascends-distinct (w ∷ l) a = rw (ascends-fresh w l a) (ascends-distinct l (ascends-tail w l a))
 
 not-or : (a b : Bool) → not (a || b) ≡ not a && not b
 not-or true b = refl
@@ -146,7 +108,7 @@ flip-order false false true low high ones zeros = simp (and-false, and-true)
 flip-order false false false false high ones zeros = simp (and-false, and-true)
 flip-order false false false true false ones zeros = simp (and-false, and-true)
 flip-order false false false true true false zeros = simp (and-false, and-true)
-flip-order false false false true true true zeros = simp (and-false, and-true)
+flip-order false false false true true true zeros = simp and-true
 
 swap-order : (in₁ in₂ in₃ in₄ shared low₁ high₁ low₂ high₂ ones zeros : Bool) →
     not (in₁ || in₂) && (not (in₃ || in₄) && not shared) && (low₁ && high₁ && (low₂ && high₂ && (ones && zeros))) && true
@@ -161,7 +123,7 @@ swap-order false false false false false true false low₂ high₂ ones zeros = 
 swap-order false false false false false true true false high₂ ones zeros = simp (and-false, and-true)
 swap-order false false false false false true true true false ones zeros = simp (and-false, and-true)
 swap-order false false false false false true true true true false zeros = simp (and-false, and-true)
-swap-order false false false false false true true true true true zeros = simp (and-false, and-true)
+swap-order false false false false false true true true true true zeros = simp and-true
 
 -- the code's checks are document 01's
 pub checked-is : (most : ℕ) (swaps : Bool) (ones zeros : List ℕ) (u v : ℕ) →

@@ -2,17 +2,18 @@
 use mathlib.Core.Path.{_≡_, refl, sym, ap, _∙_}
 use mathlib.Core.Bool.{Bool, true, false}
 use mathlib.Core.List.{List, [], _∷_, _++_}
-use Prim.Native.Nat.{ℕ, zero, suc, _+_, _-_, _≤_, _<_, min, max}
+use Prim.Native.Nat.{ℕ, suc, _+_, _-_, _≤_, _<_, min, max}
 use native.Mathlib.Numerals.{add-one}
 use native.Mathlib.Nat.{add-zero, zero-add, sub-zero}
 use native.Mathlib.Omega.{arith}
 use borrow.Author.Needs.{needs}
 use borrow.Author.Tests.{lt-ltb, le-ltb}
 use lib.ListN.{length, getD, take, drop, set, length-take, length-set}
-use lib.Seq.{take-take, take-nil, take-suc-set, drop-set-lt, append-snoc}
+use lib.Seq.{take-take, take-suc-set, drop-set-lt, append-snoc}
 use Rattle.model.specs.Gates.{Controls, insert, asking, swapOf}
 use Rattle.model.specs.Circuit.{listBit, listBytes}
 use Rattle.model.proofs.Tests.{byLt}
+use Rattle.model.proofs.ListLaws.{take-again, drop-front}
 use Rattle.circuit.specs.Views.{part}
 use Rattle.circuit.specs.Writing.{wiresOf, controlsFrom, gateFrom, placeFor, insertWithin, askingWithin}
 use Rattle.circuit.specs.declared.write.ControlLists.{ControlLists}
@@ -33,11 +34,6 @@ module _ (l : ControlList) (all : length (l .wires) ≡ 33) where
 pub ruleset helds = (needs, held-full, held-part)
 
 -- taking as many as were taken
-take-again : (k : ℕ) (l : List ℕ) → take (length (take k l)) l ≡ take k l
-take-again zero l = refl
-take-again (suc k) [] = refl
-take-again (suc k) (x ∷ l) = ap (λ m. x ∷ m) (take-again k l)
-
 pub take-held : (count k : ℕ) (l : List ℕ) → count ≡ length (take k l) → take count l ≡ take k l
 take-held count k l e = rw e (take-again k l)
 
@@ -101,13 +97,6 @@ place-most w (x ∷ l) = byLt w x
     (λ h. rw (place-stops w x l h) (omega arith))
     (λ h. rw (place-goes w x l h) (let m : placeFor w l ≤ length l = place-most w l in omega arith))
 
--- the rest of a list's front
-drop-front : (p n : ℕ) (l : List ℕ) → p ≤ n → drop p (take n l) ≡ part l p (n - p)
-drop-front zero n l h = rw (sub-zero n)
-drop-front (suc p) zero l h = absurd (omega arith)
-drop-front (suc p) (suc n) [] h = sym (take-nil (suc n - suc p))
-drop-front (suc p) (suc n) (x ∷ l) h = let e : suc n - suc p ≡ n - p = omega arith in rw e (drop-front p n l (omega arith))
-
 -- a list takes a wire while it has fewer than 33
 pub within-takes : (w : ℕ) (l : List ℕ) → length l < 33 → insertWithin w l ≡ insert w l
 unfolding insertWithin
@@ -131,7 +120,7 @@ module _ (w : ℕ) (l : ControlList) (count : ℕ) (is : count ≡ length (wires
         let h : i ≤ count = carry-place in
         let e : take count (l .wires) ≡ wiresOf l = take-held count (l .count) (l .wires) is in
         let f : placeFor w (take count (l .wires)) ≡ i = rw e (sym place) in
-        rw (insert-at w (take count (l .wires)), f, take-take i count (l .wires) h, drop-front i count (l .wires) h)
+        rw (insert-at w (take count (l .wires)), f, take-take i count (l .wires) h, drop-front i count (l .wires))
 
   pub insert-done : (i : ℕ) (wires : List ℕ) (carried : ℕ) → count < 33 → i ≤ count → count ≤ i → length wires ≡ 33 →
       insert w (take count (l .wires)) ≡ take i wires ++ (carried ∷ part wires i (count - i)) →

@@ -8,11 +8,24 @@ ghost use Rattle.model.specs.Reading.{optional};
 ghost use Rattle.model.specs.Answers.{circuitRead};
 ghost use Rattle.circuit.specs.Views.{part, inputAt, settled, fills, listIn, listSeen, gateIn, gateSeen, judged, gateEnd};
 ghost use Rattle.circuit.specs.Checks.{rising, free, tidy};
-ghost use Rattle.circuit.specs.Header.{headerOf, refusedHeader};
+ghost use Rattle.circuit.specs.Header.{circuitBehind, headerOf, refusedHeader};
 
 pub mod write;
 
-// A circuit's header, or a refusal's number and zeros.
+// What a circuit's header says: n, ancillas and how many wires that makes, and the gate count.
+pub struct Header {
+    pub qubits: u8,
+    pub ancillas: u8,
+    pub wires: u8,
+    pub gates: u32,
+}
+
+pub enum HeaderRead {
+    Opened(Header),
+    NoHeader,
+}
+
+// What the circuit reader answers: the header of a circuit that is well formed, or a refusal's number and zeros.
 #[repr(C)]
 pub struct CircuitHeader {
     pub number: u32,
@@ -170,12 +183,6 @@ pub fn well_formed(bytes: &[u8], gate: GateAt, most: u8) -> bool
     is_free(bytes, ones, zeros, most, gate.second)
 }
 
-fn wide(byte: u8) -> usize
-    ensures { λ r. ⌜ r ≡ byte ⌝ }
-{
-    byte as usize
-}
-
 // "count and wires", where the list's bit stands in the map; otherwise no wire.
 pub fn read_list(bytes: &[u8], at: usize, stands: bool) -> ListRead
     ensures { λ r. ⌜ listSeen (now (bytes .entry)) r ≡ settled (optional stands wireList [] (inputAt (now (bytes .entry)) at)) ⌝ }
@@ -190,7 +197,7 @@ pub fn read_list(bytes: &[u8], at: usize, stands: bool) -> ListRead
     if bytes.len() <= at {
         return ListRead::NoWires;
     }
-    let count = wide(bytes[at]);
+    let count = bytes[at] as usize;
     if count == 0 {
         return ListRead::NoWires;
     }
@@ -304,6 +311,38 @@ pub fn little_endian(a: u8, b: u8, c: u8, d: u8) -> u32
     a as u32 + 256 * (b as u32) + 65536 * (c as u32) + 16777216 * (d as u32)
 }
 
+// A circuit's header: edition byte 1, n of 1 to 32, at most 255 wires, in at most 65,536 bytes.
+pub fn read_header(bytes: &[u8]) -> HeaderRead
+    ensures { λ r. ⌜ circuitBehind (now (bytes .entry)) r ≡ circuitRead (now (bytes .entry)) ⌝ }
+{
+    if 65536 < bytes.len() {
+        return HeaderRead::NoHeader;
+    }
+    if bytes.len() < 7 {
+        return HeaderRead::NoHeader;
+    }
+    if bytes[0] != 1 {
+        return HeaderRead::NoHeader;
+    }
+    let n = bytes[1];
+    if n == 0 {
+        return HeaderRead::NoHeader;
+    }
+    if 32 < n {
+        return HeaderRead::NoHeader;
+    }
+    let ancillas = bytes[2];
+    if 255 - n < ancillas {
+        return HeaderRead::NoHeader;
+    }
+    HeaderRead::Opened(Header {
+        qubits: n,
+        ancillas,
+        wires: n + ancillas,
+        gates: little_endian(bytes[3], bytes[4], bytes[5], bytes[6]),
+    })
+}
+
 // "14 circuit not well formed": "A refusal gives its number and otherwise zeros."
 pub fn refused() -> CircuitHeader
     ensures { λ r. ⌜ r ≡ refusedHeader ⌝ }
@@ -320,34 +359,17 @@ pub fn refused() -> CircuitHeader
 pub fn read_circuit(bytes: &[u8]) -> CircuitHeader
     ensures { λ r. ⌜ r ≡ headerOf (circuitRead (now (bytes .entry))) ⌝ }
 {
-    if 65536 < bytes.len() {
+    let found = read_header(bytes);
+    let HeaderRead::Opened(header) = found else {
         return refused();
-    }
-    if bytes.len() < 7 {
-        return refused();
-    }
-    if bytes[0] != 1 {
-        return refused();
-    }
-    let n = bytes[1];
-    if n == 0 {
-        return refused();
-    }
-    if 32 < n {
-        return refused();
-    }
-    let ancillas = bytes[2];
-    if 255 - n < ancillas {
-        return refused();
-    }
-    let count = little_endian(bytes[3], bytes[4], bytes[5], bytes[6]);
-    if !gates_fill(bytes, 7, n + ancillas, count) {
+    };
+    if !gates_fill(bytes, 7, header.wires, header.gates) {
         return refused();
     }
     CircuitHeader {
         number: 0,
-        qubits: n as u32,
-        ancillas: ancillas as u32,
-        gates: count,
+        qubits: header.qubits as u32,
+        ancillas: header.ancillas as u32,
+        gates: header.gates,
     }
 }

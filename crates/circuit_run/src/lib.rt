@@ -8,6 +8,7 @@ ghost use Rattle.circuit.specs.Views.{part, inputAt, gateIn, controlsIn};
 ghost use Rattle.circuit_run.specs.Runs.{allHold, seen, ranOf, refusedBlock, endAnswer, blockAnswer};
 use circuit::GateAt;
 use circuit::GateRead;
+use circuit::HeaderRead;
 use wires::{fits, Wires};
 
 // The wires behind the last gate; they count only where the run ended.
@@ -131,27 +132,10 @@ pub fn answer(ran: Ran, word: u64) -> CircuitBlock
 pub fn run_circuit(bytes: &[u8], word: u64) -> CircuitBlock
     ensures { λ r. ⌜ r ≡ blockAnswer (circuitRun (now (bytes .entry)) word) ⌝ }
 {
-    if 65536 < bytes.len() {
+    let found = circuit::read_header(bytes);
+    let HeaderRead::Opened(header) = found else {
         return refused(14);
-    }
-    if bytes.len() < 7 {
-        return refused(14);
-    }
-    if bytes[0] != 1 {
-        return refused(14);
-    }
-    let n = bytes[1];
-    if n == 0 {
-        return refused(14);
-    }
-    if 32 < n {
-        return refused(14);
-    }
-    let ancillas = bytes[2];
-    if 255 - n < ancillas {
-        return refused(14);
-    }
-    let count = circuit::little_endian(bytes[3], bytes[4], bytes[5], bytes[6]);
-    let wires = wires::start(n, ancillas, word);
-    answer(run_gates(bytes, 7, n + ancillas, count, wires), word)
+    };
+    let wires = wires::start(header.qubits, header.ancillas, word);
+    answer(run_gates(bytes, 7, header.wires, header.gates, wires), word)
 }

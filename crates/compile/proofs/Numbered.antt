@@ -8,7 +8,7 @@ use lib.Dec.{ltb, leb}
 use lib.ListN.{length}
 use Rattle.model.specs.Limits.{mostQubits, mostWires, headerLength, leastWorkspace, wrongQubits, noRemoval, tooWide, accessFault, shortWorkspace, noRoom}
 use Rattle.model.specs.Syntax.{Program}
-use Rattle.model.specs.Reading.{Input, Parsed, parsed, refused, readTable}
+use Rattle.model.specs.Reading.{Parsed, parsed, refused, readTable}
 use Rattle.model.specs.Faults.{programFaults}
 use Rattle.model.specs.Reach.{anyLacksRemoval, anyTooWide}
 use Rattle.model.specs.Emission.{Event, takes, places, frees, emission}

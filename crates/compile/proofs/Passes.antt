@@ -16,11 +16,12 @@ use Rattle.model.specs.Answers.{gives, require, fitted, fit, circuit, usable, n
 use Rattle.model.proofs.RoundTrip.{write-length}
 use Rattle.agreement.proofs.Fits.{fits-wires}
 use Rattle.circuit.specs.Writing.{headerBytes}
+use Rattle.circuit.proofs.Putting.{sets-append}
 use Rattle.table.specs.Index.{programAt}
 use Rattle.reach.specs.Walk.{reachAt}
 use Rattle.events.specs.declared.Emit.{Emit}
-use Rattle.events.specs.Scan.{Seen, seen, emitOf, roomOf, scan, begun, emissionEnd, wireOf}
-use Rattle.events.proofs.ScanLaws.{sets-append, emission-status, emission-ends, emission-within, measured-room}
+use Rattle.events.specs.Scan.{Seen, emitOf, roomOf, begun, emissionEnd, wireOf}
+use Rattle.events.proofs.ScanLaws.{emission-status, emission-ends, emission-within, measured-room}
 use Rattle.emit.specs.Walks.{Emits}
 use Rattle.emit.proofs.Main.{use-main}
 use Rattle.compile.specs.declared.Compiled.{Compiled}

@@ -1,15 +1,15 @@
 -- The ways out of `compile_judged` and `compile`: what each has learnt, and that the answer is document 01's.
-use mathlib.Core.Path.{_≡_, refl, sym, ap, _∙_, subst}
-use mathlib.Core.List.{List, []}
+use mathlib.Core.Path.{_≡_, refl, ap, subst}
+use mathlib.Core.List.{List}
 use Prim.Native.Nat.{ℕ, _≤_, _<_}
 use native.Mathlib.Omega.{arith}
 use borrow.Author.Needs.{needs}
-use borrow.Author.Tests.{le-leb, lt-leb}
+use borrow.Author.Tests.{lt-leb}
 use lib.ListN.{length}
 use Rattle.model.specs.Limits.{mostQubits, mostProcedures}
-use Rattle.model.specs.Syntax.{Program, count}
-use Rattle.model.specs.Answers.{Outcome, gives, refuses, after, require, number, valueOr, accepted, compile, roomAfter}
-use Rattle.agreement.proofs.Promise.{Accepted, accepted-is, accepted-few, compiles}
+use Rattle.model.specs.Syntax.{Program}
+use Rattle.model.specs.Answers.{Outcome, gives, after, require, number, valueOr, accepted, compile, roomAfter}
+use Rattle.agreement.proofs.Promise.{accepted-is, accepted-few, compiles}
 use Rattle.table.specs.Index.{programAt}
 use Rattle.reach.specs.Walk.{reachAt}
 use Rattle.reach.proofs.Marks.{count-at}
@@ -19,6 +19,17 @@ use Rattle.verdict.proofs.Ways.{refused-judged, accepted-judged}
 use Rattle.compile.specs.declared.Compiled.{Compiled}
 use Rattle.compile.specs.Passes.{Compiles, walks-twice, emissionAnswer, compiledOf}
 use Rattle.compile.specs.Compiling.{Answered, answered, answerOf}
+
+-- the two halves of an answer, the number and length and the room, are those of the outcome
+abbrev answerIn : Answered → Compiled
+answerIn (answered r room) = r
+
+abbrev roomIn : Answered → List ℕ
+roomIn (answered r room) = room
+
+pub answer-halves : (o : Outcome (List ℕ)) (room : List ℕ) {r : Compiled} {room₁ : List ℕ} → answered r room₁ ≡ answerOf o room →
+    (r ≡ compiledOf o) × (room₁ ≡ roomAfter o room)
+answer-halves o room is = (ap answerIn is, ap roomIn is)
 
 -- the matrix is that of reach
 pub judged-compiles : (bs ix m : List ℕ) (p n : ℕ) (room ws : List ℕ) (r : Compiled) (room₁ ws₁ : List ℕ) → m ≡ reachAt p bs ix →

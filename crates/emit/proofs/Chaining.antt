@@ -17,11 +17,12 @@ use Rattle.model.specs.Gates.{Controls, asking, insert, Gate, flip}
 use Rattle.model.specs.Emission.{Event, places, frees, Chains, startChain, Invocation, invocation, invoked, invokes, left, right, under, allEntryGates, Emitted, bodyInvocations, around, bodies, bodiesFrom, chainsWithin}
 use Rattle.model.specs.Circuit.{encode}
 use Rattle.model.specs.Answers.{usable}
-use Rattle.model.proofs.Tests.{byBool, byLt, byEq}
+use Rattle.model.proofs.Tests.{byBool, byLt, byEq, not-zero, not-below}
 use Rattle.model.proofs.Calls.{body-out}
-use Rattle.agreement.proofs.Peak.{bodies-stacked, bodiesFrom-stacked, chains-stacked}
+use Rattle.agreement.proofs.Peak.{only-reverse, entries-only, bodies-stacked, bodiesFrom-stacked, chains-stacked}
 use Rattle.table.specs.Index.{startOf, statementAt, programAt}
 use Rattle.reach.proofs.Marks.{count-at, body-at}
+use Rattle.step.proofs.Says.{spent-skip}
 use Rattle.events.specs.declared.Emit.{Emit}
 use Rattle.events.specs.Scan.{Seen, seen, emitOf, freed, placed, stored, scan, slotProcedure, slotList, wireOf, slotOf, heldIn}
 use Rattle.events.specs.Slots.{appears, seekOf}
@@ -29,9 +30,8 @@ use Rattle.events.specs.Follows.{Follows, Opens, Invokes}
 use Rattle.emit.specs.Walks.{Ready, Roomy, bodyDepth, chainsIn, bodiesUpTo, leftOf, rightOf, SeenIn, Call, walks-call, Left, Right, Fore, walks-fore, Back, walks-back, Bodies, walks-bodies, Rest, walks-rest, Inner, walks-inner, Body, walks-body}
 use Rattle.events.proofs.ScanLaws.{scan-append, scan-stopped, scan-places, scan-no-gate, scan-many, scan-frees, nextAfter, stacked-after}
 use Rattle.events.proofs.Entering.{scan-nothing}
-use Rattle.events.proofs.Following.{only-reverse, entries-only, gates-next, follows-none, follows-stopped, follows-gates, follows-next, follows-if, follows-as, follows-append, slot-kept, held-kept, appears-kept, held-append}
+use Rattle.events.proofs.Following.{gates-next, follows-none, follows-stopped, follows-gates, follows-next, follows-if, follows-as, follows-append, slot-kept, held-kept, appears-kept, held-append}
 use Rattle.emit.proofs.Stepping.{ready-then}
-use Rattle.emit.proofs.Stepping.{spent-skip}
 use Rattle.emit.proofs.Walking.{left-next}
 use Rattle.emit.proofs.Lefts.{was-ok, use-left, use-invokes}
 use Rattle.emit.proofs.Rights.{use-right}
@@ -145,16 +145,10 @@ module _ {bs ix m : List ℕ} {p k : ℕ} {write : Bool} {st : Emit} {room ws : 
         (ap (λ (o : Emitted). o .events) (bodies-all bs ix p k (n - 1) all (st .next) ∙ sym (up-none bs ix p k ws base n j upto n d refl nz le known S all (st .next) e h)))
         (use-bodies A R (le-refl base) (le-refl (st .next)) over [] (none-seen ws base (n - 1))))
 
-not-both : {A : Type 0} (d upto : ℕ) → upto ≤ d → d < upto → A
-not-both d upto h l = absurd (no d upto h l)
-  where
-    no : (d upto : ℕ) → upto ≤ d → d < upto → ⊥
-    no d upto h l = omega arith
-
 -- the ways out of `emit_rest`: the bodies that follow and the right part
 module _ {bs ix m : List ℕ} {p k : ℕ} {write : Bool} {st : Emit} {room ws : List ℕ} {base n d upto first : ℕ} where
   pub rest-past : upto ≤ d → Rest bs ix m p k write st room ws st room ws base n d upto first
-  rest-past h = walks-rest (λ R le lt top over Q known S. not-both d upto h lt)
+  rest-past h = walks-rest (λ R le lt top over Q known S. not-below d upto h lt)
 
   pub rest-walk : {a : Emit} {room₁ ws₁ : List ℕ} {b : Emit} {room₂ ws₂ : List ℕ} → d < upto →
       Bodies bs ix m p k write st room ws a room₁ ws₁ base n (d + 1) upto → Back bs ix m p k write a room₁ ws₁ b room₂ ws₂ d first →
@@ -219,7 +213,7 @@ module _ {bs ix m : List ℕ} {p k : ℕ} {write : Bool} {st : Emit} {room ws : 
 -- the ways out of `emit_body`: entry gates, what is inside them, entry gates reversed
 module _ {bs ix m : List ℕ} {p k : ℕ} {write : Bool} {st : Emit} {room ws : List ℕ} {base n d upto : ℕ} where
   pub body-past : upto ≤ d → Body bs ix m p k write st room ws st room ws base n d upto
-  body-past h = walks-body (λ R le lt top known S. not-both d upto h lt)
+  body-past h = walks-body (λ R le lt top known S. not-below d upto h lt)
 
 around-is : (P : Program) (ch : Chains) (d : Invocation) (later : List Invocation) (next : ℕ) (inner : Emitted) →
     allEntryGates d later ++
@@ -325,10 +319,7 @@ start-is ch f (q ∷ l) cs next h = refl
 no-start : (ch : Chains) (f : ℕ) (l : List ℕ) (cs : Controls) (next : ℕ) → length l ≡ 0 → [] ≡ startChain ch f l cs next
 unfolding startChain
 no-start ch f [] cs next e = refl
-no-start ch f (q ∷ l) cs next e = absurd (no (length l) e)
-  where
-    no : (k : ℕ) → _≡_ {A = ℕ} (suc k) 0 → ⊥
-    no k e = omega arith
+no-start ch f (q ∷ l) cs next e = absurd (not-zero (length l) e)
 
 -- an invocation takes one wire
 one-more : (f : ℕ) (l : List ℕ) (cs : Controls) (next : ℕ) → (length l ≡ 0 → ⊥) →

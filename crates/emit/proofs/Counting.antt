@@ -1,8 +1,8 @@
 -- The ways out of `count_calls`: the number of recursive calls does not depend on their ancillas.
-use mathlib.Core.Path.{_≡_, refl, sym, _∙_}
+use mathlib.Core.Path.{_≡_, refl, sym, ap, _∙_}
 use mathlib.Core.Bool.{Bool, true, false}
 use mathlib.Core.List.{List, [], _∷_}
-use Prim.Native.Nat.{ℕ, suc, _+_, _-_, _≤_, _<_, min}
+use Prim.Native.Nat.{ℕ, _+_, _-_, _≤_, _<_, min}
 use native.Mathlib.Omega.{arith}
 use borrow.Author.Needs.{needs}
 use borrow.Author.Tests.{lt-ltb, le-ltb}
@@ -10,15 +10,16 @@ use lib.ListN.{length, length-append}
 use Rattle.model.specs.Syntax.{Statement, skip, NOT, sequence, if, qcase, call}
 use Rattle.model.specs.Lists.{remaining, holds}
 use Rattle.model.specs.Reach.{width}
-use Rattle.model.specs.Emission.{invoked, isWide, invocations}
-use Rattle.model.proofs.Tests.{byBool}
+use Rattle.model.specs.Emission.{Invocation, invoked, isWide, invocations}
+use Rattle.model.proofs.Tests.{byBool, not-zero}
 use Rattle.agreement.proofs.Clauses.{invocations-wide, invocations-thin, invocations-yes, invocations-no, invocations-recursive, invocations-other}
-use Rattle.records.specs.Fields.{removalsOf}
+use Rattle.records.specs.Fields.{pick, removalsOf}
 use Rattle.table.specs.Index.{testAt, statementAt}
 use Rattle.step.specs.declared.Step.{Step}
 use Rattle.step.specs.declared.Step.the-variants as step
 use Rattle.step.specs.Steps.{stepAt}
-use Rattle.emit.proofs.Stepping.{at-step, spent-skip}
+use Rattle.step.proofs.Says.{at-step, spent-skip}
+use Rattle.step.proofs.Choosing.{chosen-means}
 
 pub invoked-count : (f g : ℕ) (l : List ℕ) (a b : ℕ) → length (invoked f l a) ≡ length (invoked g l b)
 unfolding invoked
@@ -52,9 +53,6 @@ no-call : (l : List ℕ) → length l ≡ 0 → 0 ≡ min 65535 (length (invoked
 unfolding invoked
 no-call [] e = refl
 no-call (q ∷ l) e = absurd (not-zero (length l) e)
-  where
-    not-zero : (k : ℕ) → suc k ≡ 0 → ⊥
-    not-zero k e = omega arith
 
 one-call : (l : List ℕ) → (length l ≡ 0 → ⊥) → 1 ≡ min 65535 (length (invoked 0 l 0))
 unfolding invoked
@@ -119,17 +117,11 @@ module _ (r : ℕ → Bool) (p : ℕ) (bs ix : List ℕ) (i depth : ℕ) (l : Li
         let thin : isWide r x ≡ false = le-ltb 0 (width r x) (omega arith) in
         rw (at-step p bs ix depth i l nz is e, invocations-thin r l 0 x (statementAt p bs ix (depth - 1) b) thin) q
 
-      pub count-yes : (c : ℕ) (t : Bool) → found ≡ step.Chooses c a b → t ≡ holds (testAt p bs ix (depth - 1) c) (length l) → t ≡ true →
-          n ≡ min 65535 (length (invocations r (statementAt p bs ix (depth - 1) a) l 0)) →
+      pub count-chosen : (c x : ℕ) → found ≡ step.Chooses c a b → x ≡ pick (holds (testAt p bs ix (depth - 1) c) (length l)) a b →
+          n ≡ min 65535 (length (invocations r (statementAt p bs ix (depth - 1) x) l 0)) →
           n ≡ min 65535 (length (invocations r (statementAt p bs ix depth i) l 0))
-      count-yes c t e h y q =
-        rw (at-step p bs ix depth i l nz is e, invocations-yes r l 0 (testAt p bs ix (depth - 1) c) (statementAt p bs ix (depth - 1) a) (statementAt p bs ix (depth - 1) b) (sym h ∙ y)) q
-
-      pub count-no : (c : ℕ) (t : Bool) → found ≡ step.Chooses c a b → t ≡ holds (testAt p bs ix (depth - 1) c) (length l) → t ≡ false →
-          n ≡ min 65535 (length (invocations r (statementAt p bs ix (depth - 1) b) l 0)) →
-          n ≡ min 65535 (length (invocations r (statementAt p bs ix depth i) l 0))
-      count-no c t e h y q =
-        rw (at-step p bs ix depth i l nz is e, invocations-no r l 0 (testAt p bs ix (depth - 1) c) (statementAt p bs ix (depth - 1) a) (statementAt p bs ix (depth - 1) b) (sym h ∙ y)) q
+      count-chosen c x e h q = q ∙ ap (λ (all : List Invocation). min 65535 (length all))
+        (sym (chosen-means (λ s. invocations r s l 0) l (invocations-yes r l 0) (invocations-no r l 0) p bs ix depth i nz is e h))
 
       pub count-branches : (q first second : ℕ) → found ≡ step.Branches q a b →
           first ≡ min 65535 (length (invocations r (statementAt p bs ix (depth - 1) a) l 0)) →
@@ -157,5 +149,5 @@ module _ (r : ℕ → Bool) (p : ℕ) (bs ix : List ℕ) (i depth : ℕ) (l : Li
 
 pub ruleset counting = (
     needs, one-none, one-some, count-spent, count-nothing, count-touches, count-holds, count-both, count-either, count-negates, count-wide,
-    count-thin, count-yes, count-no, count-branches, count-recursive, count-other
+    count-thin, count-chosen, count-branches, count-recursive, count-other
   )

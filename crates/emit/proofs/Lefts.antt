@@ -14,11 +14,13 @@ use Rattle.model.specs.Gates.{Controls, asking, flip}
 use Rattle.model.specs.Emission.{Event, places, Chains, whole, Invocation, invoked, isWide, invocations, invokes, left}
 use Rattle.agreement.proofs.Clauses.{left-wide, left-thin, left-yes, left-no, left-recursive, left-other, invocations-wide, invocations-thin, invocations-yes, invocations-no, invocations-recursive, invocations-other}
 use Rattle.circuit.specs.Writing.{askingWithin}
-use Rattle.records.specs.Fields.{removalsOf}
+use Rattle.records.specs.Fields.{pick, removalsOf}
 use Rattle.table.specs.Index.{testAt, statementAt, programAt}
 use Rattle.step.specs.declared.Step.{Step}
 use Rattle.step.specs.declared.Step.the-variants as step
 use Rattle.step.specs.Steps.{stepAt}
+use Rattle.step.proofs.Says.{at-step, spent-skip}
+use Rattle.step.proofs.Choosing.{chosen-means}
 use Rattle.reach.specs.Matrix.{recursiveIn}
 use Rattle.reach.proofs.Filled.{recursive-entry}
 use Rattle.events.specs.declared.Emit.{Emit}
@@ -26,7 +28,6 @@ use Rattle.events.specs.Scan.{Seen, seen, emitOf, scan, heldIn}
 use Rattle.events.specs.Follows.{Follows, Opens, Invokes, fills-slot}
 use Rattle.emit.specs.Walks.{Ready, Roomy, chainsIn, Whole, Call, Left, walks-left}
 use Rattle.events.proofs.ScanLaws.{scan-was}
-use Rattle.emit.proofs.Stepping.{at-step, spent-skip}
 use Rattle.events.proofs.Following.{follows-none, follows-stopped, follows-gates, follows-next, follows-if, follows-append, held-kept, held-append}
 use Rattle.emit.proofs.Stepping.{ready-then}
 use Rattle.emit.proofs.Walking.{within-is, roomy-less, roomy-asking, whole-next, left-next, use-whole, use-call}
@@ -175,28 +176,16 @@ module _ {bs ix m : List ℕ} {p k : ℕ} {write : Bool} {st : Emit} {room ws : 
         walks-left (λ R C. opens-by (t .0) (t .1) (opens-none (follows-gates write _ st room ws r room₁ tt g)))
 
       module _ {ws₁ : List ℕ} where
-        pub left-chooses : {c a b : ℕ} {t : Bool} → found ≡ step.Chooses c a b → t ≡ holds (testAt p bs ix (depth - 1) c) (length l) → t ≡ true →
-            Left bs ix m p k write st room ws r room₁ ws₁ f a (depth - 1) l cs → Left bs ix m p k write st room ws r room₁ ws₁ f i depth l cs
-        left-chooses {c = c} {a = a} {b = b} e h t A =
+        pub left-chosen : {c a b x : ℕ} → found ≡ step.Chooses c a b → x ≡ pick (holds (testAt p bs ix (depth - 1) c) (length l)) a b →
+            Left bs ix m p k write st room ws r room₁ ws₁ f x (depth - 1) l cs → Left bs ix m p k write st room ws r room₁ ws₁ f i depth l cs
+        left-chosen e q A =
+          let ch = chainsIn bs ix p k in
           let rec = recursive (programAt p bs ix) f in
-          let q = at-step p bs ix depth i l nz is e in
-          let X = statementAt p bs ix (depth - 1) a in
-          let Y = statementAt p bs ix (depth - 1) b in
           walks-left (λ R C. opens-by
-            (rw q (sym (left-yes (chainsIn bs ix p k) rec l cs (st .next) (testAt p bs ix (depth - 1) c) X Y (sym h ∙ t))))
-            (rw q (sym (invocations-yes rec l (st .next) (testAt p bs ix (depth - 1) c) X Y (sym h ∙ t))))
-            (use-left A R (roomy-less nz C)))
-
-        pub left-passes : {c a b : ℕ} {t : Bool} → found ≡ step.Chooses c a b → t ≡ holds (testAt p bs ix (depth - 1) c) (length l) → t ≡ false →
-            Left bs ix m p k write st room ws r room₁ ws₁ f b (depth - 1) l cs → Left bs ix m p k write st room ws r room₁ ws₁ f i depth l cs
-        left-passes {c = c} {a = a} {b = b} e h t A =
-          let rec = recursive (programAt p bs ix) f in
-          let q = at-step p bs ix depth i l nz is e in
-          let X = statementAt p bs ix (depth - 1) a in
-          let Y = statementAt p bs ix (depth - 1) b in
-          walks-left (λ R C. opens-by
-            (rw q (sym (left-no (chainsIn bs ix p k) rec l cs (st .next) (testAt p bs ix (depth - 1) c) X Y (sym h ∙ t))))
-            (rw q (sym (invocations-no rec l (st .next) (testAt p bs ix (depth - 1) c) X Y (sym h ∙ t))))
+            (sym (chosen-means (λ s. left ch rec s l cs (st .next)) l (left-yes ch rec l cs (st .next)) (left-no ch rec l cs (st .next))
+              p bs ix depth i nz is e q))
+            (sym (chosen-means (λ s. invocations rec s l (st .next)) l (invocations-yes rec l (st .next)) (invocations-no rec l (st .next))
+              p bs ix depth i nz is e q))
             (use-left A R (roomy-less nz C)))
 
         pub left-first : {a b w : ℕ} → found ≡ step.Sequence a b → w ≡ min 2 (width (recursiveIn m f) (statementAt p bs ix (depth - 1) a)) → 0 < w →
@@ -263,6 +252,6 @@ module _ {bs ix m : List ℕ} {p k : ℕ} {write : Bool} {st : Emit} {room ws : 
                 (use-left B′ (ready-then R (O .follows)) (roomy-asking nz C q true))))
 
 pub ruleset lefts = (
-    needs, left-stopped, left-spent, left-nothing, left-holds, left-both, left-either, left-negates, left-touches, left-chooses, left-passes,
+    needs, left-stopped, left-spent, left-nothing, left-holds, left-both, left-either, left-negates, left-touches, left-chosen,
     left-first, left-recurs, left-calls, left-second, left-branches
   )

@@ -13,21 +13,23 @@ use Rattle.model.specs.Lists.{remaining, touched, holds}
 use Rattle.model.specs.Reach.{recursive, width}
 use Rattle.model.specs.Gates.{Controls, asking}
 use Rattle.model.specs.Emission.{Chains, whole, invoked, invocations, returns, right}
+use Rattle.agreement.proofs.Peak.{OnlyGates}
 use Rattle.agreement.proofs.Clauses.{right-wide, right-thin, right-yes, right-no, right-recursive, right-other, invocations-wide, invocations-thin, invocations-yes, invocations-no, invocations-recursive}
 use Rattle.circuit.specs.Writing.{askingWithin}
-use Rattle.records.specs.Fields.{removalsOf}
+use Rattle.records.specs.Fields.{pick, removalsOf}
 use Rattle.table.specs.Index.{testAt, statementAt, programAt}
 use Rattle.step.specs.declared.Step.{Step}
 use Rattle.step.specs.declared.Step.the-variants as step
 use Rattle.step.specs.Steps.{stepAt}
+use Rattle.step.proofs.Says.{at-step, spent-skip}
+use Rattle.step.proofs.Choosing.{chosen-means}
 use Rattle.reach.specs.Matrix.{recursiveIn}
 use Rattle.events.specs.declared.Emit.{Emit}
 use Rattle.events.specs.Scan.{seen, scan, wireOf}
 use Rattle.events.specs.Follows.{Follows}
 use Rattle.emit.specs.Walks.{Ready, Roomy, chainsIn, Whole, Right, walks-right}
-use Rattle.emit.proofs.Stepping.{at-step, spent-skip}
 use Rattle.emit.proofs.Counting.{same-count}
-use Rattle.events.proofs.Following.{OnlyGates, follows-none, follows-stopped, follows-gates, follows-next, follows-if, follows-as, follows-append}
+use Rattle.events.proofs.Following.{follows-none, follows-stopped, follows-gates, follows-next, follows-if, follows-as, follows-append}
 use Rattle.emit.proofs.Stepping.{ready-then}
 use Rattle.emit.proofs.Walking.{within-is, roomy-less, roomy-asking, right-next, use-whole}
 use Rattle.emit.proofs.Lefts.{recursive-is, wide-so, wide-not, was-ok}
@@ -151,27 +153,16 @@ module _ {bs ix m : List ℕ} {p k : ℕ} {write : Bool} {st : Emit} {room ws : 
               (follows-gates write _ st room ws r room₁ (returns-only (remaining (removalsOf bs at) l) cs (wireOf first)) (rw d at s))))
 
       module _ {ws₁ : List ℕ} where
-        pub right-chooses : {c a b : ℕ} {t : Bool} → found ≡ step.Chooses c a b → t ≡ holds (testAt p bs ix (depth - 1) c) (length l) → t ≡ true →
-            Right bs ix m p k write st room ws r room₁ ws₁ f a (depth - 1) l cs first → Right bs ix m p k write st room ws r room₁ ws₁ f i depth l cs first
-        right-chooses {c = c} {a = a} {b = b} e h t A =
+        pub right-chosen : {c a b x : ℕ} → found ≡ step.Chooses c a b → x ≡ pick (holds (testAt p bs ix (depth - 1) c) (length l)) a b →
+            Right bs ix m p k write st room ws r room₁ ws₁ f x (depth - 1) l cs first → Right bs ix m p k write st room ws r room₁ ws₁ f i depth l cs first
+        right-chosen e q A =
+          let ch = chainsIn bs ix p k in
           let rec = recursive (programAt p bs ix) f in
-          let q = at-step p bs ix depth i l nz is e in
-          let X = statementAt p bs ix (depth - 1) a in
-          let Y = statementAt p bs ix (depth - 1) b in
-          let T = testAt p bs ix (depth - 1) c in
-          walks-right (λ R C Q. follows-as write (rw q (sym (right-yes (chainsIn bs ix p k) rec l cs first T X Y (st .next) (sym h ∙ t))))
-            (use-right A R (roomy-less nz C) (λ ok. rw (q, invocations-yes rec l first T X Y (sym h ∙ t)) at (Q ok))))
-
-        pub right-passes : {c a b : ℕ} {t : Bool} → found ≡ step.Chooses c a b → t ≡ holds (testAt p bs ix (depth - 1) c) (length l) → t ≡ false →
-            Right bs ix m p k write st room ws r room₁ ws₁ f b (depth - 1) l cs first → Right bs ix m p k write st room ws r room₁ ws₁ f i depth l cs first
-        right-passes {c = c} {a = a} {b = b} e h t A =
-          let rec = recursive (programAt p bs ix) f in
-          let q = at-step p bs ix depth i l nz is e in
-          let X = statementAt p bs ix (depth - 1) a in
-          let Y = statementAt p bs ix (depth - 1) b in
-          let T = testAt p bs ix (depth - 1) c in
-          walks-right (λ R C Q. follows-as write (rw q (sym (right-no (chainsIn bs ix p k) rec l cs first T X Y (st .next) (sym h ∙ t))))
-            (use-right A R (roomy-less nz C) (λ ok. rw (q, invocations-no rec l first T X Y (sym h ∙ t)) at (Q ok))))
+          let calls = chosen-means (λ s. invocations rec s l first) l (invocations-yes rec l first) (invocations-no rec l first) p bs ix depth i nz is e q in
+          walks-right (λ R C Q. follows-as write
+            (sym (chosen-means (λ s. right ch rec s l cs first (st .next)) l
+              (λ c s t. right-yes ch rec l cs first c s t (st .next)) (λ c s t. right-no ch rec l cs first c s t (st .next)) p bs ix depth i nz is e q))
+            (use-right A R (roomy-less nz C) (λ ok. rw calls at (Q ok))))
 
         pub right-second : {a b w : ℕ} → found ≡ step.Sequence a b → w ≡ min 2 (width (recursiveIn m f) (statementAt p bs ix (depth - 1) a)) → w ≤ 0 →
             Right bs ix m p k write st room ws r room₁ ws₁ f b (depth - 1) l cs first → Right bs ix m p k write st room ws r room₁ ws₁ f i depth l cs first
@@ -239,5 +230,5 @@ module _ {bs ix m : List ℕ} {p k : ℕ} {write : Bool} {st : Emit} {room ws : 
 
 pub ruleset rights = (
     needs, right-stopped, right-spent, right-nothing, right-touches, right-holds, right-both, right-either, right-negates, right-calls, right-recurs,
-    right-chooses, right-passes, right-second, right-first, right-branches
+    right-chosen, right-second, right-first, right-branches
   )

@@ -1,6 +1,6 @@
 -- The next body of a chain: the code seeks the first slot that opens one, the definitions look at the invocations in order.
 use mathlib.Core.Path.{_≡_, refl, sym, _∙_}
-use mathlib.Core.Bool.{Bool, true, false, not, _&&_, _||_}
+use mathlib.Core.Bool.{Bool, true, false, not, _||_}
 use mathlib.Core.List.{List, _∷_, _++_}
 use Prim.Native.Nat.{ℕ, zero, suc, _+_, _-_, _*_, _≤_, _<_}
 use native.Mathlib.Omega.{arith}
@@ -13,6 +13,7 @@ use Rattle.model.specs.Emission.{Chains, Invocation, Emitted, bodyInvocations, 
 use Rattle.model.proofs.Tests.{byBool, byEq, clash}
 use Rattle.agreement.proofs.Clauses.{opens, bodies-here, bodies-past}
 use Rattle.records.specs.Fields.{pick}
+use Rattle.records.proofs.Laws.{and-pick}
 use Rattle.events.specs.Scan.{slotLength, slotProcedure, slotOf, heldIn}
 use Rattle.events.specs.Slots.{pairAt, appears, opensAt, seekOf}
 use Rattle.emit.specs.Walks.{SeenIn}
@@ -56,11 +57,7 @@ module _ (ws : List ℕ) (base m j : ℕ) (le : base ≤ j) where
     opens-is : opens m known (slotOf ws j) ≡ opensAt ws base m j
     unfolding slotOf opensAt
     opens-is = rw (bytes-length ws (34 * j + 2) (slotLength ws j), S (slotProcedure ws j))
-      (both (eqb (slotLength ws j) m) (not (appears ws base (j - base) (slotProcedure ws j) m)))
-      where
-        both : (a b : Bool) → a && b ≡ pick a b false
-        both true b = refl
-        both false b = refl
+      (and-pick (eqb (slotLength ws j) m) (not (appears ws base (j - base) (slotProcedure ws j) m)))
 
     -- a slot passed over adds no procedure
     seen-past : opensAt ws base m j ≡ false → SeenIn ws base m (j + 1) known

@@ -8,7 +8,7 @@ use borrow.Author.Needs.{needs}
 use borrow.Author.Tests.{lt-ltb}
 use lib.ListN.{length}
 use lib.Dec.{ltb}
-use Rattle.model.specs.Syntax.{Number, Condition, Statement, skip, NOT, sequence, if, qcase, call}
+use Rattle.model.specs.Syntax.{Number, Statement, skip, NOT, sequence, qcase, call}
 use Rattle.model.specs.Lists.{remaining, touched, holds}
 use Rattle.model.specs.Gates.{Controls, asking, insert, flip}
 use Rattle.model.specs.Emission.{places, Chains, startChain, whole, invocations, left, right}
@@ -16,17 +16,18 @@ use Rattle.model.proofs.Tests.{byBool}
 use Rattle.agreement.proofs.Peak.{StackedChains, whole-stacked, left-stacked, right-stacked, chains-stacked}
 use Rattle.agreement.proofs.Clauses.{whole-yes, whole-no}
 use Rattle.circuit.specs.Writing.{insertWithin, askingWithin}
-use Rattle.records.specs.Fields.{removalsOf}
+use Rattle.records.specs.Fields.{pick, removalsOf}
 use Rattle.table.specs.Index.{testAt, statementAt, programAt}
 use Rattle.step.specs.declared.Step.{Step}
 use Rattle.step.specs.declared.Step.the-variants as step
 use Rattle.step.specs.Steps.{stepAt}
+use Rattle.step.proofs.Says.{at-step, spent-skip}
+use Rattle.step.proofs.Choosing.{chosen-means}
 use Rattle.events.specs.declared.Emit.{Emit}
 use Rattle.events.specs.Scan.{seen, scan}
 use Rattle.events.specs.Follows.{Follows}
 use Rattle.emit.specs.Walks.{Ready, Roomy, chainsIn, Whole, walks-whole, Call, walks-call}
 use Rattle.events.proofs.ScanLaws.{nextAfter, stacked-after}
-use Rattle.emit.proofs.Stepping.{at-step, spent-skip}
 use Rattle.events.proofs.Following.{follows-none, follows-stopped, follows-gates, follows-next, follows-if, follows-as, follows-append}
 use Rattle.emit.proofs.Stepping.{ready-then}
 
@@ -79,12 +80,6 @@ module _ (ch : Chains) (l : List ℕ) (cs : Controls) (next : ℕ) (s : Statemen
   whole-pair : {x y : Statement} → s ≡ sequence x y → whole ch x l cs next ++ whole ch y l cs next ≡ whole ch s l cs next
   unfolding whole
   whole-pair e = rw e
-
-  whole-chosen : {c : Condition} {x y : Statement} → s ≡ if c x y → holds c (length l) ≡ true → whole ch x l cs next ≡ whole ch s l cs next
-  whole-chosen {c = c} {x = x} {y = y} e h = rw e (sym (whole-yes ch l cs next c x y h))
-
-  whole-left-out : {c : Condition} {x y : Statement} → s ≡ if c x y → holds c (length l) ≡ false → whole ch y l cs next ≡ whole ch s l cs next
-  whole-left-out {c = c} {x = x} {y = y} e h = rw e (sym (whole-no ch l cs next c x y h))
 
   whole-case : {rs : List Number} {a : Number} {q : ℕ} {x y : Statement} → s ≡ qcase rs a x y → q ≡ touched rs a l →
       whole ch x l (asking q false cs) next ++ whole ch y l (asking q true cs) next ≡ whole ch s l cs next
@@ -156,15 +151,13 @@ module _ {bs ix m : List ℕ} {p k : ℕ} {write : Bool} {st : Emit} {room ws : 
         whole-calls {f = f} {at = at} {rest = rest} e q A = let h = at-step p bs ix depth i l nz is e in
           walks-whole (λ R C. follows-as write (ap (λ (v : List ℕ). startChain (chainsIn bs ix p k) f v cs (st .next)) q ∙ whole-call (chainsIn bs ix p k) l cs (st .next) (statementAt p bs ix depth i) h) (use-call A R))
 
-        pub whole-chooses : {c a b : ℕ} {t : Bool} → found ≡ step.Chooses c a b → t ≡ holds (testAt p bs ix (depth - 1) c) (length l) → t ≡ true →
-            Whole bs ix m p k write st room ws r room₁ ws₁ a (depth - 1) l cs → Whole bs ix m p k write st room ws r room₁ ws₁ i depth l cs
-        whole-chooses e h t A =
-          walks-whole (λ R C. follows-as write (whole-chosen (chainsIn bs ix p k) l cs (st .next) (statementAt p bs ix depth i) (at-step p bs ix depth i l nz is e) (sym h ∙ t)) (use-whole A R (roomy-less nz C)))
-
-        pub whole-passes : {c a b : ℕ} {t : Bool} → found ≡ step.Chooses c a b → t ≡ holds (testAt p bs ix (depth - 1) c) (length l) → t ≡ false →
-            Whole bs ix m p k write st room ws r room₁ ws₁ b (depth - 1) l cs → Whole bs ix m p k write st room ws r room₁ ws₁ i depth l cs
-        whole-passes e h t A =
-          walks-whole (λ R C. follows-as write (whole-left-out (chainsIn bs ix p k) l cs (st .next) (statementAt p bs ix depth i) (at-step p bs ix depth i l nz is e) (sym h ∙ t)) (use-whole A R (roomy-less nz C)))
+        pub whole-chosen : {c a b x : ℕ} → found ≡ step.Chooses c a b → x ≡ pick (holds (testAt p bs ix (depth - 1) c) (length l)) a b →
+            Whole bs ix m p k write st room ws r room₁ ws₁ x (depth - 1) l cs → Whole bs ix m p k write st room ws r room₁ ws₁ i depth l cs
+        whole-chosen e q A =
+          let ch = chainsIn bs ix p k in
+          walks-whole (λ R C. follows-as write
+            (sym (chosen-means (λ s. whole ch s l cs (st .next)) l (whole-yes ch l cs (st .next)) (whole-no ch l cs (st .next)) p bs ix depth i nz is e q))
+            (use-whole A R (roomy-less nz C)))
 
         module _ {b : Emit} {room₂ ws₂ : List ℕ} where
           pub whole-sequence : {x y : ℕ} → found ≡ step.Sequence x y →
@@ -185,6 +178,6 @@ module _ {bs ix m : List ℕ} {p k : ℕ} {write : Bool} {st : Emit} {room ws : 
             follows-as write (whole-case (chainsIn bs ix p k) l cs (st .next) (statementAt p bs ix depth i) (h .2) (h .3)) (two-parts bs ix p k l (statementAt p bs ix (depth - 1) x) (statementAt p bs ix (depth - 1) y) (asking q false cs) (asking q true cs) R F (use-whole B′ (ready-then R F) (roomy-asking nz C q true))))
 
 pub ruleset wholes = (
-    needs, whole-stopped, whole-spent, whole-nothing, whole-holds, whole-both, whole-either, whole-negates, whole-touches, whole-calls, whole-chooses,
-    whole-passes, whole-sequence, whole-branches
+    needs, whole-stopped, whole-spent, whole-nothing, whole-holds, whole-both, whole-either, whole-negates, whole-touches, whole-calls, whole-chosen,
+    whole-sequence, whole-branches
   )

@@ -11,7 +11,7 @@ ghost use Rattle.emit.specs.Walks.{bodyDepth, Whole, Call, Left, Right, 
 use circuit::write::{ControlLists, asking, no_controls};
 use events::{Emit, emit_entries, emit_flip, finish, flip_again, invoke, load, procedure, seek, under, wire};
 use reach::{recursive, width};
-use step::{Qubits, Step, all, holds, remaining, size, start, step_at};
+use step::{Qubits, Step, all, chosen, remaining, size, start, step_at};
 
 // The sum of two numbers of calls, of which more than 65,535 is no more than that.
 fn sum(a: u16, b: u16) -> u16
@@ -49,10 +49,8 @@ fn count_calls(table: &[u8], index: &[u16], p: u8, matrix: &[u8; 289], f: u8, i:
             count_calls(table, index, p, matrix, f, b, depth - 1, list)
         }
         Step::Chooses(c, a, b) => {
-            if holds(table, index, p, c, list, depth - 1) {
-                return count_calls(table, index, p, matrix, f, a, depth - 1, list);
-            }
-            count_calls(table, index, p, matrix, f, b, depth - 1, list)
+            let part = chosen(table, index, p, c, a, b, list, depth - 1);
+            count_calls(table, index, p, matrix, f, part, depth - 1, list)
         }
         Step::Branches(_, a, b) => {
             let first = count_calls(table, index, p, matrix, f, a, depth - 1, list);
@@ -80,19 +78,8 @@ fn body_depth(p: u8, f: u8) -> u8
 
 // A statement emitted whole, in order.
 fn emit_whole(
-    table: &[u8],
-    index: &[u16],
-    p: u8,
-    matrix: &[u8; 289],
-    k: u8,
-    i: usize,
-    depth: u8,
-    list: Qubits,
-    controls: ControlLists,
-    write: bool,
-    room: &mut [u8],
-    ws: &mut [u8],
-    st: Emit,
+    table: &[u8], index: &[u16], p: u8, matrix: &[u8; 289], k: u8, i: usize, depth: u8, list: Qubits, controls: ControlLists,
+    write: bool, room: &mut [u8], ws: &mut [u8], st: Emit,
 ) -> Emit
     ensures { λ r. ⌜ Whole (now (table .entry)) (now (index .entry)) (now (matrix .entry)) p k write st (now (room .entry)) (now (ws .entry))
         r (now (room .exit)) (now (ws .exit)) i depth (qubitsOf list) (controlsFrom controls) ⌝ }
@@ -112,10 +99,8 @@ fn emit_whole(
             emit_whole(table, index, p, matrix, k, b, depth - 1, list, controls, write, room, ws, one)
         }
         Step::Chooses(c, a, b) => {
-            if holds(table, index, p, c, list, depth - 1) {
-                return emit_whole(table, index, p, matrix, k, a, depth - 1, list, controls, write, room, ws, st);
-            }
-            emit_whole(table, index, p, matrix, k, b, depth - 1, list, controls, write, room, ws, st)
+            let part = chosen(table, index, p, c, a, b, list, depth - 1);
+            emit_whole(table, index, p, matrix, k, part, depth - 1, list, controls, write, room, ws, st)
         }
         Step::Branches(q, a, b) => {
             let zero = asking(controls, q, false);
@@ -134,18 +119,8 @@ fn emit_whole(
 
 // "A non-recursive call with a nonempty list starts a chain."
 fn emit_call(
-    table: &[u8],
-    index: &[u16],
-    p: u8,
-    matrix: &[u8; 289],
-    k: u8,
-    f: u8,
-    list: Qubits,
-    controls: ControlLists,
-    write: bool,
-    room: &mut [u8],
-    ws: &mut [u8],
-    st: Emit,
+    table: &[u8], index: &[u16], p: u8, matrix: &[u8; 289], k: u8, f: u8, list: Qubits, controls: ControlLists,
+    write: bool, room: &mut [u8], ws: &mut [u8], st: Emit,
 ) -> Emit
     ensures { λ r. ⌜ Call (now (table .entry)) (now (index .entry)) (now (matrix .entry)) p k write st (now (room .entry)) (now (ws .entry))
         r (now (room .exit)) (now (ws .exit)) f (qubitsOf list) (controlsFrom controls) ⌝ }
@@ -169,19 +144,8 @@ fn emit_call(
 
 // The bodies of lists of length m, from slot j on and before `upto`, around those of shorter lists.
 fn emit_bodies(
-    table: &[u8],
-    index: &[u16],
-    p: u8,
-    matrix: &[u8; 289],
-    k: u8,
-    base: u16,
-    m: u8,
-    j: u16,
-    upto: u16,
-    write: bool,
-    room: &mut [u8],
-    ws: &mut [u8],
-    st: Emit,
+    table: &[u8], index: &[u16], p: u8, matrix: &[u8; 289], k: u8, base: u16, m: u8, j: u16, upto: u16,
+    write: bool, room: &mut [u8], ws: &mut [u8], st: Emit,
 ) -> Emit
     ensures { λ r. ⌜ Bodies (now (table .entry)) (now (index .entry)) (now (matrix .entry)) p k write st (now (room .entry)) (now (ws .entry))
         r (now (room .exit)) (now (ws .exit)) base m j upto ⌝ }
@@ -202,19 +166,8 @@ fn emit_bodies(
 
 // The body of slot d around all bodies that follow it, between its entry gates.
 fn emit_body(
-    table: &[u8],
-    index: &[u16],
-    p: u8,
-    matrix: &[u8; 289],
-    k: u8,
-    base: u16,
-    m: u8,
-    d: u16,
-    upto: u16,
-    write: bool,
-    room: &mut [u8],
-    ws: &mut [u8],
-    st: Emit,
+    table: &[u8], index: &[u16], p: u8, matrix: &[u8; 289], k: u8, base: u16, m: u8, d: u16, upto: u16,
+    write: bool, room: &mut [u8], ws: &mut [u8], st: Emit,
 ) -> Emit
     ensures { λ r. ⌜ Body (now (table .entry)) (now (index .entry)) (now (matrix .entry)) p k write st (now (room .entry)) (now (ws .entry))
         r (now (room .exit)) (now (ws .exit)) base m d upto ⌝ }
@@ -229,19 +182,8 @@ fn emit_body(
 
 // Its left part, then the rest.
 fn emit_inner(
-    table: &[u8],
-    index: &[u16],
-    p: u8,
-    matrix: &[u8; 289],
-    k: u8,
-    base: u16,
-    m: u8,
-    d: u16,
-    upto: u16,
-    write: bool,
-    room: &mut [u8],
-    ws: &mut [u8],
-    st: Emit,
+    table: &[u8], index: &[u16], p: u8, matrix: &[u8; 289], k: u8, base: u16, m: u8, d: u16, upto: u16,
+    write: bool, room: &mut [u8], ws: &mut [u8], st: Emit,
 ) -> Emit
     ensures { λ r. ⌜ Inner (now (table .entry)) (now (index .entry)) (now (matrix .entry)) p k write st (now (room .entry)) (now (ws .entry))
         r (now (room .exit)) (now (ws .exit)) base m d upto ⌝ }
@@ -253,20 +195,8 @@ fn emit_inner(
 
 // The bodies that follow, then its right part, whose recursive calls have the ancillas from `first` on.
 fn emit_rest(
-    table: &[u8],
-    index: &[u16],
-    p: u8,
-    matrix: &[u8; 289],
-    k: u8,
-    base: u16,
-    m: u8,
-    d: u16,
-    upto: u16,
-    first: u16,
-    write: bool,
-    room: &mut [u8],
-    ws: &mut [u8],
-    st: Emit,
+    table: &[u8], index: &[u16], p: u8, matrix: &[u8; 289], k: u8, base: u16, m: u8, d: u16, upto: u16, first: u16,
+    write: bool, room: &mut [u8], ws: &mut [u8], st: Emit,
 ) -> Emit
     ensures { λ r. ⌜ Rest (now (table .entry)) (now (index .entry)) (now (matrix .entry)) p k write st (now (room .entry)) (now (ws .entry))
         r (now (room .exit)) (now (ws .exit)) base m d upto first ⌝ }
@@ -280,16 +210,8 @@ fn emit_rest(
 
 // The left part of the body of slot d.
 fn emit_fore(
-    table: &[u8],
-    index: &[u16],
-    p: u8,
-    matrix: &[u8; 289],
-    k: u8,
-    d: u16,
-    write: bool,
-    room: &mut [u8],
-    ws: &mut [u8],
-    st: Emit,
+    table: &[u8], index: &[u16], p: u8, matrix: &[u8; 289], k: u8, d: u16,
+    write: bool, room: &mut [u8], ws: &mut [u8], st: Emit,
 ) -> Emit
     ensures { λ r. ⌜ Fore (now (table .entry)) (now (index .entry)) (now (matrix .entry)) p k write st (now (room .entry)) (now (ws .entry))
         r (now (room .exit)) (now (ws .exit)) d ⌝ }
@@ -304,17 +226,8 @@ fn emit_fore(
 
 // Its right part.
 fn emit_back(
-    table: &[u8],
-    index: &[u16],
-    p: u8,
-    matrix: &[u8; 289],
-    k: u8,
-    d: u16,
-    first: u16,
-    write: bool,
-    room: &mut [u8],
-    ws: &mut [u8],
-    st: Emit,
+    table: &[u8], index: &[u16], p: u8, matrix: &[u8; 289], k: u8, d: u16, first: u16,
+    write: bool, room: &mut [u8], ws: &mut [u8], st: Emit,
 ) -> Emit
     ensures { λ r. ⌜ Back (now (table .entry)) (now (index .entry)) (now (matrix .entry)) p k write st (now (room .entry)) (now (ws .entry))
         r (now (room .exit)) (now (ws .exit)) d first ⌝ }
@@ -329,20 +242,8 @@ fn emit_back(
 
 // The left part of the statement at record i, in the body of f.
 fn emit_left(
-    table: &[u8],
-    index: &[u16],
-    p: u8,
-    matrix: &[u8; 289],
-    k: u8,
-    f: u8,
-    i: usize,
-    depth: u8,
-    list: Qubits,
-    controls: ControlLists,
-    write: bool,
-    room: &mut [u8],
-    ws: &mut [u8],
-    st: Emit,
+    table: &[u8], index: &[u16], p: u8, matrix: &[u8; 289], k: u8, f: u8, i: usize, depth: u8, list: Qubits, controls: ControlLists,
+    write: bool, room: &mut [u8], ws: &mut [u8], st: Emit,
 ) -> Emit
     ensures { λ r. ⌜ Left (now (table .entry)) (now (index .entry)) (now (matrix .entry)) p k write st (now (room .entry)) (now (ws .entry))
         r (now (room .exit)) (now (ws .exit)) f i depth (qubitsOf list) (controlsFrom controls) ⌝ }
@@ -365,10 +266,8 @@ fn emit_left(
             emit_left(table, index, p, matrix, k, f, b, depth - 1, list, controls, write, room, ws, one)
         }
         Step::Chooses(c, a, b) => {
-            if holds(table, index, p, c, list, depth - 1) {
-                return emit_left(table, index, p, matrix, k, f, a, depth - 1, list, controls, write, room, ws, st);
-            }
-            emit_left(table, index, p, matrix, k, f, b, depth - 1, list, controls, write, room, ws, st)
+            let part = chosen(table, index, p, c, a, b, list, depth - 1);
+            emit_left(table, index, p, matrix, k, f, part, depth - 1, list, controls, write, room, ws, st)
         }
         Step::Branches(q, a, b) => {
             let zero = asking(controls, q, false);
@@ -391,21 +290,8 @@ fn emit_left(
 
 // The right part of the statement at record i, in the body of f; its recursive calls have the ancillas from `first` on.
 fn emit_right(
-    table: &[u8],
-    index: &[u16],
-    p: u8,
-    matrix: &[u8; 289],
-    k: u8,
-    f: u8,
-    i: usize,
-    depth: u8,
-    list: Qubits,
-    controls: ControlLists,
-    first: u16,
-    write: bool,
-    room: &mut [u8],
-    ws: &mut [u8],
-    st: Emit,
+    table: &[u8], index: &[u16], p: u8, matrix: &[u8; 289], k: u8, f: u8, i: usize, depth: u8, list: Qubits, controls: ControlLists, first: u16,
+    write: bool, room: &mut [u8], ws: &mut [u8], st: Emit,
 ) -> Emit
     ensures { λ r. ⌜ Right (now (table .entry)) (now (index .entry)) (now (matrix .entry)) p k write st (now (room .entry)) (now (ws .entry))
         r (now (room .exit)) (now (ws .exit)) f i depth (qubitsOf list) (controlsFrom controls) first ⌝ }
@@ -428,10 +314,8 @@ fn emit_right(
             emit_right(table, index, p, matrix, k, f, b, depth - 1, list, controls, first, write, room, ws, st)
         }
         Step::Chooses(c, a, b) => {
-            if holds(table, index, p, c, list, depth - 1) {
-                return emit_right(table, index, p, matrix, k, f, a, depth - 1, list, controls, first, write, room, ws, st);
-            }
-            emit_right(table, index, p, matrix, k, f, b, depth - 1, list, controls, first, write, room, ws, st)
+            let part = chosen(table, index, p, c, a, b, list, depth - 1);
+            emit_right(table, index, p, matrix, k, f, part, depth - 1, list, controls, first, write, room, ws, st)
         }
         Step::Branches(q, a, b) => {
             let second = sum(first, count_calls(table, index, p, matrix, f, a, depth - 1, list));
@@ -454,14 +338,8 @@ fn emit_right(
 
 // "Wires 1 to n are data; ancillas follow": main is emitted whole, under no control.
 pub fn emit_main(
-    table: &[u8],
-    index: &[u16],
-    p: u8,
-    matrix: &[u8; 289],
-    n: u8,
-    write: bool,
-    room: &mut [u8],
-    ws: &mut [u8],
+    table: &[u8], index: &[u16], p: u8, matrix: &[u8; 289], n: u8,
+    write: bool, room: &mut [u8], ws: &mut [u8],
 ) -> Emit
     ensures { λ r. ⌜ Emits (now (table .entry)) (now (index .entry)) (now (matrix .entry)) p n write (now (room .entry)) (now (ws .entry))
         r (now (room .exit)) (now (ws .exit)) ⌝ }

@@ -1,24 +1,24 @@
 -- The ways out of the functions that emit entry gates, in order or reversed.
 use mathlib.Core.Path.{_≡_, refl, sym, ap, _∙_}
-use mathlib.Core.Bool.{Bool, true, false, _&&_}
+use mathlib.Core.Bool.{Bool, true, false}
 use mathlib.Core.List.{List, [], _∷_, _++_, map, reverse, reverse-cons, reverse-append}
 use Prim.Native.Nat.{ℕ, zero, suc, _+_, _-_, _*_, _≤_, _<_}
 use native.Mathlib.Numerals.{add-one}
 use native.Mathlib.Omega.{arith}
 use borrow.Author.Needs.{needs}
 use borrow.Author.Tests.{eq-eqb, ne-eqb}
-use lib.ListN.{length, getD, drop}
+use lib.ListN.{length, getD, drop, drop-of-length-le}
 use lib.Seq.{drop-cons}
 use lib.Dec.{eqb}
 use Rattle.model.specs.Gates.{Controls, Gate, flip, swapOf, exchange}
 use Rattle.model.specs.Emission.{Event, places, under, swaps, entryGates, samePair, allEntryGates}
 use Rattle.model.proofs.Tests.{byBool}
-use Rattle.records.specs.Fields.{pick}
+use Rattle.records.proofs.Laws.{and-pick}
 use Rattle.events.specs.declared.Emit.{Emit}
 use Rattle.events.specs.Scan.{Seen, seen, scan, bytesFrom, slotLength, slotProcedure, slotList, wireOf, slotOf, heldIn}
 use Rattle.events.specs.Slots.{pairAt, turned, Differ, entryAt}
 use Rattle.events.proofs.ScanLaws.{scan-append}
-use Rattle.events.proofs.Leaves.{drop-past, further, spent}
+use Rattle.events.proofs.Leaves.{further, spent}
 
 pub scan-nothing : (write : Bool) (x : Seen) → x ≡ scan write [] x
 unfolding scan
@@ -97,12 +97,12 @@ pub ruleset differing = (needs, same-starts, differ-first-ends, differ-later-end
 module _ (e : ℕ) (F L : List ℕ) (k i : ℕ) (back write : Bool) (st : Emit) (room : List ℕ) (D : Differ F L k i) (m : ℕ) (first : m ≡ length F) where
   pub swaps-no-first : m ≤ i → seen st room ≡ scan write (turned back (swaps e (drop k F) (drop k L))) (seen st room)
   unfolding swaps
-  swaps-no-first h = let g : length F ≤ i = omega arith in rw (D .same e, drop-past F i g) (nothing-turned back write (seen st room))
+  swaps-no-first h = let g : length F ≤ i = omega arith in rw (D .same e, drop-of-length-le F g) (nothing-turned back write (seen st room))
 
   module _ (n : ℕ) (later : n ≡ length L) where
     pub swaps-no-later : n ≤ i → seen st room ≡ scan write (turned back (swaps e (drop k F) (drop k L))) (seen st room)
     swaps-no-later h =
-      let g : length L ≤ i = omega arith in rw (D .same e, drop-past L i g, swaps-nil e (drop i F)) (nothing-turned back write (seen st room))
+      let g : length L ≤ i = omega arith in rw (D .same e, drop-of-length-le L g, swaps-nil e (drop i F)) (nothing-turned back write (seen st room))
 
     module _ (lf : i < m) (ll : i < n) (to from : ℕ) (is-to : to ≡ getD F i 0) (is-from : from ≡ getD L i 0)
         (M : List ℕ) (is-m : M ≡ map (exchange from to) L) where
@@ -182,11 +182,7 @@ bytes-length bs at (suc n) = ap suc (bytes-length bs (at + 1) n)
 pair-is : (ws : List ℕ) (d e : ℕ) → samePair (slotOf ws d) (slotOf ws e) ≡ pairAt ws e (slotProcedure ws d) (slotLength ws d)
 unfolding samePair slotOf pairAt
 pair-is ws d e = rw (bytes-length ws (34 * d + 2) (slotLength ws d), bytes-length ws (34 * e + 2) (slotLength ws e))
-    (both (eqb (slotProcedure ws e) (slotProcedure ws d)) (eqb (slotLength ws e) (slotLength ws d)))
-    where
-      both : (a b : Bool) → a && b ≡ pick a b false
-      both true b = refl
-      both false b = refl
+    (and-pick (eqb (slotProcedure ws e) (slotProcedure ws d)) (eqb (slotLength ws e) (slotLength ws d)))
 
 entries-cons : (ws : List ℕ) (d e n : ℕ) →
     allEntryGates (slotOf ws d) (heldIn ws e (suc n)) ≡ entryAt ws d e ++ allEntryGates (slotOf ws d) (heldIn ws (e + 1) n)

@@ -2,7 +2,7 @@
 use mathlib.Core.Path.{_≡_, refl, sym, ap, _∙_, subst}
 use mathlib.Core.Logic.{_≢_}
 use mathlib.Core.Bool.{Bool}
-use mathlib.Core.List.{List, [], _∷_, _++_, reverse, reverse-cons}
+use mathlib.Core.List.{List, [], _∷_, _++_}
 use Prim.Native.Nat.{ℕ, zero, suc, _+_, _*_, _≤_, _<_}
 use native.Mathlib.Nat.{le-refl}
 use native.Mathlib.Omega.{arith}
@@ -11,10 +11,11 @@ use lib.ListN.{length, getD, set, length-set}
 use lib.Seq.{sets, getD-set-same, getD-set-other}
 use lib.Dec.{eqb}
 use Rattle.model.specs.Limits.{mostWires, mostCircuit}
-use Rattle.model.specs.Emission.{Event, takes, places, frees, Invocation, invocation, swaps, entryGates, samePair, allEntryGates}
+use Rattle.model.specs.Emission.{Event, takes, places, frees, invocation}
 use Rattle.model.specs.Circuit.{encode}
 use Rattle.model.specs.Answers.{usable}
 use Rattle.model.proofs.Tests.{byBool, byLt, byEq}
+use Rattle.agreement.proofs.Peak.{OnlyGates}
 use Rattle.events.specs.declared.Emit.{Emit}
 use Rattle.events.specs.Scan.{Seen, seen, emitOf, placed, stored, scan, bytesFrom, slotAt, slotLength, slotProcedure, slotList, slotOf, heldIn}
 use Rattle.events.specs.Slots.{filled, pairAt, appears}
@@ -22,39 +23,6 @@ use Rattle.events.specs.Follows.{Follows}
 use Rattle.events.proofs.ScanLaws.{scan-append, scan-stopped, scan-places, scan-no-gate, scan-many, scan-next, nextAfter}
 use Rattle.events.proofs.Leaves.{place-stopped}
 use Rattle.events.proofs.Entering.{scan-nothing}
-
--- events that only place gates
-abbrev pub OnlyGates : List Event → Type 0
-OnlyGates [] = Unit {0}
-OnlyGates (takes w ∷ es) = ⊥
-OnlyGates (places g ∷ es) = OnlyGates es
-OnlyGates (frees a ∷ es) = ⊥
-
-pub only-append : (xs ys : List Event) → OnlyGates xs → OnlyGates ys → OnlyGates (xs ++ ys)
-only-append [] ys x y = y
-only-append (takes w ∷ xs) ys x y = x
-only-append (places g ∷ xs) ys x y = only-append xs ys x y
-only-append (frees a ∷ xs) ys x y = x
-
-pub only-reverse : (es : List Event) → OnlyGates es → OnlyGates (reverse es)
-only-reverse [] x = tt
-only-reverse (takes w ∷ es) x = absurd x
-only-reverse (places g ∷ es) x = rw (reverse-cons (places g) es) (only-append (reverse es) (places g ∷ []) (only-reverse es x) tt)
-only-reverse (frees a ∷ es) x = absurd x
-
-swaps-only : (e : ℕ) (ks ws : List ℕ) → OnlyGates (swaps e ks ws)
-unfolding swaps
-swaps-only e [] ws = tt
-swaps-only e (k ∷ ks) [] = tt
-swaps-only e (k ∷ ks) (w ∷ ws) = byBool (eqb w k) (λ q. rw (q, swaps) (swaps-only e ks ws)) (λ q. rw (q, swaps) (swaps-only e ks _))
-
-pub entries-only : (d : Invocation) (later : List Invocation) → OnlyGates (allEntryGates d later)
-unfolding allEntryGates entryGates
-entries-only d [] = tt
-entries-only d (e ∷ later) = byBool (samePair d e)
-    (λ q. rw (q, allEntryGates)
-      (only-append (entryGates d e) (allEntryGates d later) (swaps-only (e .ancilla) (d .list) (e .list)) (entries-only d later)))
-    (λ q. rw (q, allEntryGates) (entries-only d later))
 
 -- gates leave the next wire
 pub gates-next : (write : Bool) (es : List Event) (st : Emit) (room : List ℕ) → OnlyGates es → emitOf (scan write es (seen st room)) .next ≡ st .next

@@ -2,7 +2,7 @@
 use mathlib.Core.Path.{_≡_, refl, sym, ap, _∙_}
 use mathlib.Core.Bool.{Bool}
 use mathlib.Core.List.{List, [], _∷_}
-use Prim.Native.Nat.{ℕ, suc, _+_, _≤_, _<_, min}
+use Prim.Native.Nat.{ℕ, _+_, _≤_, _<_, min}
 use native.Mathlib.Nat.{le-refl}
 use native.Mathlib.Omega.{arith}
 use borrow.Author.Needs.{needs}
@@ -13,7 +13,7 @@ use lib.Dec.{eqb}
 use Rattle.model.specs.Limits.{mostWires}
 use Rattle.model.specs.Gates.{Controls, flip}
 use Rattle.model.specs.Emission.{places, frees, Invocation, invocation, invokes, invoked, returns}
-use Rattle.model.proofs.Tests.{byBool, byLt, byEq}
+use Rattle.model.proofs.Tests.{byBool, byLt, byEq, not-zero}
 use Rattle.step.specs.declared.Qubits.{Qubits}
 use Rattle.step.specs.Steps.{qubitsOf}
 use Rattle.events.specs.declared.Emit.{Emit}
@@ -38,9 +38,6 @@ finished write cs base w x a r room e p q =
     rw (q, ← e) (scan-first write (places (flip cs w)) (frees base ∷ []) x (seen a room) (seen (returned base a) room) p (returned-scan write base a room))
 
 -- the ways out of `flip_again`
-not-zero : (k : ℕ) → _≡_ {A = ℕ} (suc k) 0 → ⊥
-not-zero k e = omega arith
-
 no-return : (write : Bool) (cs : Controls) (a : ℕ) (x : Seen) → x ≡ scan write (returns [] cs a) x
 unfolding returns
 no-return write cs a x = scan-nothing write x

@@ -10,7 +10,7 @@ use mir.Syntax.{w64}
 use mir.Val.{Fits}
 use borrow.Author.Needs.{needs}
 use borrow.Author.Tests.{lt-ltb, le-ltb, le-leb, lt-leb, eq-eqb, ne-eqb, leb-true, leb-false}
-use lib.ListN.{length, getD, set, take, drop, length-take, List·getD-eq-default}
+use lib.ListN.{length, getD, set, take, drop, length-take, drop-of-length-le, List·getD-eq-default}
 use lib.Seq.{sets, drop-cons, take-suc, take-suc-set, take-all, getD-take}
 use lib.Dec.{eqb, leb}
 use Rattle.model.specs.Limits.{mostWires}
@@ -30,11 +30,7 @@ use Rattle.events.specs.Scan.{Seen, seen, stopped, freed, placed, stored
 use Rattle.events.specs.Slots.{filled, taking, returned, pairAt, appears, opensAt, seekOf}
 use Rattle.events.proofs.ScanLaws.{scan-stopped, scan-places, scan-no-gate, scan-many}
 
--- past the end of a slice a byte counts as 0
-pub past : (s : List ℕ) (at : ℕ) → length s ≤ at → 0 ≡ getD s at 0
-past s at h = sym (List·getD-eq-default s 0 h)
-
-pub ruleset reading = (needs, past, lt-ltb, le-ltb)
+pub ruleset reading = (needs, lt-ltb, le-ltb)
 
 -- the ways out of `in_room`
 module _ (room used n most : ℕ) (is : most ≡ usable room) where
@@ -118,12 +114,6 @@ module _ (f : ℕ) (l : List ℕ) (st : Emit) (ws : List ℕ) where
 pub ruleset takings = (needs, back-stopped, back-given, take-stopped, take-past, take-one)
 
 -- entries of a list
-pub drop-past : (l : List ℕ) (i : ℕ) → length l ≤ i → drop i l ≡ []
-drop-past [] zero h = refl
-drop-past [] (suc i) h = refl
-drop-past (x ∷ l) zero h = absurd (not-suc-le-zero h)
-drop-past (x ∷ l) (suc i) h = drop-past l i (le-of-suc-le-suc h)
-
 module _ (q : Qubits) (i n : ℕ) (is : n ≡ length (qubitsOf q)) where
   pub entry-none : n ≤ i → 0 ≡ getD (qubitsOf q) i 0
   entry-none h = let k : length (qubitsOf q) ≤ i = omega arith in sym (List·getD-eq-default (qubitsOf q) 0 k)
@@ -150,7 +140,7 @@ module _ (ws₀ : List ℕ) (at : ℕ) (l ws : List ℕ) (place i n : ℕ) (is :
     still (sym (rw (p, add-one place, add-one i, drop-cons l i 0 k)) ∙ e)
 
   pub stored-all : Storing ws₀ at l ws place i → n ≤ i → ws ≡ sets ws₀ at l
-  stored-all (still e) h = let k : length l ≤ i = omega arith in sym (rw (drop-past l i k)) ∙ e
+  stored-all (still e) h = let k : length l ≤ i = omega arith in sym (rw (drop-of-length-le l k)) ∙ e
 
   pub stored-full : Storing ws₀ at l ws place i → length ws ≤ place → ws ≡ sets ws₀ at l
   stored-full (still e) h = sets-past ws place (drop i l) h ∙ e

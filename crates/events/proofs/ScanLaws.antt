@@ -6,8 +6,8 @@ use Prim.Native.Nat.{ℕ, suc, _+_, _≤_, _<_, max}
 use native.Mathlib.Nat.{add-zero}
 use native.Mathlib.Omega.{arith}
 use borrow.Author.Tests.{lt-ltb, le-ltb, le-leb, lt-leb, eq-eqb, eqb-true}
-use lib.ListN.{length, set, length-append}
-use lib.Seq.{sets, length-sets, sets-eq}
+use lib.ListN.{length, length-append}
+use lib.Seq.{length-sets}
 use lib.Dec.{eqb, ltb, leb}
 use Rattle.model.specs.Limits.{mostWires, mostCircuit, headerLength, manyWires, noRoom}
 use Rattle.model.specs.Syntax.{Program}
@@ -19,6 +19,7 @@ use Rattle.model.proofs.Tests.{byBool, byLt}
 use Rattle.model.proofs.RoundTrip.{encode-length}
 use Rattle.agreement.proofs.Peak.{Stacked, highest, peak-highest, emission-stacked}
 use Rattle.agreement.proofs.Fits.{AllFit, fit-all, fits-length}
+use Rattle.circuit.proofs.Putting.{sets-append}
 use Rattle.events.specs.declared.Emit.{Emit}
 use Rattle.events.specs.Scan.{Seen, seen, emitOf, roomOf, stopped, taken, freed, placed, stored, goes, scan, begun, emissionEnd}
 
@@ -68,10 +69,6 @@ module _ (write : Bool) (es : List Event) (st : Emit) (room : List ℕ) (ok : st
   scan-frees a = rw (eq-eqb (st .status) 0 ok)
 
 -- stores one after the other
-pub sets-append : (room : List ℕ) (at : ℕ) (a b : List ℕ) → sets room at (a ++ b) ≡ sets (sets room at a) (at + length a) b
-sets-append room at [] b = rw (add-zero at)
-sets-append room at (x ∷ a) b = let e : suc at + length a ≡ at + suc (length a) = omega arith in rw (← e) (sets-append (set room at x) (suc at) a b)
-
 stored-append : (write : Bool) (room : List ℕ) (at : ℕ) (a b : List ℕ) →
     stored write room at (a ++ b) ≡ stored write (stored write room at a) (at + length a) b
 stored-append true room at a b = sets-append room at a b

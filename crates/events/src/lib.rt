@@ -15,7 +15,8 @@ ghost use Rattle.step.specs.Steps.{qubitsOf};
 ghost use Rattle.events.specs.Scan.{seen, stopped, scan, slotLength, slotProcedure, slotList, wireOf, slotOf, heldIn};
 ghost use Rattle.events.specs.Slots.{filled, taking, returned, pairAt, appears, opensAt, seekOf, turned, entryAt, Differ};
 ghost use Rattle.events.specs.Follows.{Invokes};
-use circuit::write::{ControlLists, NewGate, asking, no_controls, flip_of, swap_of, gate_length, put, put_pair, put_gate};
+use circuit::write::{ControlLists, NewGate, asking, no_controls, flip_of, swap_of, gate_length, put_pair, put_gate};
+use records::byte;
 use step::{Qubits, size};
 
 // Where an emission stands: 0 or the number that refuses it, bytes used, gates placed, the next wire, and the highest wire taken.
@@ -105,13 +106,6 @@ pub fn wire(a: u16) -> u8
     ensures { λ r. ⌜ r ≡ wireOf a ⌝ }
 {
     if 255 < a { 0 } else { a as u8 }
-}
-
-// The byte at a place, 0 past the end.
-fn byte(s: &[u8], at: usize) -> u8
-    ensures { λ r. ⌜ r ≡ getD (now (s .entry)) at 0 ⌝ }
-{
-    if at < s.len() { s[at] } else { 0 }
 }
 
 // The procedure in a slot.

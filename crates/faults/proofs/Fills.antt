@@ -15,6 +15,7 @@ use mir.Val.{Fits}
 use Rattle.model.specs.Meaning.{digit}
 use Rattle.table.specs.Index.{rootOf, statementAt}
 use Rattle.reach.specs.Matrix.{recursiveIn}
+use Rattle.reach.proofs.Ways.{left-never}
 use Rattle.faults.specs.Touches.{touches}
 use Rattle.faults.specs.Rows.{rowOf, rowIs, place, knownTouches, stored}
 use Rattle.faults.specs.Lengths.{countsBelow, sumsBelow, sumsIn}
@@ -85,14 +86,7 @@ module _ (ranks : List ℕ) (f : ℕ) where
   pub rank-past : 17 ≤ f → 0 ≡ rankAt ranks f
   rank-past l = rw (le-ltb f 17 l)
 
--- a count that goes from below to its end does not pass it
-pub never-past : {A : Type 0} (a b : A) (x p : ℕ) → x ≤ p → p < x → a ≡ b
-never-past a b x p h l = absurd (never h l)
-  where
-    never : x ≤ p → p < x → ⊥
-    never h l = omega arith
-
-pub ruleset ranking = (needs, reached-self, reached-yes, reached-not, rank-fits, rank-small, rank-more, rank-end, rank-start, never-past,
+pub ruleset ranking = (needs, reached-self, reached-yes, reached-not, rank-fits, rank-small, rank-more, rank-end, rank-start, left-never,
     ranks-more, ranks-end, ranks-start, rank-within, rank-past)
 
 -- a row written into the table

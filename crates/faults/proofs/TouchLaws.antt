@@ -12,7 +12,7 @@ use Rattle.model.specs.Syntax.{Number, Condition, Statement, skip, NOT, sequenc
 use Rattle.model.specs.Lists.{range, qubits, remaining, entry, touched, holds, member}
 use Rattle.model.specs.Faults.{CallFaults, callFaults, faults, callFaultsWithin, enough, programFaults}
 use Rattle.model.specs.Reach.{calls, recursive, anyLacksRemoval}
-use Rattle.model.proofs.Tests.{byBool, byEq, eqb-same, clash, not-true-false, and-left, and-right, and-both, or-left, or-right, or-cases, or-false}
+use Rattle.model.proofs.Tests.{byBool, byEq, eqb-same, clash, same-test, not-true-false, and-left, and-right, and-both, or-left, or-right, or-cases, or-false}
 use Rattle.model.proofs.ListLaws.{member-head, member-tail, not-in-nil, member-cases, Distinct, subset-out, range-distinct, range-length}
 use Rattle.model.proofs.ListLaws.{remaining-map, remaining-subset, remaining-distinct, remaining-no-longer, touched-map}
 use Rattle.model.proofs.ListLaws.{Data, data-zero, data-remaining, data-touched, qubits-data}
@@ -21,11 +21,6 @@ use Rattle.model.proofs.Fuel.{faults-yes, faults-no, call-falls}
 use Rattle.faults.specs.Touches.{Touched, CallTouches, anyUpTo, joined, closes, carried, callTouches, touches, touchesWithin}
 use Rattle.faults.specs.Lengths.{removalCounts}
 use Rattle.faults.proofs.LengthLaws.{remaining-length}
-
--- two tests that imply each other are equal
-same-test : (a b : Bool) → (a ≡ true → b ≡ true) → (b ≡ true → a ≡ true) → a ≡ b
-same-test true b f g = sym (f refl)
-same-test false b f g = sym (not-true-false b (λ e. false≢true (g e)))
 
 -- a search from 0 to k: what passes is found, and what is found passes
 any-here : (k : ℕ) (test : ℕ → Bool) (t : ℕ) → t ≤ k → test t ≡ true → anyUpTo k test ≡ true
@@ -143,11 +138,11 @@ remaining-inside rs m = data-remaining m rs (qubits m) (qubits-data m)
 
 -- the clauses of `touches` at a condition
 module _ (o : CallTouches) (c : Condition) (s t : Statement) (m : ℕ) where
-  touches-yes : holds c m ≡ true → touches o (if c s t) m ≡ touches o s m
+  pub touches-yes : holds c m ≡ true → touches o (if c s t) m ≡ touches o s m
   unfolding touches
   touches-yes e = rw (e, touches)
 
-  touches-no : holds c m ≡ false → touches o (if c s t) m ≡ touches o t m
+  pub touches-no : holds c m ≡ false → touches o (if c s t) m ≡ touches o t m
   unfolding touches
   touches-no e = rw (e, touches)
 

@@ -2,9 +2,7 @@
 // that no call can lead to are left out.
 ghost use mathlib.Core.Path.{_≡_};
 ghost use Prim.Native.Nat.{min, suc};
-ghost use lib.ListN.{length};
 ghost use Rattle.model.specs.Meaning.{digit};
-ghost use Rattle.records.specs.Fields.{removalsOf};
 ghost use Rattle.table.specs.Index.{statementAt};
 ghost use Rattle.step.specs.Steps.{qubitsOf};
 ghost use Rattle.faults.specs.Touches.{callTouches, touches};
@@ -12,8 +10,8 @@ ghost use Rattle.faults.specs.Rows.{rowOf, rowIs, marked, closedRow, pla
 ghost use Rattle.faults.specs.Lengths.{removalCounts, countsBelow, sumsBelow, sumsIn};
 ghost use Rattle.faults.specs.Filling.{fromIn, rankIn, ranksIn, rankAt};
 ghost use Rattle.faults.specs.Filling.{filledRow, filledIf, filledRank, filledLength, filledAsked, filled, faultsAt};
-use reach::{recursive, root};
-use step::{Qubits, Step, all, entry, holds, remaining, size, step_at};
+use reach::{Parts, parts_at, recursive, removal_count, root};
+use step::{Qubits, Step, all, chosen, entry, remaining, size, step_at};
 
 // "a tree is at most 32 records deep"
 const MOST_DEPTH: u8 = 32;
@@ -110,10 +108,8 @@ fn touches(table: &[u8], index: &[u16], p: u8, i: usize, depth: u8, m: u8, known
             a | b
         }
         Step::Chooses(test, yes, no) => {
-            if holds(table, index, p, test, list, depth - 1) {
-                return touches(table, index, p, yes, depth - 1, m, known);
-            }
-            touches(table, index, p, no, depth - 1, m, known)
+            let part = chosen(table, index, p, test, yes, no, list, depth - 1);
+            touches(table, index, p, part, depth - 1, m, known)
         }
         Step::Branches(q, zero, one) => {
             let a = touches(table, index, p, zero, depth - 1, m, known);
@@ -131,16 +127,6 @@ fn touches(table: &[u8], index: &[u16], p: u8, i: usize, depth: u8, m: u8, known
 // A removal takes one entry away or empties the list. So a call leaves as many entries less as it carries removals, or none, and from main's list
 // calls lead to lists that are shorter by a sum of such numbers.
 
-// How many removals stand at a place. Place 0 has none.
-fn count_at(table: &[u8], at: usize) -> u8
-    ensures { λ r. ⌜ r ≡ length (removalsOf (now (table .entry)) at) ⌝ }
-{
-    if at == 0 {
-        return 0;
-    }
-    if at < table.len() { table[at] } else { 0 }
-}
-
 // How many removals the calls in the statement at record i carry, as a set.
 fn counts(table: &[u8], index: &[u16], p: u8, i: usize, depth: u8) -> u64
     ensures { λ r. ⌜ r ≡ rowOf (removalCounts (statementAt p (now (table .entry)) (now (index .entry)) depth i)) ⌝ }
@@ -148,24 +134,11 @@ fn counts(table: &[u8], index: &[u16], p: u8, i: usize, depth: u8) -> u64
     if depth == 0 {
         return 0;
     }
-    let step = step_at(table, index, p, i, all(0));
-    match step {
-        Step::Nothing => 0,
-        Step::Touches(_) => 0,
-        Step::Sequence(first, second) => {
-            counts(table, index, p, first, depth - 1) | counts(table, index, p, second, depth - 1)
-        }
-        Step::Chooses(_, yes, no) => {
-            counts(table, index, p, yes, depth - 1) | counts(table, index, p, no, depth - 1)
-        }
-        Step::Branches(_, zero, one) => {
-            counts(table, index, p, zero, depth - 1) | counts(table, index, p, one, depth - 1)
-        }
-        Step::Calls(_, at) => mark(0, count_at(table, at)),
-        Step::Holds(_) => 0,
-        Step::Both(_, _) => 0,
-        Step::Either(_, _) => 0,
-        Step::Negates(_) => 0,
+    let found = parts_at(table, index, p, i);
+    match found {
+        Parts::Neither => 0,
+        Parts::Two(a, b, _) => counts(table, index, p, a, depth - 1) | counts(table, index, p, b, depth - 1),
+        Parts::Call(_, at) => mark(0, removal_count(table, at)),
     }
 }
 

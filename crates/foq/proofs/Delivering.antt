@@ -1,12 +1,11 @@
 -- From the answer and the room of compile to what its export promises.
-use mathlib.Core.Path.{_≡_, refl, sym, ap, subst}
-use mathlib.Core.List.{List, []}
-use Prim.Native.Nat.{ℕ, zero, suc, _≤_}
+use mathlib.Core.Path.{_≡_, refl, sym, subst}
+use mathlib.Core.List.{List}
+use Prim.Native.Nat.{ℕ}
 use native.Mathlib.Omega.{arith}
 use borrow.Author.Needs.{needs}
 use lib.ListN.{length, take, drop}
 use lib.Seq.{take-append-seam}
-use Rattle.model.specs.Limits.{success}
 use Rattle.model.specs.Answers.{Outcome, gives, refuses, after, number, valueOr, compile, roomAfter, workspaceAfter}
 use Rattle.model.specs.Demand.{Demand3}
 use Rattle.agreement.proofs.Promise.{compile-promises}
@@ -14,17 +13,11 @@ use Rattle.run.specs.declared.Answer.{Answer}
 use Rattle.run.specs.Answers.{answerOf}
 use Rattle.compile.specs.declared.Compiled.{Compiled}
 use Rattle.compile.specs.Passes.{compiledOf}
-use Rattle.compile.specs.Compiling.{Answered, answered}
+use Rattle.compile.specs.Compiling.{answered}
 use Rattle.compile.specs.Compiling as compiling
+use Rattle.compile.proofs.Ways.{answer-halves}
 use Rattle.compile.proofs.Numbered.{Refusal, compile-numbered}
 use Rattle.foq.specs.Compiling.{lengthAnswer, Delivered}
-
--- the two halves of an answer
-abbrev answerIn : Answered → Compiled
-answerIn (answered r room) = r
-
-abbrev roomIn : Answered → List ℕ
-roomIn (answered r room) = room
 
 -- what is exported of an answer
 abbrev exported : Compiled → Answer
@@ -54,10 +47,10 @@ module _ (table room : List ℕ) (n workspace : ℕ) (r : Compiled) (room₁ : L
   o = compile table n (length room) workspace
 
   pub room-is : room₁ ≡ roomAfter o room
-  room-is = ap roomIn is
+  room-is = answer-halves o room is .1
 
   answer-same : r ≡ compiledOf o
-  answer-same = ap answerIn is
+  answer-same = answer-halves o room is .0
 
   pub answer-is : exported r ≡ lengthAnswer o
   answer-is = rw answer-same (exported-is o)

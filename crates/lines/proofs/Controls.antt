@@ -2,14 +2,15 @@
 use mathlib.Core.Path.{_≡_, refl, sym}
 use mathlib.Core.List.{List, [], _∷_, _++_, append-assoc}
 use Prim.Native.Nat.{ℕ, zero, suc, _+_, _-_, _^_, _≤_, _<_, min}
-use native.Mathlib.Nat.{add-zero, sub-zero}
+use native.Mathlib.Nat.{add-zero}
 use native.Mathlib.Omega.{arith}
 use borrow.Author.Needs.{needs}
 use borrow.Author.Tests.{lt-ltb, le-ltb}
 use lib.ListN.{length, getD, take, drop, length-take, length-drop}
-use lib.Seq.{take-take, take-nil, drop-drop}
+use lib.Seq.{take-take, drop-drop}
 use Rattle.model.specs.Listing.{plus, hyphen, signed, hyphens, placed, controlText}
 use Rattle.model.proofs.Tests.{byLt}
+use Rattle.model.proofs.ListLaws.{drop-front}
 use Rattle.circuit.specs.Views.{part}
 use Rattle.circuit.proofs.Parts.{part-step, part-none, part-past}
 use Rattle.lines.specs.Puts.{Written, written, puts}
@@ -84,13 +85,6 @@ placed-at w [] others = refl
 placed-at w (z ∷ zeros) others = byLt z w
     (λ h. rw (lower-goes w z zeros h, lt-ltb z w h, placed, placed-at w zeros others) (simp append-assoc))
     (λ h. rw (lower-stops w z zeros h, le-ltb z w h, placed))
-
--- the rest of a part, behind its front
-drop-front : (k n : ℕ) (l : List ℕ) → drop k (take n l) ≡ take (n - k) (drop k l)
-drop-front zero n l = rw (sub-zero n)
-drop-front (suc k) zero l = let e : 0 - suc k ≡ 0 = omega arith in rw e
-drop-front (suc k) (suc n) [] = sym (take-nil (suc n - suc k))
-drop-front (suc k) (suc n) (x ∷ l) = let e : suc n - suc k ≡ n - k = omega arith in rw e (drop-front k n l)
 
 -- what the loop of `put_controls` keeps: all the controls are those that are left, behind those that were put
 module _ (bs text : List ℕ) (one onesLeft zero zerosLeft place : ℕ) (whole : Written)

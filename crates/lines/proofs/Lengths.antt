@@ -10,9 +10,9 @@ use lib.ListN.{length, length-append}
 use Rattle.model.specs.Limits.{mostWires, mostCircuit, notWellFormed}
 use Rattle.model.specs.Reading.{Parsed, parsed, refused}
 use Rattle.model.specs.Gates.{Gate, flip, swap}
-use Rattle.model.specs.Circuit.{Circuit, listBytes, encode, encodeAll, wires, within, gateIsWellFormed, readCircuit}
+use Rattle.model.specs.Circuit.{Circuit, listBytes, encode, encodeAll, wires, within, gateIsWellFormed, readCircuit, controlsOf}
 use Rattle.model.specs.Answers.{gives, refuses, wellFormed, circuitRead}
-use Rattle.model.specs.Listing.{decimal, hyphens, placed, controlText, actionText, controlsText, gateLine, gateLines, listed}
+use Rattle.model.specs.Listing.{decimal, hyphens, placed, controlText, actionText, gateLine, gateLines, listed}
 use Rattle.model.proofs.Tests.{byLt, and-left, and-right}
 use Rattle.model.proofs.RoundTrip.{WellFormed, AllWellFormed, formed, encodeAll-length, write-length, write-circuitRead}
 use Rattle.lines.proofs.Digits.{decimal-low, decimal-high}
@@ -90,7 +90,7 @@ list-length (w ∷ l) = omega arith
 -- the line of a gate: at most 12 bytes and 5 for each control, for two bytes and one for each control; a swap has one byte more, and 4 in its line
 line-length : (most k : ℕ) (g : Gate) → most ≤ mostWires → gateIsWellFormed most g ≡ true → k < 100000 →
     length (gateLine k g) ≤ 6 * length (encode g)
-unfolding actionText controlsText encode wires
+unfolding actionText controlsOf encode wires
 line-length most k (flip cs t) few ok small =
     let inside = short most (t ∷ (cs .ones ++ cs .zeros)) few (formed most (flip cs t) ok .inside) in
     let both = short-both (cs .ones) (cs .zeros) (inside .1) in

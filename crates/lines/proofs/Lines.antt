@@ -6,8 +6,9 @@ use Prim.Native.Nat.{ℕ}
 use borrow.Author.Needs.{needs}
 use borrow.Author.Tests.{not-true, not-false}
 use Rattle.model.specs.Gates.{Controls}
+use Rattle.model.specs.Circuit.{controlsOf}
 use Rattle.model.specs.Answers.{refuses}
-use Rattle.model.specs.Listing.{decimal, letterX, letterS, space, newline, actionText, controlText, controlsText, gateLine, firstLine, listed}
+use Rattle.model.specs.Listing.{decimal, letterX, letterS, space, newline, actionText, controlText, gateLine, firstLine, listed}
 use Rattle.circuit.specs.Views.{listIn, controlsIn, gateWith, gateIn}
 use Rattle.circuit.specs.declared.GateAt.{GateAt}
 use Rattle.lines.specs.Puts.{written, puts}
@@ -37,8 +38,8 @@ unfolding actionText
 action-is true cs u v = refl
 action-is false cs u v = refl
 
-controls-are : (swaps : Bool) (cs : Controls) (u v : ℕ) → controlsText (gateWith swaps cs u v) ≡ controlText (cs .ones) (cs .zeros)
-unfolding controlsText
+controls-are : (swaps : Bool) (cs : Controls) (u v : ℕ) → controlsOf (gateWith swaps cs u v) ≡ cs
+unfolding controlsOf
 controls-are true cs u v = refl
 controls-are false cs u v = refl
 

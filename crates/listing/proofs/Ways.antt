@@ -10,19 +10,13 @@ use Rattle.model.specs.Answers.{Outcome, gives, refuses, after, number, valueOr
 use Rattle.model.specs.Listing.{listed, listingOf, listing}
 use Rattle.compile.specs.declared.Compiled.{Compiled}
 use Rattle.compile.specs.Passes.{compiledOf}
-use Rattle.compile.specs.Compiling.{Answered, answered, answerOf}
+use Rattle.compile.specs.Compiling.{answered, answerOf}
+use Rattle.compile.proofs.Ways.{answer-halves}
 use Rattle.compile.proofs.Numbered.{Numbered, compile-numbered}
 use Rattle.io.specs.Counts.{Counts}
 use Rattle.lines.specs.Puts.{written, puts}
 use Rattle.lines.proofs.Putting.{puts-whole}
 use Rattle.listing.proofs.Lengths.{listing-fits}
-
--- the two halves of an answer
-abbrev answerIn : Answered → Compiled
-answerIn (answered r room) = r
-
-abbrev roomIn : Answered → List ℕ
-roomIn (answered r room) = room
 
 -- as many bytes of an array as are asked for
 pub front-length : (l : List ℕ) (k most : ℕ) → length l ≡ most → k ≤ most → length (take k l) ≡ k
@@ -42,7 +36,7 @@ module _ (bs room ws : List ℕ) (n : ℕ) (r : Compiled) (room₁ : List ℕ)
   o = compile bs n 65536 32768
 
   answer : (r ≡ compiledOf o) × (room₁ ≡ roomAfter o room)
-  answer = let e : answered r room₁ ≡ answerOf o room = rw (long, enough) at is in (ap answerIn e, ap roomIn e)
+  answer = let e : answered r room₁ ≡ answerOf o room = rw (long, enough) at is in answer-halves o room e
 
   module _ (text end : List ℕ) (last : ℕ) where
     pub table-refused : (r .number ≡ 0 → ⊥) → written end last ≡ puts (listed (refuses (r .number))) text 0 →

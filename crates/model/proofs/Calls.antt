@@ -1,14 +1,14 @@
 -- Reach and rank: the computed reach is "one or more calls"; the rank of a procedure falls at each non-recursive call and does not rise at a
 -- recursive one, which carries a removal where refusal 10 has passed.
-use mathlib.Core.Path.{_≡_, refl, sym, ap, _∙_, subst}
+use mathlib.Core.Path.{_≡_, refl, sym, subst}
 use mathlib.Core.Logic.{_≢_}
-use mathlib.Core.Bool.{Bool, true, false, not, _&&_, _||_, true≢false, false≢true}
+use mathlib.Core.Bool.{Bool, true, false, _&&_, _||_, true≢false, false≢true}
 use mathlib.Core.List.{List, [], _∷_}
-use Prim.Native.Nat.{ℕ, zero, suc, _+_, _≤_, _<_, max, zero-le, suc-le-suc}
+use Prim.Native.Nat.{ℕ, zero, suc, _≤_, _<_, zero-le, suc-le-suc}
 use native.Mathlib.Nat.{not-suc-le-zero}
 use native.Mathlib.Omega.{arith}
 use borrow.Author.Tests.{eqb-true, ne-eqb, ltb-false}
-use lib.ListN.{length, getD, List·getD-eq-default}
+use lib.ListN.{List·getD-eq-default}
 use lib.Dec.{eqb, ltb}
 use Rattle.model.specs.Syntax.{Number, Statement, skip, NOT, sequence, if, qcase, call, Program, count, body}
 use Rattle.model.specs.Reach.{calls, Reaches, direct, onward, reachesBelow, reaches, recursive, isEmpty, lacksRemoval, width, anyBody, anyLacksRemoval, anyTooWide}
@@ -85,13 +85,14 @@ reach-trans P f h g le a b = onward-reach P (suc (count P)) f h g (suc-le-suc le
 pub reach-call : (P : Program) (f g : ℕ) → calls (body P f) g ≡ true → reaches P f g ≡ true
 reach-call P f g c = direct-reach P (suc (count P)) f g c
 
--- nothing reaches main
-Reaches-named : (P : Program) → Named P → {f g : ℕ} → Reaches P f g → 0 < g
-Reaches-named P N (direct {f = f} {g = g} c) = N f g c .0
-Reaches-named P N (onward c r) = Reaches-named P N r
+-- what is reached is a procedure
+pub reached-named : (P : Program) → Named P → {f g : ℕ} → Reaches P f g → (0 < g) × (g ≤ count P)
+reached-named P N (direct {f = f} {g = g} c) = N f g c
+reached-named P N (onward c r) = reached-named P N r
 
+-- so nothing reaches main
 pub main-unreached : (P : Program) → Named P → (f : ℕ) → reaches P f 0 ≡ false
-main-unreached P N f = not-true-false (reaches P f 0) (λ h. not-suc-le-zero (Reaches-named P N (reach-sound P f 0 h)))
+main-unreached P N f = not-true-false (reaches P f 0) (λ h. not-suc-le-zero (reached-named P N (reach-sound P f 0 h) .0))
 
 -- how many numbers below k pass a test
 unfoldable pub howMany : (ℕ → Bool) → ℕ → ℕ

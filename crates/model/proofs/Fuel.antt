@@ -1,14 +1,13 @@
 -- Fuel never runs out: rank + length falls at each call of a table that passes refusal 10, so `enough` is enough, and more changes nothing.
-use mathlib.Core.Path.{_≡_, refl, sym, _∙_}
-use mathlib.Core.Bool.{Bool, true, false, _||_}
+use mathlib.Core.Path.{_≡_, refl}
+use mathlib.Core.Bool.{Bool, true, false}
 use mathlib.Core.List.{List, [], _∷_}
 use Prim.Native.Nat.{ℕ, zero, suc, _+_, _≤_, _<_, zero-le, suc-le-suc}
-use native.Mathlib.Nat.{not-suc-le-zero}
 use native.Mathlib.Omega.{arith}
 use lib.ListN.{length}
-use Rattle.model.specs.Syntax.{Number, Condition, Statement, skip, NOT, sequence, if, qcase, call, Program, count, body}
+use Rattle.model.specs.Syntax.{Number, Condition, Statement, skip, NOT, sequence, if, qcase, call, Program, body}
 use Rattle.model.specs.Lists.{qubits, remaining, touched, holds}
-use Rattle.model.specs.Faults.{CallFaults, callFaults, touchFaults, faults, callFaultsWithin, enough, programFaults}
+use Rattle.model.specs.Faults.{CallFaults, callFaults, faults, callFaultsWithin, enough, programFaults}
 use Rattle.model.specs.Meaning.{State, CallDoes, callDoes, does, callDoesWithin, endState}
 use Rattle.model.specs.Reach.{recursive, anyLacksRemoval}
 use Rattle.model.proofs.Tests.{byBool}

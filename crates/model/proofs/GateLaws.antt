@@ -3,15 +3,15 @@ use mathlib.Core.Path.{_≡_, refl, sym, ap, _∙_, fun-ext}
 use mathlib.Core.Logic.{_≢_}
 use mathlib.Core.Bool.{Bool, true, false, not, _&&_, _||_, true≢false}
 use mathlib.Core.List.{List, [], _∷_, _++_, reverse, reverse-cons}
-use Prim.Native.Nat.{ℕ, zero, suc, min, max}
+use Prim.Native.Nat.{ℕ, min, max}
 use native.Mathlib.Omega.{arith}
-use borrow.Author.Tests.{ne-eqb, eqb-true}
-use lib.Dec.{eqb, ltb}
+use borrow.Author.Tests.{ne-eqb}
+use lib.Dec.{ltb}
 use Rattle.model.specs.Lists.{member}
 use Rattle.model.specs.Meaning.{State, update, flipped}
 use Rattle.model.specs.Gates.{Controls, noControls, insert, asking, Gate, flip, swap, swapOf, exchange, renamed, allOne, allZero, fires, act, acts}
-use Rattle.model.proofs.Tests.{byBool, byEq, byLt, eqb-same, not-not, and-left, and-right, or-cases, or-left, or-right, or-false, or-false-left, or-false-right}
-use Rattle.model.proofs.ListLaws.{member-head, member-tail, member-nil, member-cases, member-skip, member-differs, not-head, not-tail, not-in-nil}
+use Rattle.model.proofs.Tests.{byBool, byEq, byLt, eqb-same, not-not, or-cases, or-left, or-right}
+use Rattle.model.proofs.ListLaws.{member-head, member-tail, member-nil, member-cases, not-head, not-tail}
 
 -- one bit of a state
 update-same : (s : State) (w : ℕ) (b : Bool) → update s w b w ≡ b

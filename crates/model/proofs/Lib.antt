@@ -1,5 +1,7 @@
 pub mod Tests
+pub mod Outcomes
 pub mod ListLaws
+pub mod WireLists
 pub mod GateLaws
 pub mod Words
 pub mod Calls

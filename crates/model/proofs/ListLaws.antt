@@ -1,17 +1,18 @@
 -- Lists of qubits: membership; removals commute with a renaming, keep a part of the list without repetition, and shorten it.
 use mathlib.Core.Path.{_≡_, refl, sym, ap, _∙_, subst}
 use mathlib.Core.Logic.{_≢_}
-use mathlib.Core.Bool.{Bool, true, false, true≢false, false≢true}
-use mathlib.Core.List.{List, [], _∷_, map}
-use Prim.Native.Nat.{ℕ, zero, suc, _+_, _≤_, _<_, zero-le, suc-le-suc}
-use native.Mathlib.Nat.{not-suc-le-zero, le-of-suc-le-suc}
+use mathlib.Core.Bool.{true, false, _||_, or-assoc, true≢false}
+use mathlib.Core.List.{List, [], _∷_, _++_, map}
+use Prim.Native.Nat.{ℕ, zero, suc, _+_, _-_, _≤_, _<_, zero-le, suc-le-suc}
+use native.Mathlib.Nat.{not-suc-le-zero, le-of-suc-le-suc, sub-zero}
 use native.Mathlib.Omega.{arith}
 use borrow.Author.Tests.{eqb-true, ne-eqb, ltb-true}
-use lib.ListN.{getD, length, length-map, List·getD-map}
+use lib.ListN.{getD, length, length-map, List·getD-map, take, drop}
+use lib.Seq.{take-nil}
 use lib.Dec.{eqb, ltb}
 use Rattle.model.specs.Syntax.{Number}
-use Rattle.model.specs.Lists.{range, qubits, value, position, delete, remove, removeAll, remaining, entry, touched, member}
-use Rattle.model.proofs.Tests.{byBool, byEq, eqb-same, clash, not-true-false, or-cases, or-false, or-right, or-false-right}
+use Rattle.model.specs.Lists.{range, qubits, value, position, delete, remove, removeAll, remaining, touched, member}
+use Rattle.model.proofs.Tests.{byBool, eqb-same, clash, not-true-false, or-cases, or-false, or-right, or-false-right}
 
 -- membership
 pub member-head : (w : ℕ) (l : List ℕ) → member w (w ∷ l) ≡ true
@@ -36,6 +37,11 @@ member-cases w x l h f g = or-cases (eqb w x) (member w l) h (λ e. f (eqb-true 
 pub member-skip : (w x : ℕ) (l : List ℕ) → w ≢ x → member w l ≡ false → member w (x ∷ l) ≡ false
 unfolding member
 member-skip w x l n h = or-false (eqb w x) (member w l) (ne-eqb w x n) h
+
+pub member-append : (w : ℕ) (l m : List ℕ) → member w (l ++ m) ≡ member w l || member w m
+unfolding member
+member-append w [] m = refl
+member-append w (x ∷ l) m = rw (member-append w l m) (sym (or-assoc (eqb w x) (member w l) (member w m)))
 
 -- a member and a non-member differ
 pub member-differs : (w v : ℕ) (l : List ℕ) → member w l ≡ true → member v l ≡ false → w ≢ v
@@ -263,6 +269,19 @@ pub range-length : (n a : ℕ) → length (range n a) ≡ n
 unfolding range
 range-length zero a = refl
 range-length (suc n) a = rw (range-length n (suc a))
+
+-- taking as many as were taken
+pub take-again : (k : ℕ) (l : List ℕ) → take (length (take k l)) l ≡ take k l
+take-again zero l = refl
+take-again (suc k) [] = refl
+take-again (suc k) (x ∷ l) = ap (_∷_ x) (take-again k l)
+
+-- the rest of a list's front
+pub drop-front : (k n : ℕ) (l : List ℕ) → drop k (take n l) ≡ take (n - k) (drop k l)
+drop-front zero n l = rw (sub-zero n)
+drop-front (suc k) zero l = let e : 0 - suc k ≡ 0 = omega arith in rw e
+drop-front (suc k) (suc n) [] = sym (take-nil (suc n - suc k))
+drop-front (suc k) (suc n) (x ∷ l) = let e : suc n - suc k ≡ n - k = omega arith in rw e (drop-front k n l)
 
 -- what stands at a place of a row made number by number
 pub tabulated : {A : Type 0} (h : ℕ → A) (d : A) (n a k : ℕ) → k < n → getD (map h (range n a)) k d ≡ h (a + k)

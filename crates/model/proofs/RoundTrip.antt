@@ -15,7 +15,8 @@ use Rattle.model.specs.Circuit.{Circuit, listBit, listBytes, controlMap,
 use Rattle.model.specs.Circuit.{wires, controlsOf, ascends, distinct, within, lowerFirst, gateIsWellFormed}
 use Rattle.model.specs.Circuit.{bytes, wireList, gateOf, readGate, readGates, fourByteNumber, circuitOf, readCircuit}
 use Rattle.model.specs.Answers.{gives, wellFormed, circuitRead}
-use Rattle.model.proofs.Tests.{and-left, and-right, and-both}
+use Rattle.model.proofs.Tests.{and-left, and-right}
+use Rattle.model.proofs.WireLists.{within-head, within-tail, within-append}
 use Rattle.model.proofs.Inversion.{Reads, reads-then, reads-provided, reads-less, after-byte, Anyhow, valued, no-bytes}
 
 -- these bytes are left, behind k records
@@ -338,24 +339,7 @@ bytes-append [] ys hx hy i = hy i
 bytes-append (x ∷ xs) ys hx hy zero = hx 0
 bytes-append (x ∷ xs) ys hx hy (suc i) = bytes-append xs ys (λ j. hx (suc j)) hy i
 
--- wires 1 to most
-within-head : (most w : ℕ) (l : List ℕ) → within most (w ∷ l) ≡ true → (1 ≤ w) × (w ≤ most)
-unfolding within
-within-head most w l h =
-    let both = and-left (leb 1 w && leb w most) (within most l) h in
-    (leb-true 1 w (and-left (leb 1 w) (leb w most) both), leb-true w most (and-right (leb 1 w) (leb w most) both))
-
-within-tail : (most w : ℕ) (l : List ℕ) → within most (w ∷ l) ≡ true → within most l ≡ true
-unfolding within
-within-tail most w l h = and-right (leb 1 w && leb w most) (within most l) h
-
-within-append : (most : ℕ) (xs ys : List ℕ) → within most (xs ++ ys) ≡ true → (within most xs ≡ true) × (within most ys ≡ true)
-unfolding within
-within-append most [] ys h = (refl, h)
-within-append most (x ∷ xs) ys h =
-    let rest = within-append most xs ys (within-tail most x (xs ++ ys) h) in
-    (and-both (leb 1 x && leb x most) (within most xs) (and-left (leb 1 x && leb x most) (within most (xs ++ ys)) h) (rest .0), rest .1)
-
+-- wires 1 to most are bytes
 within-bytes : (most : ℕ) (l : List ℕ) → most ≤ mostWires → within most l ≡ true → Bytes l
 within-bytes most [] few h = bytes-nil
 within-bytes most (w ∷ l) few h =
@@ -381,9 +365,10 @@ listBytes-bytes most (w ∷ l) few up h =
 controlBytes-bytes : (most : ℕ) (cs : Controls) → most ≤ mostWires → ascends (cs .ones) ≡ true → ascends (cs .zeros) ≡ true →
     within most (cs .ones ++ cs .zeros) ≡ true → Bytes (controlBytes cs)
 controlBytes-bytes most cs few up₁ up₀ h =
-    let both = within-append most (cs .ones) (cs .zeros) h in
+    let both = sym (within-append most (cs .ones) (cs .zeros)) ∙ h in
     bytes-append (listBytes (cs .ones)) (listBytes (cs .zeros))
-      (listBytes-bytes most (cs .ones) few up₁ (both .0)) (listBytes-bytes most (cs .zeros) few up₀ (both .1))
+      (listBytes-bytes most (cs .ones) few up₁ (and-left (within most (cs .ones)) (within most (cs .zeros)) both))
+      (listBytes-bytes most (cs .zeros) few up₀ (and-right (within most (cs .ones)) (within most (cs .zeros)) both))
 
 -- what a well-formed gate keeps to, part by part
 pub record Formed (most : ℕ) (g : Gate) : Type 0 where

@@ -1,5 +1,7 @@
 -- Splitting on computed tests, and the few facts of Bool that the proofs need beside those of borrow.Author.Tests.
-use Prim.Native.Nat.{ℕ, _≤_, _<_}
+use Prim.Native.Nat.{ℕ, suc, _≤_, _<_}
+use native.Mathlib.Nat.{lt-irrefl, lt-of-lt-of-le}
+use native.Mathlib.Omega.{arith}
 use mathlib.Core.Path.{_≡_, refl, sym}
 use mathlib.Core.Logic.{_≢_}
 use mathlib.Core.Bool.{Bool, true, false, not, _&&_, _||_, true≢false, false≢true}
@@ -26,6 +28,19 @@ eqb-same n = eq-eqb n n refl
 pub clash {ℓ} : {A : Type ℓ} {b : Bool} → b ≡ true → b ≡ false → A
 clash {b = true} p q = absurd (true≢false q)
 clash {b = false} p q = absurd (false≢true p)
+
+-- two tests that imply each other are equal
+pub same-test : (a b : Bool) → (a ≡ true → b ≡ true) → (b ≡ true → a ≡ true) → a ≡ b
+same-test true b f g = sym (f refl)
+same-test false true f g = g refl
+same-test false false f g = refl
+
+-- what cannot be: a successor that is 0, a number below another that is not above it
+pub not-zero : (k : ℕ) → _≡_ {A = ℕ} (suc k) 0 → ⊥
+not-zero k e = omega arith
+
+pub not-below {ℓ} : {A : Type ℓ} (m n : ℕ) → n ≤ m → m < n → A
+not-below m n h l = absurd (lt-irrefl m (lt-of-lt-of-le l h))
 
 -- what is not true is false
 pub not-true-false : (b : Bool) → (b ≡ true → ⊥) → b ≡ false

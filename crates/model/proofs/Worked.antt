@@ -15,7 +15,7 @@ use Rattle.model.specs.Gates.{insert, asking, swapOf, exchange, renamed,
 use Rattle.model.specs.Emission.{startChain, whole, invoked, invocations, invokes, returns, left, right, swaps, entryGates, samePair, allEntryGates, around, bodies, bodiesFrom, chainsWithin, emission, gates, below, inUse, peak}
 use Rattle.model.specs.Circuit.{listBit, listBytes, encode, encodeAll, fourBytes, write, wires, controlsOf, ascends, distinct, within, lowerFirst, gateIsWellFormed, bytes, wireList, gateOf, readGate, readGates, fourByteNumber, circuitOf, readCircuit, blockFrom, blockOf, circuitBlock}
 use Rattle.model.specs.Answers.{Outcome, gives, refuses, after, require, outcome, number, valueOr, accepted, run, fit, fitted, circuit, compile, Block, wellFormed, circuitRun}
-use Rattle.model.specs.Listing.{digitsWithin, hyphens, placed, controlText, actionText, controlsText, gateLines, listed, listing}
+use Rattle.model.specs.Listing.{digitsWithin, hyphens, placed, controlText, actionText, gateLines, listed, listing}
 
 pub record Result : Type 0 where
   pub number : ℕ
@@ -62,5 +62,5 @@ compares = refl
 
 -- the listing of PAIRS at n = 3, of empty input, and of a table that is refused
 pub listings : (listing (3 ∷ pairs) ≡ pairsListing) × (listing [] ≡ 0x39 ∷ 0x0a ∷ []) × (listing (3 ∷ []) ≡ 0x31 ∷ 0x0a ∷ [])
-unfolding andThen provided byteOf signed16 numberOf reading.number numbers removals procedure statementKind conditionKind optional fields known opening contents two conditionOf condition statementOf statement statements trees readTable range delete remove removeAll holds member callFaults faults callFaultsWithin programFaults update flipped stateOf digit wordFrom callDoes does callDoesWithin endState endWord calls reachesBelow isEmpty lacksRemoval width anyBody anyLacksRemoval anyTooWide after require outcome number valueOr accepted run insert asking swapOf exchange startChain whole invoked invocations invokes returns left right swaps entryGates samePair allEntryGates around bodies bodiesFrom chainsWithin emission gates below inUse peak listBit listBytes encode encodeAll fourBytes write fit fitted circuit compile renamed allOne allZero fires act acts ascends distinct within lowerFirst gateIsWellFormed bytes wireList gateOf readGate readGates fourByteNumber circuitOf readCircuit blockFrom circuitBlock wires controlsOf wellFormed circuitRun digitsWithin hyphens placed controlText actionText controlsText gateLines listed listing
+unfolding andThen provided byteOf signed16 numberOf reading.number numbers removals procedure statementKind conditionKind optional fields known opening contents two conditionOf condition statementOf statement statements trees readTable range delete remove removeAll holds member callFaults faults callFaultsWithin programFaults update flipped stateOf digit wordFrom callDoes does callDoesWithin endState endWord calls reachesBelow isEmpty lacksRemoval width anyBody anyLacksRemoval anyTooWide after require outcome number valueOr accepted run insert asking swapOf exchange startChain whole invoked invocations invokes returns left right swaps entryGates samePair allEntryGates around bodies bodiesFrom chainsWithin emission gates below inUse peak listBit listBytes encode encodeAll fourBytes write fit fitted circuit compile renamed allOne allZero fires act acts ascends distinct within lowerFirst gateIsWellFormed bytes wireList gateOf readGate readGates fourByteNumber circuitOf readCircuit blockFrom circuitBlock wires controlsOf wellFormed circuitRun digitsWithin hyphens placed controlText actionText gateLines listed listing
 listings = (refl, refl, refl)

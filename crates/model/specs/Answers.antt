@@ -10,7 +10,6 @@ use Rattle.model.specs.Reading.{Parsed, parsed, refused, readTable}
 use Rattle.model.specs.Faults.{programFaults}
 use Rattle.model.specs.Meaning.{endWord}
 use Rattle.model.specs.Reach.{anyLacksRemoval, anyTooWide}
-use Rattle.model.specs.Gates.{Gate}
 use Rattle.model.specs.Emission.{Event, takes, places, frees, emission, gates, peak}
 use Rattle.model.specs.Circuit.{Circuit, encode, write, readCircuit, circuitBlock}
 

@@ -5,7 +5,7 @@ use mathlib.Core.List.{List, [], _∷_, _++_}
 use lib.ListN.{length}
 use lib.Dec.{eqb, ltb, leb}
 use Rattle.model.specs.Limits.{circuitEdition, mostQubits, mostWires, mostCircuit, blockLength, notWellFormed}
-use Rattle.model.specs.Reading.{Input, Parsed, parsed, refused, andThen, provided, byte, optional, stands}
+use Rattle.model.specs.Reading.{Input, Parsed, parsed, andThen, provided, byte, optional, stands}
 use Rattle.model.specs.Lists.{member}
 use Rattle.model.specs.Meaning.{State, stateOf, wordFrom}
 use Rattle.model.specs.Gates.{Controls, Gate, flip, swap, acts}

@@ -1,12 +1,12 @@
 -- "Worked programs", on the listing program: the bytes that it writes for the bytes that it reads.
 use Prim.Native.Nat.{ℕ, zero, suc, _+_, _/_, _%_}
-use mathlib.Core.Bool.{Bool, true, false}
+use mathlib.Core.Bool.{true, false}
 use mathlib.Core.List.{List, [], _∷_, _++_}
 use lib.ListN.{length}
 use lib.Dec.{ltb}
 use Rattle.model.specs.Limits.{mostCircuit, leastWorkspace}
-use Rattle.model.specs.Gates.{Controls, Gate, flip, swap}
-use Rattle.model.specs.Circuit.{Circuit}
+use Rattle.model.specs.Gates.{Gate, flip, swap}
+use Rattle.model.specs.Circuit.{Circuit, controlsOf}
 use Rattle.model.specs.Answers.{Outcome, gives, refuses, after, compile, circuitRead}
 
 -- the characters, by their codes
@@ -64,13 +64,9 @@ unfoldable pub actionText : Gate → List ℕ
 actionText (flip cs t) = letterX ∷ space ∷ decimal t
 actionText (swap cs u v) = letterS ∷ space ∷ (decimal u ++ (space ∷ decimal v))
 
-unfoldable pub controlsText : Gate → List ℕ
-controlsText (flip cs t) = controlText (cs .ones) (cs .zeros)
-controlsText (swap cs u v) = controlText (cs .ones) (cs .zeros)
-
 -- "then gate number, X or S, target .., controls": gate k
 abbrev pub gateLine : ℕ → Gate → List ℕ
-gateLine k g = decimal k ++ (space ∷ (actionText g ++ (controlsText g ++ (newline ∷ []))))
+gateLine k g = decimal k ++ (space ∷ (actionText g ++ (controlText (controlsOf g .ones) (controlsOf g .zeros) ++ (newline ∷ []))))
 
 -- the gates from number k on, one line each
 unfoldable pub gateLines : ℕ → List Gate → List ℕ

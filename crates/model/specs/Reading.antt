@@ -1,7 +1,7 @@
 -- "The program table", as bytes: reading, with refusals 1 to 8 in document 01's order.
 use Prim.Native.Nat.{ℕ, zero, suc, _+_, _*_, _-_, _/_, _%_, _^_}
 use mathlib.Core.Bool.{Bool, true, false, _&&_, _||_, cond}
-use mathlib.Core.List.{List, [], _∷_, _++_}
+use mathlib.Core.List.{List, [], _∷_}
 use mathlib.Core.Option.{Option, none, some}
 use lib.ListN.{length, getD, getElem?}
 use lib.Dec.{eqb, ltb, leb}

@@ -1,8 +1,7 @@
 -- The rules of source 000, figures 2 and 3, for programs whose only operator is NOT, on basis states.
 -- NOT carries basis states to basis states, so a program of NOTs is known once it is known on these.
-use Prim.Native.Nat.{ℕ, zero, suc, _≤_, _<_}
+use Prim.Native.Nat.{ℕ, suc, _<_}
 use mathlib.Core.Path.{_≡_}
-use mathlib.Core.Logic.{_⊎_}
 use mathlib.Core.Bool.{Bool, true, false, not, _&&_, _||_, cond}
 use mathlib.Core.List.{List, [], _∷_}
 use lib.ListN.{length}

@@ -1,6 +1,6 @@
 -- "The program table": what a table is read to. Numbers, conditions, statements, programs.
 use Prim.Native.Nat.{ℕ}
-use mathlib.Core.List.{List, [], _∷_}
+use mathlib.Core.List.{List, _∷_}
 use lib.ListN.{length, getD}
 use lib.IntN.{ℤ}
 

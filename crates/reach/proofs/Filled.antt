@@ -10,7 +10,7 @@ use lib.Dec.{ltb}
 use Rattle.model.specs.Syntax.{Program, Statement, count, body}
 use Rattle.model.specs.Reach.{calls, Reaches, direct, onward, reaches, recursive, lacksRemoval, width, anyBody, anyLacksRemoval, anyTooWide}
 use Rattle.model.proofs.Tests.{byLt, clash, not-true-false}
-use Rattle.model.proofs.Calls.{Named, body-out, reach-sound}
+use Rattle.model.proofs.Calls.{body-out, reach-sound, reached-named}
 use Rattle.table.specs.Index.{bodyAt, programAt}
 use Rattle.reach.specs.Matrix.{entry, recursiveIn, digitsOf, reachTable}
 use Rattle.reach.specs.Walk.{reachAt, lacksIn, wideIn, anyLacksIn, anyWideIn}
@@ -18,7 +18,7 @@ use Rattle.reach.proofs.Shown.{shows-mark-at, digits-shown}
 use Rattle.reach.proofs.Marks.{count-at, body-at}
 use Rattle.reach.proofs.Named.{named}
 
--- what a program calls has a body, and what it reaches is named
+-- what calls something has a body, and so has what reaches something
 from-body : (P : Program) (f g : ℕ) → calls (body P f) g ≡ true → f ≤ count P
 unfolding calls
 from-body P f g c = byLt (count P) f (λ o. clash c (rw (body-out P f o))) (λ l. l)
@@ -26,10 +26,6 @@ from-body P f g c = byLt (count P) f (λ o. clash c (rw (body-out P f o))) (λ l
 reaches-low : (P : Program) {f g : ℕ} → Reaches P f g → f ≤ count P
 reaches-low P (direct {f = f} {g = g} c) = from-body P f g c
 reaches-low P (onward {f = f} {h = h} c r) = from-body P f h c
-
-reaches-named : (P : Program) → Named P → {f g : ℕ} → Reaches P f g → g ≤ count P
-reaches-named P N (direct {f = f} {g = g} c) = N f g c .1
-reaches-named P N (onward c r) = reaches-named P N r
 
 -- a test over bodies that is the same for each
 any-same : (bad worse : ℕ → Bool) (k : ℕ) → ((f : ℕ) → f < k → bad f ≡ worse f) → anyBody bad k ≡ anyBody worse k
@@ -50,7 +46,7 @@ module _ (p : ℕ) (bs ix : List ℕ) (l : p ≤ 16) where
   outside f g far = sym (not-true-false (reaches P f g) (λ r.
     let path = reach-sound P f g r in
     let low : f ≤ p = rw (count-at p bs ix) at (reaches-low P path) in
-    let right : g ≤ p = rw (count-at p bs ix) at (reaches-named P (named p bs ix) path) in
+    let right : g ≤ p = rw (count-at p bs ix) at (reached-named P (named p bs ix) path .1) in
     far (le-trans low l) (le-trans right l)))
 
   -- its entry of row f and column g says whether f reaches g

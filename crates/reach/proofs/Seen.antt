@@ -1,8 +1,9 @@
 -- What the step of a record says of the statement at that record.
-use mathlib.Core.Path.{_≡_}
+use mathlib.Core.Path.{_≡_, refl}
 use mathlib.Core.Bool.{true, false}
 use mathlib.Core.List.{List, []}
-use Prim.Native.Nat.{ℕ, suc, _+_}
+use Prim.Native.Nat.{ℕ, zero, suc, _+_, _-_}
+use native.Mathlib.Numerals.{sub-one}
 use Rattle.model.specs.Syntax.{Number, Condition, Statement, skip, NOT, sequence, if, qcase, call}
 use Rattle.records.specs.declared.Record.{Record}
 use Rattle.records.specs.declared.Record.the-variants as kind
@@ -46,3 +47,8 @@ pub seen : (p : ℕ) (bs ix : List ℕ) (depth i : ℕ) → Seen (statementAt p 
 unfolding statementAt
 seen p bs ix d i =
     seen-of (testAt p bs ix d) (statementAt p bs ix d) bs ix i (statement-next p bs ix d i) (behind-next ix i) (recordAt p bs (startOf ix i))
+
+pub seen-here : (p : ℕ) (bs ix : List ℕ) (depth i : ℕ) → (depth ≡ 0 → ⊥) → (x : Parts) → x ≡ partsAt p bs ix i →
+    Seen (statementAt p bs ix (depth - 1)) bs x (statementAt p bs ix depth i)
+seen-here p bs ix zero i deep x e = absurd (deep refl)
+seen-here p bs ix (suc d) i deep x e = rw (e, sub-one) (seen p bs ix d i)

@@ -1,20 +1,20 @@
 -- The ways out of the functions that walk a statement, and of the loops over bodies.
 use mathlib.Core.Path.{_≡_, refl, sym, ap, _∙_}
-use mathlib.Core.Bool.{Bool, true, false, not, _&&_, _||_, and-true, and-false}
-use mathlib.Core.List.{List, []}
+use mathlib.Core.Bool.{Bool, true, false, _&&_, _||_, and-true, and-false}
+use mathlib.Core.List.{List, [], _∷_}
 use Prim.Native.Nat.{ℕ, zero, suc, _+_, _-_, _≤_, _<_, min, max}
 use native.Mathlib.Nat.{not-suc-le-zero}
-use native.Mathlib.Numerals.{add-one, sub-one}
+use native.Mathlib.Numerals.{add-one}
 use native.Mathlib.Omega.{arith}
 use borrow.Author.Needs.{needs}
-use borrow.Author.Tests.{lt-ltb, le-ltb, not-true, not-false}
-use lib.ListN.{length, getD, List·getD-eq-default}
+use borrow.Author.Tests.{lt-ltb, le-ltb}
+use lib.ListN.{length}
 use lib.Dec.{ltb}
 use Rattle.model.specs.Meaning.{digit}
-use Rattle.model.specs.Syntax.{Statement}
+use Rattle.model.specs.Syntax.{Number, Statement}
 use Rattle.model.specs.Reach.{isEmpty, lacksRemoval, width, anyBody}
 use Rattle.model.proofs.Tests.{byEq, byLt, or-left, or-right, or-false}
-use Rattle.records.specs.Fields.{numbersFrom, removalsOf}
+use Rattle.records.specs.Fields.{byteAt, numbersFrom, removalsOf}
 use Rattle.table.specs.Index.{rootOf, statementAt, bodyAt}
 use Rattle.step.specs.declared.Step.{Step}
 use Rattle.step.specs.Steps.{stepAt}
@@ -24,24 +24,33 @@ use Rattle.reach.specs.Matrix.{recursiveIn, mark, closed, noMarks}
 use Rattle.reach.specs.Walk.{partsOf, partsAt, marked, markedBelow, reachAt, lacksIn, wideIn}
 use Rattle.reach.proofs.Ways.{left-never}
 use Rattle.reach.proofs.Marks.{filled-reach}
-use Rattle.reach.proofs.Seen.{Seen, as-skip, as-not, as-sequence, as-if, as-qcase, as-call, seen}
+use Rattle.reach.proofs.Seen.{Seen, as-skip, as-not, as-sequence, as-if, as-qcase, as-call, seen-here}
 
--- removals: a count byte, at a place that is not 0
-pub place-none : (bs : List ℕ) (at : ℕ) → at ≡ 0 → false ≡ not (isEmpty (removalsOf bs at))
-unfolding removalsOf isEmpty
-place-none bs at e = rw e
+-- as many removals stand at a place as the byte there says; place 0 has none
+pub count-none : (bs : List ℕ) (at : ℕ) → at ≡ 0 → 0 ≡ length (removalsOf bs at)
+unfolding removalsOf
+count-none bs at e = rw e
 
-counted : (bs : List ℕ) (at n : ℕ) → (at ≡ 0 → ⊥) → getD bs at 0 ≡ n → ltb 0 n ≡ not (isEmpty (removalsOf bs at))
-unfolding removalsOf isEmpty numbersFrom
-counted bs zero n h e = absurd (h refl)
-counted bs (suc at) zero h e = rw e
-counted bs (suc at) (suc n) h e = rw e (lt-ltb 0 (suc n) (omega arith))
+numbers-length : (n : ℕ) (bs : List ℕ) (at : ℕ) → length (numbersFrom n bs at) ≡ n
+unfolding numbersFrom
+numbers-length zero bs at = refl
+numbers-length (suc n) bs at = ap suc (numbers-length n bs (at + 3))
 
-pub count-there : (bs : List ℕ) (at : ℕ) → (at ≡ 0 → ⊥) → ltb 0 (getD bs at 0) ≡ not (isEmpty (removalsOf bs at))
-count-there bs at h = counted bs at (getD bs at 0) h refl
+pub count-there : (bs : List ℕ) (at n : ℕ) → (at ≡ 0 → ⊥) → n ≡ byteAt bs at → n ≡ length (removalsOf bs at)
+unfolding removalsOf
+count-there bs zero n some e = absurd (some refl)
+count-there bs (suc at) n some e = e ∙ sym (numbers-length (byteAt bs (suc at)) bs (suc (suc at)))
 
-pub count-past : (bs : List ℕ) (at : ℕ) → (at ≡ 0 → ⊥) → length bs ≤ at → false ≡ not (isEmpty (removalsOf bs at))
-count-past bs at h l = counted bs at 0 h (List·getD-eq-default bs 0 l)
+-- a call carries a removal where their number is not 0
+bare : (rs : List Number) → length rs ≤ 0 → isEmpty rs ≡ true
+unfolding isEmpty
+bare [] h = refl
+bare (a ∷ rs) h = absurd (not-suc-le-zero h)
+
+carries : (rs : List Number) → 0 < length rs → isEmpty rs ≡ false
+unfolding isEmpty
+carries [] h = absurd (not-suc-le-zero h)
+carries (a ∷ rs) h = refl
 
 -- what a statement's parts do for each walk
 marksBy : ℕ → (ℕ → Statement) → Parts → List ℕ → List ℕ
@@ -107,12 +116,8 @@ module _ (p : ℕ) (bs ix : List ℕ) (depth i : ℕ) where
   part = statementAt p bs ix (depth - 1)
 
   module _ (d : depth ≡ 0 → ⊥) (x : Parts) (e : x ≡ partsAt p bs ix i) where
-    deeper : (n : ℕ) → n ≡ depth → (n ≡ 0 → ⊥) → Seen (statementAt p bs ix (n - 1)) bs (partsAt p bs ix i) (statementAt p bs ix n i)
-    deeper zero q h = absurd (h refl)
-    deeper (suc n) q h = rw sub-one (seen p bs ix n i)
-
     here : Seen part bs x (statementAt p bs ix depth i)
-    here = rw e (deeper depth refl d)
+    here = seen-here p bs ix depth i d x e
 
     -- marks
     module _ (f : ℕ) (m : List ℕ) where
@@ -151,18 +156,15 @@ module _ (p : ℕ) (bs ix : List ℕ) (depth i : ℕ) where
         unfolding lacksBy
         lacks-second second y h = lacks-are second (parts.Two a b t) q (rw (← g, y) h)
 
-      module _ (g at : ℕ) (q : x ≡ parts.Call g at) (has : Bool) (h : has ≡ not (isEmpty (removalsOf bs at))) where
-        pub lacks-call-carries : has ≡ true → false ≡ lacksRemoval r (statementAt p bs ix depth i)
+      module _ (g at : ℕ) (q : x ≡ parts.Call g at) (n : ℕ) (h : n ≡ length (removalsOf bs at)) where
+        pub lacks-call-carries : 0 < n → false ≡ lacksRemoval r (statementAt p bs ix depth i)
         unfolding lacksBy
-        lacks-call-carries y =
-          let full : isEmpty (removalsOf bs at) ≡ false = not-true (isEmpty (removalsOf bs at)) (sym h ∙ y) in
-          lacks-are false (parts.Call g at) q (rw full (sym (and-false (r g))))
+        lacks-call-carries some =
+          lacks-are false (parts.Call g at) q (rw (carries (removalsOf bs at) (omega arith)) (sym (and-false (r g))))
 
-        pub lacks-call-bare : (n : Bool) → has ≡ false → n ≡ r g → n ≡ lacksRemoval r (statementAt p bs ix depth i)
+        pub lacks-call-bare : (b : Bool) → n ≤ 0 → b ≡ r g → b ≡ lacksRemoval r (statementAt p bs ix depth i)
         unfolding lacksBy
-        lacks-call-bare n y k =
-          let bare : isEmpty (removalsOf bs at) ≡ true = not-false (isEmpty (removalsOf bs at)) (sym h ∙ y) in
-          lacks-are n (parts.Call g at) q (rw bare (k ∙ sym (and-true (r g))))
+        lacks-call-bare b none k = lacks-are b (parts.Call g at) q (rw (bare (removalsOf bs at) (omega arith)) (k ∙ sym (and-true (r g))))
 
     -- width, of which more than 2 is no more than 2
     module _ (r : ℕ → Bool) where
@@ -265,7 +267,7 @@ module _ (p : ℕ) (bs ix : List ℕ) where
   unfolding reachAt
   fill-closed m n l e q = rw (le-ltb 16 p l) (q ∙ ap (closed (suc p)) e ∙ filled-reach p bs ix l)
 
-pub ruleset removing = (needs, place-none, count-there, count-past)
+pub ruleset removing = (needs, count-none, count-there)
 pub ruleset marking = (needs, marks-spent, marks-none, marks-two, marks-call)
 pub ruleset lacking = (needs, lacks-spent, lacks-none, lacks-first, lacks-second, lacks-call-carries, lacks-call-bare)
 pub ruleset widening = (needs, width-spent, width-none, width-turn, width-one, width-call)

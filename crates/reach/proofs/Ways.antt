@@ -3,13 +3,13 @@ use mathlib.Core.Path.{_≡_, refl}
 use mathlib.Core.Bool.{Bool, true, false}
 use mathlib.Core.List.{List}
 use Prim.Native.Nat.{ℕ, suc, _+_, _≤_, _<_}
-use native.Mathlib.Nat.{lt-irrefl, lt-of-lt-of-le}
 use native.Mathlib.Numerals.{add-one}
 use native.Mathlib.Omega.{arith}
 use borrow.Author.Needs.{needs}
 use borrow.Author.Tests.{lt-ltb, le-ltb}
 use lib.ListN.{getD, set}
 use lib.Dec.{eqb}
+use Rattle.model.proofs.Tests.{not-below}
 use Rattle.reach.specs.Matrix.{cell, markAt, entry, mark, carried, joined, extended, through, closed}
 
 -- a mark is looked for within the matrix only
@@ -118,7 +118,7 @@ close-start m = refl
 
 -- a loop up to p is left behind its last turn only
 pub left-never : {A : Type 0} (x y : A) (v p : ℕ) → v ≤ p → p < v → x ≡ y
-left-never x y v p l h = absurd (lt-irrefl p (lt-of-lt-of-le h l))
+left-never x y v p l h = not-below p v l h
 
 pub ruleset rows = (
     needs, join-more, join-end, join-start, extend-yes, extend-not, through-more, through-end, through-start, close-more, close-last, close-start,

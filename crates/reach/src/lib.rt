@@ -1,14 +1,15 @@
 // Which procedure reaches which, and refusals 10 and 11: a recursive call without removal, width over 1.
 ghost use mathlib.Core.Path.{_≡_};
 ghost use Prim.Native.Nat.{_+_, suc, min, max};
-ghost use mathlib.Core.Bool.{not};
+ghost use lib.ListN.{length};
 ghost use Rattle.model.specs.Meaning.{digit};
 ghost use Rattle.model.specs.Reach as model;
-ghost use Rattle.model.specs.Reach.{isEmpty, lacksRemoval};
+ghost use Rattle.model.specs.Reach.{lacksRemoval};
 ghost use Rattle.records.specs.Fields.{removalsOf};
 ghost use Rattle.table.specs.Index.{rootOf, statementAt, bodyAt};
 ghost use Rattle.reach.specs.Matrix.{cell, markAt, entry, recursiveIn, mark, carried, joined, extended, through, closed};
 ghost use Rattle.reach.specs.Walk.{partsOf, partsAt, marked, markedBelow, reachAt, lacksIn, wideIn, anyLacksIn, anyWideIn};
+use records::byte;
 use step::{Qubits, Step, start, step_at};
 
 // "p, the number of procedures, 0 to 16"
@@ -143,7 +144,7 @@ fn parts_of(found: Step) -> Parts
 }
 
 // What record i is for calls, whatever the list.
-fn parts_at(table: &[u8], index: &[u16], p: u8, i: usize) -> Parts
+pub fn parts_at(table: &[u8], index: &[u16], p: u8, i: usize) -> Parts
     ensures { λ r. ⌜ r ≡ partsAt p (now (table .entry)) (now (index .entry)) i ⌝ }
 {
     let none = Qubits { at: [0; 32], len: 0 };
@@ -157,17 +158,11 @@ pub fn root(index: &[u16], f: u8) -> usize
     start(index, 512 + f as usize)
 }
 
-// Do removals stand at a place? Place 0 has none.
-pub fn has_removals(table: &[u8], at: usize) -> bool
-    ensures { λ r. ⌜ r ≡ not (isEmpty (removalsOf (now (table .entry)) at)) ⌝ }
+// How many removals stand at a place? Place 0 has none.
+pub fn removal_count(table: &[u8], at: usize) -> u8
+    ensures { λ r. ⌜ r ≡ length (removalsOf (now (table .entry)) at) ⌝ }
 {
-    if at == 0 {
-        return false;
-    }
-    if table.len() <= at {
-        return false;
-    }
-    0 < table[at]
+    if at == 0 { 0 } else { byte(table, at) }
 }
 
 // Row f is marked for every call in the statement at record i, of at most `depth` records from its root down.
@@ -233,7 +228,7 @@ pub fn lacks_removal(table: &[u8], index: &[u16], p: u8, i: usize, depth: u8, f:
             lacks_removal(table, index, p, b, depth - 1, f, matrix)
         }
         Parts::Call(g, at) => {
-            if has_removals(table, at) {
+            if 0 < removal_count(table, at) {
                 return false;
             }
             recursive(matrix, f, g)

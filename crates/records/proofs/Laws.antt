@@ -24,8 +24,13 @@ use Rattle.records.specs.declared.Record.{Record}
 use Rattle.records.specs.declared.Record.the-variants as kind
 use Rattle.records.specs.declared.Answer.{Answer}
 use Rattle.records.specs.declared.Answer.the-variants as answer
-use Rattle.records.specs.Fields.{byteAt, writtenAt, behindPlace, behindNumber, behindProcedure, based, numberAt, numbersAt, removalsAt, maybeRemovalsAt}
+use Rattle.records.specs.Fields.{pick, byteAt, writtenAt, behindPlace, behindNumber, behindProcedure, based, numberAt, numbersAt, removalsAt, maybeRemovalsAt}
 use Rattle.records.specs.Fields.{placeOf, behindRemovals, plain, touching, comparing, calling, withNumber, withNumbers, withProcedure, fieldsAt, recordOf, recordAt}
+
+-- a conjunction as the code takes it, test by test
+pub and-pick : (a b : Bool) → a && b ≡ pick a b false
+and-pick true b = refl
+and-pick false b = refl
 
 -- which variant an answer is: 0 a place, 1 a number, 2 a procedure, 3 a record, 4 a refusal
 abbrev pub Among : List ℕ → Answer → Type 0

@@ -4,7 +4,6 @@ use native.Mathlib.Omega.{arith}
 use mathlib.Core.Bool.{Bool, true, false}
 use mathlib.Core.List.{List}
 use borrow.Author.Tests.{lt-ltb, le-ltb, eq-eqb, ne-eqb}
-use lib.ListN.{getD}
 use lib.Dec.{eqb}
 use Rattle.model.specs.Reading.{requiredMap}
 use Rattle.model.proofs.Tests.{byEq, byLt}

@@ -1,7 +1,7 @@
 // The records of a table, one at a time: read with refusals 1 and 6, and taken as they are written from a table that has been read.
 ghost use mathlib.Core.Path.{_≡_};
 ghost use Prim.Native.Nat.{_+_, _≤_};
-ghost use lib.ListN.{length, getD};
+ghost use lib.ListN.{length};
 ghost use Rattle.model.specs.Reading.{signed16, requiredMap, stands};
 ghost use Rattle.model.specs.Reading as model;
 ghost use Rattle.records.specs.Fields.{byteAt, writtenAt, numberAt, numbersAt, removalsAt, maybeRemovalsAt, placeOf, behindRemovals, procedureAt};
@@ -49,23 +49,11 @@ pub enum Answer {
     Refused(u8),
 }
 
-fn wide(x: u8) -> u32
-    ensures { λ r. ⌜ r ≡ x ⌝ }
-{
-    x as u32
-}
-
-fn index(x: u8) -> usize
-    ensures { λ r. ⌜ r ≡ x ⌝ }
-{
-    x as usize
-}
-
 // "a signed 16-bit constant, little-endian"
 fn signed(low: u8, high: u8) -> i32
     ensures { λ r. ⌜ r ≡ signed16 low high ⌝ }
 {
-    let bits = wide(low) + 256 * wide(high);
+    let bits = low as u32 + 256 * (high as u32);
     if bits < 32768 {
         bits as i32
     } else {
@@ -74,7 +62,7 @@ fn signed(low: u8, high: u8) -> i32
 }
 
 // The byte at a place, 0 past the end.
-fn byte(table: &[u8], at: usize) -> u8
+pub fn byte(table: &[u8], at: usize) -> u8
     ensures { λ r. ⌜ r ≡ byteAt (now (table .entry)) at ⌝ }
 {
     if at < table.len() { table[at] } else { 0 }
@@ -280,7 +268,7 @@ fn with_procedure(table: &[u8], at: usize, removes: bool, p: u8) -> Answer
 fn required(kind: u8) -> u8
     ensures { λ r. ⌜ r ≡ requiredMap kind ⌝ }
 {
-    let i = index(kind);
+    let i = kind as usize;
     if i < 12 { MAPS[i] % 16 } else { 0 }
 }
 
@@ -300,7 +288,7 @@ pub fn read_fields(table: &[u8], at: usize, kind: u8, removes: bool, p: u8) -> A
 pub fn permitted(kind: u8, map: u8) -> bool
     ensures { λ r. ⌜ r ≡ model.permitted kind map ⌝ }
 {
-    let i = index(kind);
+    let i = kind as usize;
     if 12 <= i {
         return map == 0;
     }
@@ -323,7 +311,7 @@ fn behind_removals(table: &[u8], at: usize, removes: bool) -> usize
     requires { ⌜ at ≤ length (now table) + 1 ⌝ }
     ensures { λ r. ⌜ r ≡ behindRemovals removes (now (table .entry)) at ⌝ }
 {
-    if removes { at + 1 + 3 * index(byte(table, at)) } else { at }
+    if removes { at + 1 + 3 * byte(table, at) as usize } else { at }
 }
 
 // The record whose map and kind stand at a place of a table that has been read. It is taken as it is written: the reader's tests are not made again.

@@ -1,5 +1,5 @@
 -- The ways out of `run`: what it has learnt when it answers, and that the answer is document 01's.
-use mathlib.Core.Path.{_≡_, refl, sym, _∙_}
+use mathlib.Core.Path.{_≡_, sym, _∙_}
 use mathlib.Core.Bool.{Bool, true, false}
 use mathlib.Core.List.{List}
 use Prim.Native.Nat.{ℕ, _^_, _≤_, _<_, min}
@@ -9,14 +9,12 @@ use borrow.Author.Tests.{ltb-true, le-leb, lt-leb, not-true, not-false}
 use lib.Dec.{ltb}
 use Rattle.model.specs.Limits.{mostQubits}
 use Rattle.model.specs.Syntax.{Program}
-use Rattle.model.specs.Meaning.{endWord}
-use Rattle.model.specs.Answers.{Outcome, gives, refuses, after, require, accepted, run}
+use Rattle.model.specs.Answers.{gives, after, require, accepted, run}
 use Rattle.agreement.proofs.Promise.{Accepted, accepted-is}
 use Rattle.table.specs.Index.{programAt}
 use Rattle.verdict.specs.declared.Judged.{Judged}
 use Rattle.verdict.specs.Judging.{judgedAs}
 use Rattle.verdict.proofs.Ways.{refused-judged, accepted-judged}
-use Rattle.run.specs.declared.Answer.{Answer}
 use Rattle.run.specs.Words.{ranWord}
 use Rattle.run.specs.Answers.{answerOf}
 use Rattle.run.proofs.Following.{ran-min}

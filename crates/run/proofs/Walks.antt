@@ -1,29 +1,28 @@
 -- The ways out of the code: one law for each, from what its callees ensure to what the word becomes.
-use mathlib.Core.Path.{_≡_, refl, sym, ap, _∙_, subst}
+use mathlib.Core.Path.{_≡_, refl, sym, ap, _∙_}
 use mathlib.Core.Bool.{Bool, true, false}
-use mathlib.Core.List.{List, [], _∷_, map}
+use mathlib.Core.List.{List, [], _∷_}
 use Prim.Native.Nat.{ℕ, zero, suc, _+_, _-_, _*_, _/_, _%_, _^_, _≤_, _<_}
-use native.Mathlib.Nat.{not-suc-le-zero}
 use native.Mathlib.Omega.{arith}
 use borrow.Author.Needs.{needs}
 use borrow.Author.Tests.{lt-ltb}
 use lib.Bits.{bitAnd, bitXor}
 use lib.Dec.{eqb}
-use lib.ListN.{length, getD, length-map}
+use lib.ListN.{length}
 use Rattle.model.specs.Limits.{mostQubits, mostDepth}
-use Rattle.model.specs.Syntax.{skip, count, body}
-use Rattle.model.specs.Lists.{range, qubits, remaining, holds}
+use Rattle.model.specs.Syntax.{skip}
+use Rattle.model.specs.Lists.{qubits, remaining, holds}
 use Rattle.model.specs.Meaning.{stateOf}
 use Rattle.model.proofs.Calls.{body-out}
 use Rattle.model.proofs.ListLaws.{range-length}
-use Rattle.records.specs.Fields.{removalsOf}
-use Rattle.table.specs.Index.{rootOf, testAt, statementAt, bodyAt, programAt}
+use Rattle.records.specs.Fields.{pick, removalsOf}
+use Rattle.table.specs.Index.{rootOf, testAt, statementAt, programAt}
 use Rattle.step.specs.declared.Step.{Step}
 use Rattle.step.specs.declared.Step.the-variants as step
 use Rattle.step.specs.Steps.{stepAt}
 use Rattle.step.proofs.Places.{less-one}
-use Rattle.step.proofs.Saying.{Says}
-use Rattle.step.proofs.Says.{says}
+use Rattle.step.proofs.Says.{at-step, spent-skip}
+use Rattle.step.proofs.Choosing.{chosen-means}
 use Rattle.run.specs.Words.{bitFlipped, flippedWord, bitOf, callWords, wordDoes, callWordsWithin, ranWord, walked, called}
 use Rattle.model.proofs.Words.{tested, shifted}
 use Rattle.reach.proofs.Marks.{count-at, body-at}
@@ -64,60 +63,50 @@ bit-bit (suc k) word some h = rw (qubit-is (suc k) h, less-one k) (tested word k
 
 -- too deep is nothing
 pub walk-spent : (p : ℕ) (bs ix : List ℕ) (depth i : ℕ) (l : List ℕ) (fuel word : ℕ) → depth ≡ 0 → word ≡ walked p bs ix depth i l fuel word
-unfolding statementAt wordDoes
-walk-spent p bs ix depth i l fuel word e = rw e
+unfolding wordDoes
+walk-spent p bs ix depth i l fuel word e = rw (spent-skip p bs ix depth i e)
 
 module _ (p : ℕ) (bs ix : List ℕ) (depth i : ℕ) (l : List ℕ) (fuel word : ℕ) (st : Step)
     (deep : depth ≡ 0 → ⊥) (steps : st ≡ stepAt p bs ix i l) where
-  -- the statement, by the step taken
-  taken : (t : Step) → st ≡ t → Says (testAt p bs ix (depth - 1)) (statementAt p bs ix (depth - 1)) bs l t (statementAt p bs ix depth i)
-  taken t e = subst (λ (x : Step). Says (testAt p bs ix (depth - 1)) (statementAt p bs ix (depth - 1)) bs l x (statementAt p bs ix depth i)) e
-    (says p bs ix depth i l st deep steps)
-
   -- skip gives its word back
   skipped : statementAt p bs ix depth i ≡ skip → word ≡ walked p bs ix depth i l fuel word
   unfolding wordDoes
   skipped e = rw e
 
   pub walk-nothing : st ≡ step.Nothing → word ≡ walked p bs ix depth i l fuel word
-  walk-nothing e = skipped (taken step.Nothing e)
+  walk-nothing e = skipped (at-step p bs ix depth i l deep steps e)
 
   -- NOT flips the bit of the qubit that it touches
   pub walk-touches : (q r : ℕ) → st ≡ step.Touches q → r ≡ flippedWord q word → r ≡ walked p bs ix depth i l fuel word
   unfolding wordDoes
-  walk-touches q r e h = let t = taken (step.Touches q) e in rw (t .2) (h ∙ ap (λ (x : ℕ). flippedWord x word) (t .3))
+  walk-touches q r e h = let t = at-step p bs ix depth i l deep steps e in rw (t .2) (h ∙ ap (λ (x : ℕ). flippedWord x word) (t .3))
 
   -- a sequence hands the first statement's word to the second
   pub walk-sequence : (a b middle r : ℕ) → st ≡ step.Sequence a b → middle ≡ walked p bs ix (depth - 1) a l fuel word →
       r ≡ walked p bs ix (depth - 1) b l fuel middle → r ≡ walked p bs ix depth i l fuel word
   unfolding wordDoes
-  walk-sequence a b middle r e first second = rw (taken (step.Sequence a b) e)
+  walk-sequence a b middle r e first second = rw (at-step p bs ix depth i l deep steps e)
     (second ∙ ap (λ (x : ℕ). walked p bs ix (depth - 1) b l fuel x) first)
 
-  module _ (c a b : ℕ) (t : Bool) (r : ℕ) (e : st ≡ step.Chooses c a b) (test : t ≡ holds (testAt p bs ix (depth - 1) c) (length l)) where
-    -- if goes on as yes where its condition holds
-    pub walk-yes : t ≡ true → r ≡ walked p bs ix (depth - 1) a l fuel word → r ≡ walked p bs ix depth i l fuel word
-    walk-yes y h = rw (taken (step.Chooses c a b) e)
-      (h ∙ sym (word-yes (callWordsWithin (programAt p bs ix) fuel) (testAt p bs ix (depth - 1) c)
-        (statementAt p bs ix (depth - 1) a) (statementAt p bs ix (depth - 1) b) l word (sym test ∙ y)))
-
-    -- otherwise as no
-    pub walk-no : t ≡ false → r ≡ walked p bs ix (depth - 1) b l fuel word → r ≡ walked p bs ix depth i l fuel word
-    walk-no y h = rw (taken (step.Chooses c a b) e)
-      (h ∙ sym (word-no (callWordsWithin (programAt p bs ix) fuel) (testAt p bs ix (depth - 1) c)
-        (statementAt p bs ix (depth - 1) a) (statementAt p bs ix (depth - 1) b) l word (sym test ∙ y)))
+  -- if goes on as the statement that is chosen
+  pub walk-chosen : (c a b x r : ℕ) → st ≡ step.Chooses c a b → x ≡ pick (holds (testAt p bs ix (depth - 1) c) (length l)) a b →
+      r ≡ walked p bs ix (depth - 1) x l fuel word → r ≡ walked p bs ix depth i l fuel word
+  walk-chosen c a b x r e q h =
+    let calls = callWordsWithin (programAt p bs ix) fuel in
+    h ∙ sym (chosen-means (λ s. wordDoes calls s l word) l (λ c s t. word-yes calls c s t l word) (λ c s t. word-no calls c s t l word)
+      p bs ix depth i deep steps e q)
 
   module _ (q a b : ℕ) (t : Bool) (r : ℕ) (e : st ≡ step.Branches q a b) (reads : t ≡ bitOf q word) where
     -- qcase goes on as zero where it reads 0
     pub walk-zero : t ≡ false → r ≡ walked p bs ix (depth - 1) a l fuel word → r ≡ walked p bs ix depth i l fuel word
-    walk-zero y h = let s = taken (step.Branches q a b) e in rw (s .2)
+    walk-zero y h = let s = at-step p bs ix depth i l deep steps e in rw (s .2)
       (h ∙ sym (word-zero (callWordsWithin (programAt p bs ix) fuel) (s .0) (s .1)
         (statementAt p bs ix (depth - 1) a) (statementAt p bs ix (depth - 1) b) l word
         (ap (λ (x : ℕ). bitOf x word) (sym (s .3)) ∙ sym reads ∙ y)))
 
     -- as one where it reads 1
     pub walk-one : t ≡ true → r ≡ walked p bs ix (depth - 1) b l fuel word → r ≡ walked p bs ix depth i l fuel word
-    walk-one y h = let s = taken (step.Branches q a b) e in rw (s .2)
+    walk-one y h = let s = at-step p bs ix depth i l deep steps e in rw (s .2)
       (h ∙ sym (word-one (callWordsWithin (programAt p bs ix) fuel) (s .0) (s .1)
         (statementAt p bs ix (depth - 1) a) (statementAt p bs ix (depth - 1) b) l word
         (ap (λ (x : ℕ). bitOf x word) (sym (s .3)) ∙ sym reads ∙ y)))
@@ -126,20 +115,20 @@ module _ (p : ℕ) (bs ix : List ℕ) (depth i : ℕ) (l : List ℕ) (fuel word 
   pub walk-calls : (f at r : ℕ) (rest : List ℕ) → st ≡ step.Calls f at → rest ≡ remaining (removalsOf bs at) l →
       r ≡ called p bs ix f rest fuel word → r ≡ walked p bs ix depth i l fuel word
   unfolding wordDoes
-  walk-calls f at r rest e left h = rw (taken (step.Calls f at) e, ← left) h
+  walk-calls f at r rest e left h = rw (at-step p bs ix depth i l deep steps e, ← left) h
 
   -- a condition where a statement is asked for is skip: a comparison, and, or, not
   pub walk-holds : (b : Bool) → st ≡ step.Holds b → word ≡ walked p bs ix depth i l fuel word
-  walk-holds b e = skipped (taken (step.Holds b) e)
+  walk-holds b e = skipped (at-step p bs ix depth i l deep steps e)
 
   pub walk-both : (a b : ℕ) → st ≡ step.Both a b → word ≡ walked p bs ix depth i l fuel word
-  walk-both a b e = skipped (taken (step.Both a b) e)
+  walk-both a b e = skipped (at-step p bs ix depth i l deep steps e)
 
   pub walk-either : (a b : ℕ) → st ≡ step.Either a b → word ≡ walked p bs ix depth i l fuel word
-  walk-either a b e = skipped (taken (step.Either a b) e)
+  walk-either a b e = skipped (at-step p bs ix depth i l deep steps e)
 
   pub walk-negates : (a : ℕ) → st ≡ step.Negates a → word ≡ walked p bs ix depth i l fuel word
-  walk-negates a e = skipped (taken (step.Negates a) e)
+  walk-negates a e = skipped (at-step p bs ix depth i l deep steps e)
 
 -- ---- call
 
@@ -182,7 +171,7 @@ module _ (p : ℕ) (bs ix : List ℕ) where
     rw (count-at p bs ix) (rw (root, all, len) at h)
 
 pub ruleset walking = (
-    needs, walk-spent, walk-nothing, walk-touches, walk-sequence, walk-yes, walk-no, walk-zero, walk-one, walk-calls,
+    needs, walk-spent, walk-nothing, walk-touches, walk-sequence, walk-chosen, walk-zero, walk-one, walk-calls,
     walk-holds, walk-both, walk-either, walk-negates)
 
 pub ruleset calling = (needs, call-empty, call-spent, call-past, call-body)

@@ -1,13 +1,13 @@
 // The run of a word: one walk through the table, along the one path that the word takes.
 ghost use mathlib.Core.Path.{_≡_};
 ghost use Prim.Native.Nat.{min};
-ghost use Rattle.table.specs.Index.{rootOf, programAt};
+ghost use Rattle.table.specs.Index.{programAt};
 ghost use Rattle.step.specs.Steps.{qubitsOf};
 ghost use Rattle.run.specs.Words.{flippedWord, bitOf, walked, called, ranWord};
 ghost use Rattle.run.specs.Answers.{answerOf};
 ghost use Rattle.model.specs.Answers as model;
 use reach::root;
-use step::{all, holds, remaining, size, step_at, Qubits, Step};
+use step::{all, chosen, remaining, size, step_at, Qubits, Step};
 use verdict::judge;
 use wires::fits;
 
@@ -56,10 +56,8 @@ fn walk(table: &[u8], index: &[u16], p: u8, i: usize, depth: u8, list: Qubits, f
             walk(table, index, p, second, depth - 1, list, fuel, middle)
         }
         Step::Chooses(condition, yes, no) => {
-            if holds(table, index, p, condition, list, depth - 1) {
-                return walk(table, index, p, yes, depth - 1, list, fuel, word);
-            }
-            walk(table, index, p, no, depth - 1, list, fuel, word)
+            let part = chosen(table, index, p, condition, yes, no, list, depth - 1);
+            walk(table, index, p, part, depth - 1, list, fuel, word)
         }
         Step::Branches(q, zero, one) => {
             if bit(word, q) {

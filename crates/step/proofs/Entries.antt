@@ -14,7 +14,7 @@ use mir.Val.{SFits, toZ, ofZ}
 use mir.Facts.{toZ-ofZ}
 use Rattle.model.specs.Lists.{range, qubits, position, entry, delete, remove}
 use Rattle.model.proofs.Tests.{byLt}
-use Rattle.model.proofs.ListLaws.{remove-in, remove-out}
+use Rattle.model.proofs.ListLaws.{remove-in, remove-out, take-again}
 use Rattle.step.specs.Steps.{within}
 use Rattle.step.proofs.Places.{less-one}
 
@@ -86,12 +86,6 @@ remove-inside : (i : ℕ) (l : List ℕ) → i ≤ length l → (i ≡ 0 → ⊥
 remove-inside zero l h z = absurd (z refl)
 remove-inside (suc i) l h z = rw (less-one i) (remove-in i l (lt-ltb i (length l) h))
 
--- as many as were taken are the same
-pub take-self : (n : ℕ) (l : List ℕ) → take (length (take n l)) l ≡ take n l
-take-self zero l = refl
-take-self (suc n) [] = refl
-take-self (suc n) (x ∷ l) = ap (_∷_ x) (take-self n l)
-
 -- a removal is a shift of what stands behind it
 delete-split : (i : ℕ) (l : List ℕ) → delete i l ≡ take i l ++ drop (suc i) l
 unfolding delete
@@ -154,5 +148,5 @@ module _ (m : ℕ) (l : List ℕ) (k : ℤ) (n i : ℕ) (f : SFits w32 k) (size 
 
   -- at any other it takes that entry
   pub remove-some : (i ≡ 0 → ⊥) → delete (i - 1) (take n l) ≡ remove (position k) (take m l)
-  remove-some z = rw (remove-within (take m l) k, ← placed, size, take-self m l)
+  remove-some z = rw (remove-within (take m l) k, ← placed, size, take-again m l)
     (sym (remove-inside i (take m l) (rw placed (within-le (length (take m l)) k)) z))

@@ -8,3 +8,4 @@ pub mod Alike
 pub mod Testing
 pub mod Saying
 pub mod Says
+pub mod Choosing

@@ -13,7 +13,7 @@ use mir.Val.{SFits, toZ, ofZ}
 use mir.Facts.{toZ-ofZ}
 use Rattle.model.specs.Lists.{value, position, entry, remove, removeAll, remaining}
 use Rattle.model.proofs.Tests.{byLt}
-use Rattle.model.proofs.ListLaws.{remaining-no-longer}
+use Rattle.model.proofs.ListLaws.{remaining-no-longer, take-again}
 use Rattle.records.specs.declared.Number.{Number}
 use Rattle.records.specs.declared.Number.the-variants.{Constant, SizePlus}
 use Rattle.records.specs.Fields.{byteAt, writtenAt, numberOf, numbersFrom, removalsOf}
@@ -21,7 +21,7 @@ use Rattle.step.specs.declared.Qubits.{Qubits}
 use Rattle.step.specs.Steps.{qubitsOf, valueOf, touchedBy}
 use Rattle.records.proofs.Laws.{past-end}
 use Rattle.step.proofs.Places.{less-one}
-use Rattle.step.proofs.Entries.{take-shorter, take-self}
+use Rattle.step.proofs.Entries.{take-shorter}
 use Rattle.step.proofs.Constants.{written-fair}
 
 -- at place 0 there are no removals
@@ -44,7 +44,7 @@ whole-is bs (suc at) l h = rw (add-one (suc at))
 
 pub remaining-whole : (bs : List ℕ) (at n : ℕ) (q : Qubits) → n ≡ length (qubitsOf q) → (at ≡ 0 → ⊥)
     → removeAll n (numbersFrom (byteAt bs at) bs (at + 1)) (take n (q .at)) ≡ remaining (removalsOf bs at) (qubitsOf q)
-remaining-whole bs at n q e h = rw (e, take-self (q .len) (q .at)) (whole-is bs at (qubitsOf q) h)
+remaining-whole bs at n q e h = rw (e, take-again (q .len) (q .at)) (whole-is bs at (qubitsOf q) h)
 
 removals-more : (bs : List ℕ) (place left n : ℕ) (l : List ℕ) → 0 < left
     → removeAll n (numbersFrom (left - 1) bs (place + 3)) (remove (position (value (numberOf (writtenAt bs place)) n)) l)

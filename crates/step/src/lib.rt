@@ -3,7 +3,7 @@ ghost use mathlib.Core.Path.{_≡_};
 ghost use Prim.Native.Nat.{min};
 ghost use lib.ListN.{length, take};
 ghost use Rattle.model.specs.Lists.{qubits, entry, remove, remaining, position, holds};
-ghost use Rattle.records.specs.Fields.{removalsOf};
+ghost use Rattle.records.specs.Fields.{pick, removalsOf};
 ghost use Rattle.table.specs.Index.{startOf, behindOf, testAt};
 ghost use Rattle.step.specs.Steps.{qubitsOf, valueOf, within, touchedBy, nextOf, stepAt};
 use records::{Number, Record, record_at, written_at};
@@ -228,4 +228,11 @@ pub fn holds(table: &[u8], index: &[u16], p: u8, i: usize, list: Qubits, depth: 
         Step::Branches(_, _, _) => true,
         Step::Calls(_, _) => true,
     }
+}
+
+// An if goes on as one of its two statements: as `yes` where the condition at record c holds, otherwise as `no`.
+pub fn chosen(table: &[u8], index: &[u16], p: u8, c: usize, yes: usize, no: usize, list: Qubits, depth: u8) -> usize
+    ensures { λ r. ⌜ r ≡ pick (holds (testAt p (now (table .entry)) (now (index .entry)) depth c) (length (qubitsOf list))) yes no ⌝ }
+{
+    if holds(table, index, p, c, list, depth) { yes } else { no }
 }

@@ -1,16 +1,16 @@
 -- What the code does is what the definitions of specs/Reading say: one law for each way out of a function.
-use mathlib.Core.Path.{_≡_, refl, sym, ap, _∙_}
+use mathlib.Core.Path.{_≡_, refl, sym, _∙_}
 use mathlib.Core.Bool.{Bool, true, false, not}
 use mathlib.Core.List.{List, [], _∷_}
 use Prim.Native.Nat.{ℕ, zero, suc, _+_, _-_, _≤_, _<_}
 use native.Mathlib.Numerals.{sub-one}
 use native.Mathlib.Omega.{arith}
 use borrow.Author.Needs.{needs}
-use borrow.Author.Tests.{lt-ltb, le-ltb}
+use borrow.Author.Tests.{lt-ltb, le-ltb, not-true, not-false}
 use lib.Dec.{ltb}
 use lib.ListN.{length, getD, set, List·getD-eq-default}
 use types.Run.{miss}
-use Rattle.model.proofs.Tests.{byEq, not-not}
+use Rattle.model.proofs.Tests.{byEq}
 use Rattle.model.specs.Reading.{permitted, stands}
 use Rattle.records.proofs.Laws.{Among, bytes-there, bytes-lack}
 use Rattle.records.specs.declared.Record.{Record}
@@ -53,13 +53,6 @@ unwanted-test tests kind e h = rw (e, lt-ltb kind 6 h)
 pub wanted-statement : (tests : Bool) (kind : ℕ) → tests ≡ false → ltb kind 6 ≡ wanted tests kind
 unfolding wanted
 wanted-statement tests kind e = rw e
-
--- a test that is turned round
-not-true : (b : Bool) → not b ≡ true → b ≡ false
-not-true b h = sym (not-not b) ∙ ap not h
-
-not-false : (b : Bool) → not b ≡ false → b ≡ true
-not-false b h = sym (not-not b) ∙ ap not h
 
 -- the contents of a record
 module _ (p map kind : ℕ) (bs : List ℕ) (at : ℕ) (b : Bool) (e : b ≡ permitted kind map) where

@@ -48,12 +48,6 @@ pub enum Table {
     Refused(u8),
 }
 
-fn wide(x: u8) -> usize
-    ensures { λ r. ⌜ r ≡ x ⌝ }
-{
-    x as usize
-}
-
 // Note a value in the index. A slot outside it, or a value past 65535, would be passed over: reading comes to neither.
 fn note(index: &mut [u16; 544], slot: usize, value: usize)
     ensures { λ r. ⌜ now (index .exit) ≡ noted (now (index .entry)) slot value ⌝ }
@@ -80,7 +74,7 @@ fn wanted(tests: bool, kind: u8) -> bool
 fn parts(tests: bool, kind: u8) -> u8
     ensures { λ r. ⌜ r ≡ parts tests kind ⌝ }
 {
-    let i = wide(kind);
+    let i = kind as usize;
     if 12 <= i {
         return 0;
     }
@@ -207,7 +201,7 @@ fn read_bodies(
 ) -> Tree
     ensures { λ r. ⌜ ran r (now (index .exit)) ≡ bodiesAt p (now (table .entry)) (p + 1 - f) f at records (now (index .entry)) ⌝ }
 {
-    if wide(p) < f {
+    if (p as usize) < f {
         return Tree::Read(at, records);
     }
     note(index, 512 + f, records);

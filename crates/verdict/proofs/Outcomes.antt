@@ -1,27 +1,23 @@
 -- The verdict's order: what a read table gets by its index is what the definitions accept or refuse.
-use mathlib.Core.Path.{_≡_, refl, sym, ap, _∙_, subst}
-use mathlib.Core.Bool.{Bool, true, false, not, _&&_, true≢false}
+use mathlib.Core.Path.{_≡_, refl, sym, _∙_, subst}
+use mathlib.Core.Bool.{not}
 use mathlib.Core.List.{List}
 use Prim.Native.Nat.{ℕ, zero, suc, _≤_, _<_}
 use native.Mathlib.Nat.{not-suc-le-zero}
 use native.Mathlib.Omega.{arith}
 use borrow.Author.Tests.{le-leb, lt-leb}
-use lib.Dec.{leb}
-use Rattle.model.specs.Limits.{mostQubits, wrongQubits, noRemoval, tooWide, accessFault}
+use Rattle.model.specs.Limits.{noRemoval, tooWide, accessFault}
 use Rattle.model.specs.Syntax.{Program, count}
-use Rattle.model.specs.Reading.{Input, Parsed, parsed, refused, readTable}
+use Rattle.model.specs.Reading.{Parsed, parsed, refused, readTable}
 use Rattle.model.specs.Faults.{programFaults}
 use Rattle.model.specs.Reach.{anyLacksRemoval, anyTooWide}
-use Rattle.model.specs.Answers.{Outcome, gives, refuses, after, require, outcome, valueOr, number, accepted}
+use Rattle.model.specs.Answers.{gives, refuses, after, require, outcome, accepted}
 use Rattle.model.proofs.Tests.{byBool}
+use Rattle.model.proofs.Outcomes.{not-both, gives-same, refuses-same}
 use Rattle.model.proofs.Inversion.{read-count, read-refusal}
-use Rattle.records.specs.Fields.{pick}
-use Rattle.table.specs.Index.{programAt, says}
-use Rattle.reach.specs.Walk.{reachAt, anyLacksIn, anyWideIn}
+use Rattle.table.specs.Index.{programAt}
 use Rattle.reach.proofs.Marks.{count-at}
 use Rattle.reach.proofs.Filled.{refusal-ten, refusal-eleven}
-use Rattle.faults.specs.Filling.{faultsAt}
-
 use Rattle.faults.proofs.Refusal.{faults-is}
 use Rattle.verdict.specs.Judging.{judgedAt, outcomeOf}
 
@@ -43,33 +39,16 @@ in-range : (bs : List ℕ) (n : ℕ) → (n ≡ 0 → ⊥) → n ≤ 32 → acce
 unfolding accepted require
 in-range bs n z h = rw (le-leb 1 n (omega arith), le-leb n 32 h)
 
--- an outcome says one thing
-unfoldable given : Outcome Program → Bool
-given (gives P) = true
-given (refuses k) = false
-
-not-both : (P : Program) (k : ℕ) → refuses k ≡ gives P → ⊥
-unfolding given
-not-both P k e = true≢false (sym (ap given e))
-
-same-refusal : (j k : ℕ) → _≡_ {A = Outcome Program} (refuses j) (refuses k) → j ≡ k
-unfolding number
-same-refusal j k e = ap (λ (o : Outcome Program). number o) e
-
-same-program : (P Q : Program) → gives P ≡ gives Q → P ≡ Q
-unfolding valueOr
-same-program P Q e = ap (valueOr P) e
-
 -- what the reader refuses has a number, and what it reads has at most 16 procedures
 read-refused : (bs : List ℕ) (k : ℕ) (x : Parsed Program) → readTable bs ≡ x → refuses k ≡ outcome x → 1 ≤ k
 unfolding outcome
-read-refused bs k (parsed P i) r e = absurd (not-both P k e)
-read-refused bs k (refused j) r e = subst (λ (m : ℕ). 1 ≤ m) (sym (same-refusal k j e)) (read-refusal bs r .0)
+read-refused bs k (parsed P i) r e = not-both e
+read-refused bs k (refused j) r e = subst (λ (m : ℕ). 1 ≤ m) (sym (refuses-same e)) (read-refusal bs r .0)
 
 read-few : (bs : List ℕ) (Q : Program) (x : Parsed Program) → readTable bs ≡ x → gives Q ≡ outcome x → count Q ≤ 16
 unfolding outcome
-read-few bs Q (parsed P i) r e = subst (λ (R : Program). count R ≤ 16) (sym (same-program Q P e)) (read-count bs r)
-read-few bs Q (refused j) r e = absurd (not-both Q j (sym e))
+read-few bs Q (parsed P i) r e = subst (λ (R : Program). count R ≤ 16) (sym (gives-same e)) (read-count bs r)
+read-few bs Q (refused j) r e = not-both (sym e)
 
 -- a table that the reader refuses
 pub refused-table : (bs : List ℕ) (n k : ℕ) (P : Program) → (n ≡ 0 → ⊥) → n ≤ 32 → refuses k ≡ outcome (readTable bs) → outcomeOf k P ≡ accepted bs n

@@ -1,19 +1,19 @@
 -- Blocks of bytes and states give each other back, and gates keep a state within its block.
 use mathlib.Core.Path.{_≡_, refl, ap, sym, _∙_, subst, fun-ext}
-use mathlib.Core.Bool.{true, false, _&&_}
+use mathlib.Core.Bool.{true, false}
 use mathlib.Core.List.{List, _∷_, _++_}
 use Prim.Native.Nat.{ℕ, zero, suc, _+_, _*_, _/_, _%_, _^_, _≤_, _<_}
-use native.Mathlib.Nat.{not-suc-le-zero}
+use native.Mathlib.Nat.{not-suc-le-zero, le-trans}
 use native.Mathlib.Omega.{arith}
-use borrow.Author.Tests.{leb-true}
-use lib.Dec.{leb, lit<}
+use lib.Dec.{lit<}
 use lib.ListN.{length, getD, List·getD-eq-default}
 use lib.Seq.{ext-getD}
 use Rattle.model.specs.Limits.{blockLength, mostWires}
 use Rattle.model.specs.Meaning.{State, bit, flipped, stateOf, wordFrom}
 use Rattle.model.specs.Gates.{Gate, flip, swap, exchange, renamed, fires, act}
 use Rattle.model.specs.Circuit.{wires, within, blockFrom, blockOf}
-use Rattle.model.proofs.Tests.{byBool, byEq, byLt, and-left, and-right}
+use Rattle.model.proofs.Tests.{byBool, byEq, byLt}
+use Rattle.model.proofs.WireLists.{within-head, within-tail}
 use Rattle.model.proofs.GateLaws.{flipped-other, exchange-other, renamed-at}
 use Rattle.wires.specs.States.{stateIn}
 use Rattle.model.proofs.Words.{zero-bit, past-bit, word-bit, word-below, word-is}
@@ -150,26 +150,15 @@ swap-state bytes h u v lu mu lv mv =
 
 -- ---- a gate over the wires of a circuit
 
-within-head : (most w : ℕ) (l : List ℕ) → most ≤ mostWires → within most (w ∷ l) ≡ true → (1 ≤ w) × (w ≤ mostWires)
-unfolding within
-within-head most w l h e =
-    let both : leb 1 w && leb w most ≡ true = and-left (leb 1 w && leb w most) (within most l) e in
-    let low : 1 ≤ w = leb-true 1 w (and-left (leb 1 w) (leb w most) both) in
-    let high : w ≤ most = leb-true w most (and-right (leb 1 w) (leb w most) both) in
-    (low, omega arith)
-
-within-tail : (most w : ℕ) (l : List ℕ) → within most (w ∷ l) ≡ true → within most l ≡ true
-unfolding within
-within-tail most w l e = and-right (leb 1 w && leb w most) (within most l) e
-
 -- a gate over wires 1 to 255 keeps the state within its block
 pub act-inside : (most : ℕ) → most ≤ mostWires → (g : Gate) (s : State) → within most (wires g) ≡ true → InBlock s → InBlock (act g s)
 unfolding act wires
 act-inside most h (flip cs t) s e i =
-    let at-t : (1 ≤ t) × (t ≤ mostWires) = within-head most t (cs .ones ++ cs .zeros) h e in
-    byBool (fires cs s) (λ f. rw (f, act) (flipped-inside s t i (at-t .0) (at-t .1))) (λ f. rw (f, act) i)
+    let at-t = within-head most t (cs .ones ++ cs .zeros) e in
+    byBool (fires cs s) (λ f. rw (f, act) (flipped-inside s t i (at-t .0) (le-trans (at-t .1) h))) (λ f. rw (f, act) i)
 act-inside most h (swap cs u v) s e i =
-    let at-u : (1 ≤ u) × (u ≤ mostWires) = within-head most u (v ∷ (cs .ones ++ cs .zeros)) h e in
-    let at-v : (1 ≤ v) × (v ≤ mostWires) =
-        within-head most v (cs .ones ++ cs .zeros) h (within-tail most u (v ∷ (cs .ones ++ cs .zeros)) e) in
-    byBool (fires cs s) (λ f. rw (f, act) (exchanged-inside s u v i (at-u .0) (at-u .1) (at-v .0) (at-v .1))) (λ f. rw (f, act) i)
+    let at-u = within-head most u (v ∷ (cs .ones ++ cs .zeros)) e in
+    let at-v = within-head most v (cs .ones ++ cs .zeros) (within-tail most u (v ∷ (cs .ones ++ cs .zeros)) e) in
+    byBool (fires cs s)
+      (λ f. rw (f, act) (exchanged-inside s u v i (at-u .0) (le-trans (at-u .1) h) (at-v .0) (le-trans (at-v .1) h)))
+      (λ f. rw (f, act) i)

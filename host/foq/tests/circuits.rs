@@ -6,44 +6,11 @@ mod counts;
 
 use counts::{assert_reached, count, Counts};
 use foq::border;
+use foq_expected::{block, header};
 use foq_generator::circuits::{circuit, circuit_of, crowded_circuit, sizes};
 use foq_generator::damage::{damaged, single_changes, truncations};
 use foq_generator::{Random, PAIRS};
-use foq_reference::{
-    compile, read_circuit, Block, Circuit, Gate, LONGEST_CIRCUIT, SHORTEST_WORKSPACE,
-};
-
-/// The answer that C is to see of a circuit read.
-fn header(read: &Result<Circuit, u32>) -> border::Circuit {
-    match read {
-        Ok(circuit) => border::Circuit {
-            number: 0,
-            qubits: circuit.n.into(),
-            ancillas: circuit.ancillas.into(),
-            gates: circuit.gates.len() as u32,
-        },
-        Err(number) => border::Circuit {
-            number: *number,
-            ..border::Circuit::default()
-        },
-    }
-}
-
-/// The answer that C is to see of a circuit run.
-fn block(ran: Result<Block, u32>) -> border::Block {
-    match ran {
-        Ok(block) => border::Block {
-            number: 0,
-            data: block.n,
-            ancillas: block.ancillas,
-            bits: block.wires,
-        },
-        Err(number) => border::Block {
-            number,
-            ..border::Block::default()
-        },
-    }
-}
+use foq_reference::{compile, read_circuit, Block, Gate, LONGEST_CIRCUIT, SHORTEST_WORKSPACE};
 
 /// Asks both about a circuit and about its run from each word.
 fn compare(bytes: &[u8], words: &[u64], counts: &mut Counts) {

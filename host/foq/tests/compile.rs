@@ -4,16 +4,17 @@
 //! the circuit in front and its rest as it was. Each test counts the tables of
 //! the classes that it is meant to reach, so that it cannot run empty.
 
-mod answers;
 mod counts;
 mod lent;
+mod refusals;
 mod room;
 mod small_stack;
 mod steps;
+mod words;
 
-use answers::{answer, tables_in_order};
 use counts::{assert_reached, count, Counts};
 use foq::border;
+use foq_expected::answer;
 use foq_generator::damage::damaged;
 use foq_generator::emissions::{deepest_emission, filled, merged_lists, ring, FILLED_NEXT};
 use foq_generator::programs::{program, wild_program, Shape, LARGE, MERGING, SMALL};
@@ -28,10 +29,12 @@ use foq_reference::{
     compile, emission, gate_bound, read_table, LONGEST_CIRCUIT, SHORTEST_WORKSPACE,
 };
 use lent::{Workspace, LENGTHS};
+use refusals::tables_in_order;
 use room::Room;
 use small_stack::on_that_stack;
 use std::time::{Duration, Instant};
 use steps::count_steps;
+use words::{every_word, on_many_qubits, sampled};
 
 /// Rooms longer than any circuit.
 const LONG_ROOMS: [usize; 3] = [65_537, 70_000, 131_072];
@@ -554,7 +557,7 @@ fn run_programs(seed: u64, shape: &Shape, tables: usize, qubits: &[u32]) -> Coun
     for turn in 0..tables {
         let table = encode(&program(&mut random, shape));
         let n = qubits[turn % qubits.len()];
-        both.run_circuit(&table, n, 0..1 << n, &mut counts);
+        both.run_circuit(&table, n, every_word(n), &mut counts);
     }
     counts
 }
@@ -600,23 +603,12 @@ fn circuits_of_many_procedures_end_as_runs_do_from_every_word() {
     assert_reached(&counts, &least);
 }
 
-/// The lowest and the highest word of n qubits, and this many others.
-fn sampled(random: &mut Random, n: u32, others: usize) -> Vec<u64> {
-    let past = 1 << n;
-    let between = (0..others).map(|_| random.word() % past);
-    [0, past - 1].into_iter().chain(between).collect()
-}
-
 #[test]
 fn circuits_on_many_qubits_end_as_runs_do_from_some_words() {
     let mut both = Both::new();
     let mut random = Random::from_seed(89);
     let mut counts = Counts::new();
-    for turn in 0..3_000 {
-        let shape = [SMALL, MERGING, MERGING, LARGE][turn % 4];
-        let table = encode(&program(&mut random, &shape));
-        let n = 9 + random.below(24) as u32;
-        let words = sampled(&mut random, n, 4);
+    for (table, n, words) in on_many_qubits(&mut random, 3_000, 9) {
         both.run_circuit(&table, n, words, &mut counts);
         count(&mut counts, "32 qubits", n == 32);
     }
@@ -695,7 +687,7 @@ fn published_programs_flip_the_last_qubit_where_their_source_says() {
     for (name, table, decides) in programs {
         for n in 1..=10 {
             let circuit = both.circuit(&table, n).unwrap();
-            for word in 0..1 << n {
+            for word in every_word(n) {
                 let flips = decides(&digits(word, n - 1));
                 let last = u64::from(flips) << (n - 1);
                 assert_eq!(end_of(&circuit, word), word ^ last, "{name}, {word:b}");

@@ -3,15 +3,16 @@
 //! as zeros. Each test counts the tables of the classes that it is meant to
 //! reach, so that it cannot run empty.
 
-mod answers;
 mod counts;
 mod lent;
+mod refusals;
 mod small_stack;
 mod steps;
+mod words;
 
-use answers::{answer, tables_in_order};
 use counts::{assert_reached, count, Counts};
 use foq::border::{self, Answer};
+use foq_expected::answer;
 use foq_generator::damage::damaged;
 use foq_generator::programs::{program, wild_program, Shape, LARGE, MERGING, SMALL};
 use foq_generator::tables::{
@@ -22,8 +23,10 @@ use foq_generator::tree::{encode, table, Statement};
 use foq_generator::{Random, PAIRS};
 use foq_reference::{emission, read_table, run, LONGEST_CIRCUIT, SHORTEST_WORKSPACE};
 use lent::{Workspace, LENGTHS};
+use refusals::tables_in_order;
 use small_stack::on_that_stack;
 use steps::count_steps;
+use words::{every_word, on_many_qubits, sampled};
 
 /// Asks the product and the second interpreter.
 struct Both {
@@ -81,11 +84,6 @@ impl Both {
             count_steps(&emitted.tally, counts);
         }
     }
-}
-
-/// Every word on n qubits.
-fn every_word(n: u32) -> impl Iterator<Item = u64> {
-    0..1 << n
 }
 
 /// Runs programs of a shape from every word, each on one of these numbers of
@@ -157,13 +155,7 @@ fn programs_on_many_qubits_run_alike_from_some_words() {
     let mut both = Both::new();
     let mut random = Random::from_seed(75);
     let mut counts = Counts::new();
-    for turn in 0..4_000 {
-        let shape = [SMALL, MERGING, MERGING, LARGE][turn % 4];
-        let table = encode(&program(&mut random, &shape));
-        let n = 7 + random.below(26) as u32;
-        let past = 1 << n;
-        let sampled = [(); 4].map(|()| random.word() % past);
-        let words = [&[0, past - 1][..], &sampled].concat();
+    for (table, n, words) in on_many_qubits(&mut random, 4_000, 7) {
         both.run_all(&table, n, words, &mut counts);
         count(&mut counts, "32 qubits", n == 32);
     }
@@ -216,9 +208,7 @@ fn tables_of_known_shape_run_alike() {
     ];
     for table in &tables {
         for n in 1..=32 {
-            let past = 1 << n;
-            let sampled = [(); 6].map(|()| random.word() % past);
-            let words = [&[0, past - 1][..], &sampled].concat();
+            let words = sampled(&mut random, n, 6);
             both.run_all(table, n, words, &mut counts);
         }
         both.run_all(table, 8, every_word(8), &mut counts);

@@ -3,6 +3,7 @@
 use crate::input::{Circuit, Input, Table};
 use crate::operations::Operations;
 use foq::border::{self, Answer};
+use foq_expected as expected;
 use foq_reference::{read_circuit, Gate, LONGEST_CIRCUIT};
 use std::fmt::Debug;
 
@@ -97,11 +98,8 @@ fn verdict(product: &impl Operations, table: &Table) -> Result<u32, Difference> 
 fn run(product: &impl Operations, table: &Table) -> Result<Answer, Difference> {
     let Table { bytes, n, word, .. } = table;
     let ours = with_workspace(table.workspace, |lent| product.run(bytes, *n, *word, lent))?;
-    let theirs = match foq_reference::run(bytes, *n, *word, table.workspace) {
-        Ok(value) => Answer { number: 0, value },
-        Err(number) => Answer { number, value: 0 },
-    };
-    same("run", ours, theirs)
+    let theirs = foq_reference::run(bytes, *n, *word, table.workspace);
+    same("run", ours, expected::answer(theirs))
 }
 
 /// What compile gives: a number, and the circuit where that is 0.
@@ -136,18 +134,7 @@ fn compile(
 /// Reads a circuit. Gives its gates, where it is well formed.
 fn read(product: &impl Operations, circuit: &[u8]) -> Result<Option<Vec<Gate>>, Difference> {
     let theirs = read_circuit(circuit);
-    let header = match &theirs {
-        Ok(circuit) => border::Circuit {
-            number: 0,
-            qubits: circuit.n.into(),
-            ancillas: circuit.ancillas.into(),
-            gates: circuit.gates.len() as u32,
-        },
-        Err(number) => border::Circuit {
-            number: *number,
-            ..border::Circuit::default()
-        },
-    };
+    let header = expected::header(&theirs);
     same("circuit read", product.circuit_read(circuit), header)?;
     Ok(theirs.ok().map(|circuit| circuit.gates))
 }
@@ -157,19 +144,9 @@ fn run_circuit(
     circuit: &[u8],
     word: u64,
 ) -> Result<border::Block, Difference> {
-    let theirs = match foq_reference::circuit_run(circuit, word) {
-        Ok(block) => border::Block {
-            number: 0,
-            data: block.n,
-            ancillas: block.ancillas,
-            bits: block.wires,
-        },
-        Err(number) => border::Block {
-            number,
-            ..border::Block::default()
-        },
-    };
-    same("circuit run", product.circuit_run(circuit, word), theirs)
+    let theirs = foq_reference::circuit_run(circuit, word);
+    let block = expected::block(theirs);
+    same("circuit run", product.circuit_run(circuit, word), block)
 }
 
 /// The circuit of a table ends as its run does, with nothing but the end word

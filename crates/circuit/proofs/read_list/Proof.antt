@@ -1,4 +1,5 @@
 -- `read_list` meets its contract.
+use native.Mathlib.Omega.{arith}
 use borrow.Author.Needs.{needs}
 use Rattle.circuit.proofs.Reading.{lists}
 use Rattle.circuit.proofs.read_list.Statement.{statement}
@@ -9,7 +10,7 @@ read-list-spec = tie.close (tie.spec
     (λ c. search lists)
     (λ c. search lists)
     (λ c. search needs)
-    (λ c κs. search needs)
+    (λ c. omega (arith, c .shared-slice-known .given (c .before .before .before .args .at)))
     (λ c. search lists)
     (λ c. search needs)
     (λ c. search lists)

@@ -10,7 +10,7 @@ use Rattle.emit.proofs.one_unless_empty.Reads as one-unless-empty-reads
 use Rattle.emit.proofs.sum.Reads as sum-reads
 use Rattle.reach.proofs.recursive.Reads as recursive-reads
 use Rattle.reach.proofs.width.Reads as width-reads
-use Rattle.step.proofs.holds.Reads as holds-reads
+use Rattle.step.proofs.chosen.Reads as chosen-reads
 use Rattle.step.proofs.remaining.Reads as remaining-reads
 use Rattle.step.proofs.step_at.Reads as step-at-reads
 use Rattle.emit.proofs.+count_calls.{statement}
@@ -35,8 +35,8 @@ pub +count-calls-spec : {M : Type 1} → statement M
   width-reads.Learnt,
   count-calls-below t,
   count-calls.Post,
-  holds-reads.Asked,
-  holds-reads.Learnt,
+  chosen-reads.Asked,
+  chosen-reads.Learnt,
   sum-reads.Asked,
   sum-reads.Learnt,
   recursive-reads.Asked,
@@ -63,9 +63,6 @@ pub +count-calls-spec : {M : Type 1} → statement M
     (λ c. search counting)
     (λ c. search counting)
     (λ c κs. search counting)
-    (λ c. search counting)
-    (λ c κs. search counting)
-    (λ c. search counting)
     (λ c. search counting)
     (λ c κs. search counting)
     (λ c. search counting)

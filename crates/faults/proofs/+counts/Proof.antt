@@ -1,4 +1,4 @@
--- `faults::counts` meets its contract: each step of the walk is the record's, and the depth falls. Assumes nothing.
+-- `faults::counts` meets its contract: each way out is one law, and the depth falls. Assumes nothing.
 use Rattle.faults.proofs.Counting.{counting}
 use Prim.Native.Nat.{ℕ, _<_}
 use borrow.Fn.Kinds.{In}
@@ -6,10 +6,9 @@ use borrow.Fn.PlainCycle.{Measures, is, falls, and}
 use Rattle.faults.proofs.counts.Reads as counts
 use Rattle.faults.proofs.counts.Kinds as counts-kinds
 use Rattle.faults.proofs.+counts.Lts-counts as counts-lts
-use Rattle.faults.proofs.count_at.Reads as count-at-reads
 use Rattle.faults.proofs.mark.Reads as mark-reads
-use Rattle.step.proofs.all.Reads as all-reads
-use Rattle.step.proofs.step_at.Reads as step-at-reads
+use Rattle.reach.proofs.parts_at.Reads as parts-at-reads
+use Rattle.reach.proofs.removal_count.Reads as removal-count-reads
 use Rattle.faults.proofs.+counts.{statement}
 use Rattle.faults.proofs.+counts.Tie.{close}
 
@@ -24,14 +23,12 @@ counts-below t = and 2 counts-kinds.ps (falls 2 counts-kinds.ps _<_ μ-counts t)
 
 pub +counts-spec : {M : Type 1} → statement M
 +counts-spec = close μ-counts λ t. counts-lts.spec (
-  all-reads.Asked,
-  all-reads.Learnt,
-  step-at-reads.Asked,
-  step-at-reads.Learnt,
+  parts-at-reads.Asked,
+  parts-at-reads.Learnt,
   counts-below t,
   counts.Post,
-  count-at-reads.Asked,
-  count-at-reads.Learnt,
+  removal-count-reads.Asked,
+  removal-count-reads.Learnt,
   mark-reads.Asked,
   mark-reads.Learnt,
 )
@@ -39,19 +36,7 @@ pub +counts-spec : {M : Type 1} → statement M
     counts.Post
     (λ c. search counting)
     (λ c κs. search counting)
-    (λ c κs. search counting)
     (λ c. search counting)
-    (λ c. search counting)
-    (λ c. search counting)
-    (λ c. search counting)
-    (λ c κs. search counting)
-    (λ c. search counting)
-    (λ c κs. search counting)
-    (λ c. search counting)
-    (λ c. search counting)
-    (λ c κs. search counting)
-    (λ c. search counting)
-    (λ c κs. search counting)
     (λ c. search counting)
     (λ c. search counting)
     (λ c κs. search counting)
@@ -60,17 +45,6 @@ pub +counts-spec : {M : Type 1} → statement M
     (λ c. search counting)
     (λ c κs. search counting)
     (λ c κs. search counting)
-    (λ c. search counting)
-    (λ c. search counting)
-    (λ c. search counting)
-    (λ c. search counting)
-    (λ c. search counting)
-    (λ c. search counting)
-    (λ c. search counting)
-    (λ c. search counting)
-    (λ c. search counting)
-    (λ c. search counting)
-    (λ c. search counting)
     (λ c. search counting)
     (λ c. search counting)
     (λ c. search counting)

@@ -10,7 +10,7 @@ use Rattle.faults.proofs.called.Reads as called-reads
 use Rattle.faults.proofs.closes.Reads as closes-reads
 use Rattle.faults.proofs.mark.Reads as mark-reads
 use Rattle.step.proofs.all.Reads as all-reads
-use Rattle.step.proofs.holds.Reads as holds-reads
+use Rattle.step.proofs.chosen.Reads as chosen-reads
 use Rattle.step.proofs.remaining.Reads as remaining-reads
 use Rattle.step.proofs.step_at.Reads as step-at-reads
 use Rattle.faults.proofs.+touches.{statement}
@@ -35,8 +35,8 @@ pub +touches-spec : {M : Type 1} → statement M
   mark-reads.Learnt,
   touches-below t,
   touches.Post,
-  holds-reads.Asked,
-  holds-reads.Learnt,
+  chosen-reads.Asked,
+  chosen-reads.Learnt,
   closes-reads.Asked,
   closes-reads.Learnt,
   remaining-reads.Asked,
@@ -60,9 +60,6 @@ pub +touches-spec : {M : Type 1} → statement M
     (λ c. search walking)
     (λ c. search walking)
     (λ c κs. search walking)
-    (λ c. search walking)
-    (λ c κs. search walking)
-    (λ c. search walking)
     (λ c. search walking)
     (λ c κs. search walking)
     (λ c. search walking)

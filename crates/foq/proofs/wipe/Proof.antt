@@ -1,5 +1,5 @@
 -- `wipe` meets its contract: the first i bytes are zero, the others as they were.
-use mathlib.Core.Path.{_≡_, refl, ap, subst, _∙_}
+use mathlib.Core.Path.{_≡_, refl, ap, _∙_}
 use mathlib.Core.List.{List, _++_, append-nil}
 use Prim.Native.Nat.{ℕ, _-_, _≤_}
 use lib.ListN.{length, set, drop, replicate, length-set, drop-of-length-le}

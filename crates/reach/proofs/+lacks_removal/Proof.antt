@@ -6,7 +6,7 @@ use Rattle.reach.proofs.Walks.{lacking}
 use Rattle.reach.proofs.lacks_removal.Reads as lacks-removal
 use Rattle.reach.proofs.lacks_removal.Kinds as lacks-removal-kinds
 use Rattle.reach.proofs.+lacks_removal.Lts-lacks_removal as lacks-removal-lts
-use Rattle.reach.proofs.has_removals.Reads as has-removals-reads
+use Rattle.reach.proofs.removal_count.Reads as removal-count-reads
 use Rattle.reach.proofs.parts_at.Reads as parts-at-reads
 use Rattle.reach.proofs.recursive.Reads as recursive-reads
 use Rattle.reach.proofs.+lacks_removal.{statement}
@@ -33,8 +33,8 @@ pub +lacks-removal-spec : {M : Type 1} → statement M
   parts-at-reads.Learnt,
   lacks-removal-below t,
   lacks-removal.Post,
-  has-removals-reads.Asked,
-  has-removals-reads.Learnt,
+  removal-count-reads.Asked,
+  removal-count-reads.Learnt,
   recursive-reads.Asked,
   recursive-reads.Learnt,
 )

@@ -9,10 +9,9 @@ pub permitted-spec : {M : Type 1} → statement M
 permitted-spec =
     tie.close
     (tie.spec
-    (λ c κs. search needs)
     (λ c. search maps)
     (λ c. search needs)
     (λ c. search maps)
     (λ c. search needs)
-    (λ c. record { fits = omega (arith, maps-fit (c .before .before .index .result)) })
+    (λ c. record { fits = omega (arith, maps-fit (c .before .before .args .kind)) })
     (λ c. search maps))

@@ -8,7 +8,6 @@ pub required-spec : {M : Type 1} → statement M
 required-spec =
     tie.close
     (tie.spec
-    (λ c κs. search needs)
     (λ c. search needs)
     (λ c. search kinds)
     (λ c. search kinds))

@@ -13,7 +13,7 @@ use Rattle.run.proofs.+call+walk.Lts-walk as walk-lts
 use Rattle.run.proofs.bit.Reads as bit-reads
 use Rattle.run.proofs.flip.Reads as flip-reads
 use Rattle.reach.proofs.root.Reads as root-reads
-use Rattle.step.proofs.holds.Reads as holds-reads
+use Rattle.step.proofs.chosen.Reads as chosen-reads
 use Rattle.step.proofs.remaining.Reads as remaining-reads
 use Rattle.step.proofs.size.Reads as size-reads
 use Rattle.step.proofs.step_at.Reads as step-at-reads
@@ -64,8 +64,8 @@ pub +call+walk-spec : {M : Type 1} → statement M
       flip-reads.Learnt,
       walk-below t,
       walk.Post,
-      holds-reads.Asked,
-      holds-reads.Learnt,
+      chosen-reads.Asked,
+      chosen-reads.Learnt,
       bit-reads.Asked,
       bit-reads.Learnt,
       remaining-reads.Asked,
@@ -87,9 +87,6 @@ pub +call+walk-spec : {M : Type 1} → statement M
     (λ c. search walking)
     (λ c. search walking)
     (λ c κs. search walking)
-    (λ c. search walking)
-    (λ c κs. search walking)
-    (λ c. search walking)
     (λ c. search walking)
     (λ c κs. search walking)
     (λ c. search walking)

@@ -8,7 +8,6 @@ use Rattle.table.proofs.read_bodies.Kinds as read-bodies-kinds
 use Rattle.table.proofs.+read_bodies.Lts-read_bodies as read-bodies-lts
 use Rattle.table.proofs.note.Reads as note-reads
 use Rattle.table.proofs.read_tree.Reads as read-tree-reads
-use Rattle.table.proofs.wide.Reads as wide-reads
 use Rattle.table.proofs.+read_bodies.{statement}
 use Rattle.table.proofs.+read_bodies.Tie.{close}
 
@@ -25,8 +24,6 @@ read-bodies-below t =
 
 pub +read-bodies-spec : {M : Type 1} → statement M
 +read-bodies-spec = close μ-read-bodies λ t. read-bodies-lts.spec (
-  wide-reads.Asked,
-  wide-reads.Learnt,
   note-reads.Asked,
   note-reads.Learnt,
   read-tree-reads.Asked,
@@ -36,7 +33,6 @@ pub +read-bodies-spec : {M : Type 1} → statement M
 )
     (read-bodies-at t)
     read-bodies.Post
-    (λ c κs. search bodies)
     (λ c. search bodies)
     (λ c. search bodies)
     (λ c κs. search bodies)

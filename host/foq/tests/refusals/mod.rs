@@ -1,15 +1,6 @@
-//! What is to be answered: an answer as C sees it, and tables for each refusal.
+//! Tables for each refusal, in the order of the refusals.
 
-use foq::border::Answer;
 use foq_generator::tree::{call, not, sequence, table};
-
-/// The answer that C is to see.
-pub fn answer(given: Result<u64, u32>) -> Answer {
-    match given {
-        Ok(value) => Answer { number: 0, value },
-        Err(number) => Answer { number, value: 0 },
-    }
-}
 
 /// Tables with the defect of their number and, behind it in the order, as
 /// many others as can stand beside it.

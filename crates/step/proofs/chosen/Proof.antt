@@ -1,0 +1,11 @@
+-- `step::chosen` meets its contract: one law for each way out. Assumes nothing.
+use borrow.Author.Needs.{needs}
+use Rattle.step.proofs.Choosing.{choosing}
+use Rattle.step.proofs.chosen.Statement.{statement}
+use Rattle.step.proofs.chosen.Tie as tie
+
+pub chosen-spec : {M : Type 1} → statement M
+chosen-spec = tie.close (tie.spec
+    (λ c κs. search needs)
+    (λ c. search choosing)
+    (λ c. search choosing))
