@@ -10,7 +10,7 @@ use lib.ListN.{length}
 use lib.Dec.{leb}
 use Rattle.model.specs.Limits.{mostProcedures, mostQubits, headerLength, leastWorkspace, blockLength, noRoom}
 use Rattle.model.specs.Syntax.{Program, count}
-use Rattle.model.specs.Reading.{Parsed, parsed, refused, readTable}
+use Rattle.model.specs.Reading.{readTable}
 use Rattle.model.specs.Faults.{programFaults}
 use Rattle.model.specs.Meaning.{State, stateOf, endState, endWord}
 use Rattle.model.specs.Reach.{anyLacksRemoval, anyTooWide}
@@ -22,7 +22,7 @@ use Rattle.model.proofs.Tests.{and-left, and-right, byEq}
 use Rattle.model.proofs.Outcomes.{not-both, gives-same}
 use Rattle.model.proofs.Words.{word-zero, word-wire, same-block}
 use Rattle.model.proofs.Calls.{Named}
-use Rattle.model.proofs.Inversion.{read-named, read-count}
+use Rattle.model.proofs.Inversion.{outcome-read}
 use Rattle.model.proofs.RoundTrip.{circuitRead-write}
 use Rattle.agreement.proofs.Agreement.{agreement, ancillas-zero}
 use Rattle.agreement.proofs.Bound.{gate-bound}
@@ -55,46 +55,30 @@ unfolding after
 gave (gives a) f e = record { first = a; first-is = refl; then-is = e }
 gave (refuses k) f e = not-both e
 
--- what is given by reading was read
-read-names : (table : List ℕ) (x : Parsed Program) (P : Program) → readTable table ≡ x → outcome x ≡ gives P → Named P
-unfolding outcome
-read-names table (parsed Q i) P r e = subst Named (gives-same e) (read-named table r)
-read-names table (refused k) P r e = not-both e
-
 -- what acceptance says
-pub accepted-is : (table : List ℕ) (n : ℕ) (P : Program) → accepted table n ≡ gives P → Accepted n P
+accepted-says : (table : List ℕ) (n : ℕ) (P : Program) → accepted table n ≡ gives P → Accepted n P × (count P ≤ mostProcedures)
 unfolding accepted
-accepted-is table n P e =
+accepted-says table n P e =
     let range = required (leb 1 n && leb n mostQubits) _ _ e in
     let reading = gave (outcome (readTable table)) _ (range .1) in
     let Q = reading .first in
+    let read = rw (reading .first-is) at (outcome-read table) in
     let ten = required (not (anyLacksRemoval Q)) _ _ (reading .then-is) in
     let eleven = required (not (anyTooWide Q)) _ _ (ten .1) in
     let twelve = required (not (programFaults Q n)) _ _ (eleven .1) in
-    subst (Accepted n) (gives-same (twelve .1)) (record {
+    subst (λ (R : Program). Accepted n R × (count R ≤ mostProcedures)) (gives-same (twelve .1)) (record {
       some = leb-true 1 n (and-left (leb 1 n) (leb n mostQubits) (range .0));
       few = leb-true n mostQubits (and-right (leb 1 n) (leb n mostQubits) (range .0));
-      named = read-names table (readTable table) Q refl (reading .first-is);
+      named = read .0;
       passes10 = not-true (anyLacksRemoval Q) (ten .0);
       passes11 = not-true (anyTooWide Q) (eleven .0);
-      passes12 = not-true (programFaults Q n) (twelve .0) })
+      passes12 = not-true (programFaults Q n) (twelve .0) }, read .1)
 
--- an accepted table has at most 16 procedures
-few-read : (table : List ℕ) (x : Parsed Program) (P : Program) → readTable table ≡ x → outcome x ≡ gives P → count P ≤ mostProcedures
-unfolding outcome
-few-read table (parsed Q i) P r e = subst (λ (R : Program). count R ≤ mostProcedures) (gives-same e) (read-count table r)
-few-read table (refused k) P r e = not-both e
+pub accepted-is : (table : List ℕ) (n : ℕ) (P : Program) → accepted table n ≡ gives P → Accepted n P
+accepted-is table n P e = accepted-says table n P e .0
 
 pub accepted-few : (table : List ℕ) (n : ℕ) (P : Program) → accepted table n ≡ gives P → count P ≤ mostProcedures
-unfolding accepted
-accepted-few table n P e =
-    let range = required (leb 1 n && leb n mostQubits) _ _ e in
-    let reading = gave (outcome (readTable table)) _ (range .1) in
-    let Q = reading .first in
-    let ten = required (not (anyLacksRemoval Q)) _ _ (reading .then-is) in
-    let eleven = required (not (anyTooWide Q)) _ _ (ten .1) in
-    let twelve = required (not (programFaults Q n)) _ _ (eleven .1) in
-    subst (λ (R : Program). count R ≤ mostProcedures) (gives-same (twelve .1)) (few-read table (readTable table) Q refl (reading .first-is))
+accepted-few table n P e = accepted-says table n P e .1
 
 -- the data wires end as the run leaves them and every other wire at zero
 circuit-ends : (n : ℕ) (P : Program) → Accepted n P → (word : ℕ) → word < 2 ^ n → circuitBlock (circuit P n) word ≡ blockOf (stateOf (endWord P n word))

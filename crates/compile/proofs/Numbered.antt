@@ -1,5 +1,4 @@
 -- A refusal of compile has a number from 1 to 23, so that number 0 says that there is a circuit.
-use mathlib.Core.Path.{_≡_, refl}
 use mathlib.Core.Bool.{Bool, true, false, not, _&&_}
 use mathlib.Core.List.{List, [], _∷_}
 use Prim.Native.Nat.{ℕ, zero, suc, _+_, _≤_}
@@ -8,14 +7,14 @@ use lib.Dec.{ltb, leb}
 use lib.ListN.{length}
 use Rattle.model.specs.Limits.{mostQubits, mostWires, headerLength, leastWorkspace, wrongQubits, noRemoval, tooWide, accessFault, shortWorkspace, noRoom}
 use Rattle.model.specs.Syntax.{Program}
-use Rattle.model.specs.Reading.{Parsed, parsed, refused, readTable}
+use Rattle.model.specs.Reading.{readTable}
 use Rattle.model.specs.Faults.{programFaults}
 use Rattle.model.specs.Reach.{anyLacksRemoval, anyTooWide}
 use Rattle.model.specs.Emission.{Event, takes, places, frees, emission}
 use Rattle.model.specs.Circuit.{Circuit, encode}
 use Rattle.model.specs.Answers.{Outcome, gives, refuses, after, require, outcome, accepted, fit, fitted, circuit, usable, compile}
 use Rattle.model.proofs.Tests.{byBool}
-use Rattle.model.proofs.Inversion.{read-refusal}
+use Rattle.model.proofs.Inversion.{WasRead, outcome-read}
 
 -- a number that document 01 has for a refusal
 abbrev pub Refusal : ℕ → Type 0
@@ -36,10 +35,10 @@ unfolding after
 followed (gives a) f n h = h a
 followed (refuses k) f n h = n
 
-read : (table : List ℕ) (x : Parsed Program) → readTable table ≡ x → Numbered (outcome x)
-unfolding outcome
-read table (parsed P i) e = tt
-read table (refused k) e = let h = read-refusal table e in let low = h .1 in (h .0, omega arith)
+-- what the reader refuses is 1 to 8
+read : (o : Outcome Program) → WasRead o → Numbered o
+read (gives P) h = tt
+read (refuses k) h = let low = h .1 in (h .0, omega arith)
 
 -- 0, 22 or 23
 fit-low : (room used : ℕ) (es : List Event) → fit room used es ≤ noRoom
@@ -60,7 +59,7 @@ accepts : (table : List ℕ) (n : ℕ) → Numbered (accepted table n)
 unfolding accepted
 accepts table n =
     required (leb 1 n && leb n mostQubits) wrongQubits _ (omega arith, omega arith)
-    (followed (outcome (readTable table)) _ (read table (readTable table) refl) (λ P.
+    (followed (outcome (readTable table)) _ (read (outcome (readTable table)) (outcome-read table)) (λ P.
     required (not (anyLacksRemoval P)) noRemoval _ (omega arith, omega arith)
     (required (not (anyTooWide P)) tooWide _ (omega arith, omega arith)
     (required (not (programFaults P n)) accessFault (gives P) (omega arith, omega arith) tt))))

@@ -18,7 +18,7 @@ use Rattle.table.specs.Index.{testAt, statementAt}
 use Rattle.step.specs.declared.Step.{Step}
 use Rattle.step.specs.declared.Step.the-variants as step
 use Rattle.step.specs.Steps.{stepAt}
-use Rattle.step.proofs.Says.{at-step, spent-skip}
+use Rattle.step.proofs.Says.{Idle, at-step, idle-skip, spent-skip}
 use Rattle.step.proofs.Choosing.{chosen-means}
 
 pub invoked-count : (f g : ℕ) (l : List ℕ) (a b : ℕ) → length (invoked f l a) ≡ length (invoked g l b)
@@ -81,24 +81,12 @@ module _ (r : ℕ → Bool) (p : ℕ) (bs ix : List ℕ) (i depth : ℕ) (l : Li
   count-spent e = idle (spent-skip p bs ix depth i e)
 
   module _ (found : Step) (nz : depth ≡ 0 → ⊥) (is : found ≡ stepAt p bs ix i l) where
-    pub count-nothing : found ≡ step.Nothing → 0 ≡ min 65535 (length (invocations r (statementAt p bs ix depth i) l 0))
-    count-nothing e = idle (at-step p bs ix depth i l nz is e)
+    pub count-idle : (x : Step) → found ≡ x → Idle x → 0 ≡ min 65535 (length (invocations r (statementAt p bs ix depth i) l 0))
+    count-idle x e o = idle (idle-skip p bs ix depth i l nz is x e o)
 
     pub count-touches : (q : ℕ) → found ≡ step.Touches q → 0 ≡ min 65535 (length (invocations r (statementAt p bs ix depth i) l 0))
     unfolding invocations
     count-touches q e = let h = at-step p bs ix depth i l nz is e in rw (h .2)
-
-    pub count-holds : (b : Bool) → found ≡ step.Holds b → 0 ≡ min 65535 (length (invocations r (statementAt p bs ix depth i) l 0))
-    count-holds b e = idle (at-step p bs ix depth i l nz is e)
-
-    pub count-both : (a b : ℕ) → found ≡ step.Both a b → 0 ≡ min 65535 (length (invocations r (statementAt p bs ix depth i) l 0))
-    count-both a b e = idle (at-step p bs ix depth i l nz is e)
-
-    pub count-either : (a b : ℕ) → found ≡ step.Either a b → 0 ≡ min 65535 (length (invocations r (statementAt p bs ix depth i) l 0))
-    count-either a b e = idle (at-step p bs ix depth i l nz is e)
-
-    pub count-negates : (a : ℕ) → found ≡ step.Negates a → 0 ≡ min 65535 (length (invocations r (statementAt p bs ix depth i) l 0))
-    count-negates a e = idle (at-step p bs ix depth i l nz is e)
 
     module _ (a b n : ℕ) where
       pub count-wide : (w : ℕ) → found ≡ step.Sequence a b → w ≡ min 2 (width r (statementAt p bs ix (depth - 1) a)) → 0 < w →
@@ -148,6 +136,6 @@ module _ (r : ℕ → Bool) (p : ℕ) (bs ix : List ℕ) (i depth : ℕ) (l : Li
     count-other g at b e h y = rw (at-step p bs ix depth i l nz is e, invocations-other r l 0 (removalsOf bs at) g (sym h ∙ y))
 
 pub ruleset counting = (
-    needs, one-none, one-some, count-spent, count-nothing, count-touches, count-holds, count-both, count-either, count-negates, count-wide,
+    needs, one-none, one-some, count-spent, count-idle, count-touches, count-wide,
     count-thin, count-chosen, count-branches, count-recursive, count-other
   )

@@ -19,7 +19,7 @@ use Rattle.table.specs.Index.{testAt, statementAt, programAt}
 use Rattle.step.specs.declared.Step.{Step}
 use Rattle.step.specs.declared.Step.the-variants as step
 use Rattle.step.specs.Steps.{stepAt}
-use Rattle.step.proofs.Says.{at-step, spent-skip}
+use Rattle.step.proofs.Says.{Idle, at-step, idle-skip, spent-skip}
 use Rattle.step.proofs.Choosing.{chosen-means}
 use Rattle.reach.specs.Matrix.{recursiveIn}
 use Rattle.reach.proofs.Filled.{recursive-entry}
@@ -140,8 +140,8 @@ module _ (bs ix : List ℕ) (p k : ℕ) (f : ℕ) (l : List ℕ) (cs₁ cs₂ : 
 
 -- the ways out of `emit_left`
 module _ {bs ix m : List ℕ} {p k : ℕ} {write : Bool} {st : Emit} {room ws : List ℕ} {f i depth : ℕ} {l : List ℕ} {cs : Controls} where
-  left-idle : statementAt p bs ix depth i ≡ skip → Left bs ix m p k write st room ws st room ws f i depth l cs
-  left-idle e =
+  left-skipped : statementAt p bs ix depth i ≡ skip → Left bs ix m p k write st room ws st room ws f i depth l cs
+  left-skipped e =
     let h = left-skip (chainsIn bs ix p k) (recursive (programAt p bs ix) f) l cs (st .next) (statementAt p bs ix depth i) e in
     walks-left (λ R C. opens-by (h .0) (h .1) (opens-none (follows-none write st room ws)))
 
@@ -149,23 +149,11 @@ module _ {bs ix m : List ℕ} {p k : ℕ} {write : Bool} {st : Emit} {room ws : 
   left-stopped h = walks-left (λ R C. record { follows = follows-stopped write _ st room ws h; held = λ z. absurd (h z) })
 
   pub left-spent : depth ≡ 0 → Left bs ix m p k write st room ws st room ws f i depth l cs
-  left-spent e = left-idle (spent-skip p bs ix depth i e)
+  left-spent e = left-skipped (spent-skip p bs ix depth i e)
 
   module _ {found : Step} (nz : depth ≡ 0 → ⊥) (is : found ≡ stepAt p bs ix i l) where
-    pub left-nothing : found ≡ step.Nothing → Left bs ix m p k write st room ws st room ws f i depth l cs
-    left-nothing e = left-idle (at-step p bs ix depth i l nz is e)
-
-    pub left-holds : {b : Bool} → found ≡ step.Holds b → Left bs ix m p k write st room ws st room ws f i depth l cs
-    left-holds e = left-idle (at-step p bs ix depth i l nz is e)
-
-    pub left-both : {a b : ℕ} → found ≡ step.Both a b → Left bs ix m p k write st room ws st room ws f i depth l cs
-    left-both e = left-idle (at-step p bs ix depth i l nz is e)
-
-    pub left-either : {a b : ℕ} → found ≡ step.Either a b → Left bs ix m p k write st room ws st room ws f i depth l cs
-    left-either e = left-idle (at-step p bs ix depth i l nz is e)
-
-    pub left-negates : {a : ℕ} → found ≡ step.Negates a → Left bs ix m p k write st room ws st room ws f i depth l cs
-    left-negates e = left-idle (at-step p bs ix depth i l nz is e)
+    pub left-idle : (x : Step) → found ≡ x → Idle x → Left bs ix m p k write st room ws st room ws f i depth l cs
+    left-idle x e o = left-skipped (idle-skip p bs ix depth i l nz is x e o)
 
     module _ {r : Emit} {room₁ : List ℕ} where
       pub left-touches : {q : ℕ} → found ≡ step.Touches q → seen r room₁ ≡ scan write (places (flip cs q) ∷ []) (seen st room) →
@@ -252,6 +240,6 @@ module _ {bs ix m : List ℕ} {p k : ℕ} {write : Bool} {st : Emit} {room ws : 
                 (use-left B′ (ready-then R (O .follows)) (roomy-asking nz C q true))))
 
 pub ruleset lefts = (
-    needs, left-stopped, left-spent, left-nothing, left-holds, left-both, left-either, left-negates, left-touches, left-chosen,
+    needs, left-stopped, left-spent, left-idle, left-touches, left-chosen,
     left-first, left-recurs, left-calls, left-second, left-branches
   )

@@ -21,7 +21,7 @@ use Rattle.table.specs.Index.{testAt, statementAt, programAt}
 use Rattle.step.specs.declared.Step.{Step}
 use Rattle.step.specs.declared.Step.the-variants as step
 use Rattle.step.specs.Steps.{stepAt}
-use Rattle.step.proofs.Says.{at-step, spent-skip}
+use Rattle.step.proofs.Says.{Idle, at-step, idle-skip, spent-skip}
 use Rattle.step.proofs.Choosing.{chosen-means}
 use Rattle.reach.specs.Matrix.{recursiveIn}
 use Rattle.events.specs.declared.Emit.{Emit}
@@ -97,36 +97,24 @@ module _ (bs ix : List ℕ) (p k : ℕ) (f : ℕ) (l : List ℕ) (cs₁ cs₂ : 
 
 -- the ways out of `emit_right`
 module _ {bs ix m : List ℕ} {p k : ℕ} {write : Bool} {st : Emit} {room ws : List ℕ} {f i depth : ℕ} {l : List ℕ} {cs : Controls} {first : ℕ} where
-  right-idle : statementAt p bs ix depth i ≡ skip → Right bs ix m p k write st room ws st room ws f i depth l cs first
-  right-idle e = walks-right (λ R C Q. follows-as write
+  right-skipped : statementAt p bs ix depth i ≡ skip → Right bs ix m p k write st room ws st room ws f i depth l cs first
+  right-skipped e = walks-right (λ R C Q. follows-as write
     (right-skip (chainsIn bs ix p k) (recursive (programAt p bs ix) f) l cs first (st .next) (statementAt p bs ix depth i) e) (follows-none write st room ws))
 
   pub right-stopped : (st .status ≡ 0 → ⊥) → Right bs ix m p k write st room ws st room ws f i depth l cs first
   right-stopped h = walks-right (λ R C Q. follows-stopped write _ st room ws h)
 
   pub right-spent : depth ≡ 0 → Right bs ix m p k write st room ws st room ws f i depth l cs first
-  right-spent e = right-idle (spent-skip p bs ix depth i e)
+  right-spent e = right-skipped (spent-skip p bs ix depth i e)
 
   module _ {found : Step} (nz : depth ≡ 0 → ⊥) (is : found ≡ stepAt p bs ix i l) where
-    pub right-nothing : found ≡ step.Nothing → Right bs ix m p k write st room ws st room ws f i depth l cs first
-    right-nothing e = right-idle (at-step p bs ix depth i l nz is e)
+    pub right-idle : (x : Step) → found ≡ x → Idle x → Right bs ix m p k write st room ws st room ws f i depth l cs first
+    right-idle x e o = right-skipped (idle-skip p bs ix depth i l nz is x e o)
 
     pub right-touches : {q : ℕ} → found ≡ step.Touches q → Right bs ix m p k write st room ws st room ws f i depth l cs first
     right-touches e = let h = at-step p bs ix depth i l nz is e in walks-right (λ R C Q. follows-as write
       (right-not (chainsIn bs ix p k) (recursive (programAt p bs ix) f) l cs first (st .next) (statementAt p bs ix depth i) (h .0) (h .1) (h .2))
       (follows-none write st room ws))
-
-    pub right-holds : {b : Bool} → found ≡ step.Holds b → Right bs ix m p k write st room ws st room ws f i depth l cs first
-    right-holds e = right-idle (at-step p bs ix depth i l nz is e)
-
-    pub right-both : {a b : ℕ} → found ≡ step.Both a b → Right bs ix m p k write st room ws st room ws f i depth l cs first
-    right-both e = right-idle (at-step p bs ix depth i l nz is e)
-
-    pub right-either : {a b : ℕ} → found ≡ step.Either a b → Right bs ix m p k write st room ws st room ws f i depth l cs first
-    right-either e = right-idle (at-step p bs ix depth i l nz is e)
-
-    pub right-negates : {a : ℕ} → found ≡ step.Negates a → Right bs ix m p k write st room ws st room ws f i depth l cs first
-    right-negates e = right-idle (at-step p bs ix depth i l nz is e)
 
     pub right-calls : {g at : ℕ} {b : Bool} → found ≡ step.Calls g at → b ≡ recursiveIn m f g → b ≡ false →
         Right bs ix m p k write st room ws st room ws f i depth l cs first
@@ -229,6 +217,6 @@ module _ {bs ix m : List ℕ} {p k : ℕ} {write : Bool} {st : Emit} {room ws : 
               part first count other all d e = omega arith
 
 pub ruleset rights = (
-    needs, right-stopped, right-spent, right-nothing, right-touches, right-holds, right-both, right-either, right-negates, right-calls, right-recurs,
+    needs, right-stopped, right-spent, right-idle, right-touches, right-calls, right-recurs,
     right-chosen, right-second, right-first, right-branches
   )

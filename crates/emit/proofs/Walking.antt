@@ -21,7 +21,7 @@ use Rattle.table.specs.Index.{testAt, statementAt, programAt}
 use Rattle.step.specs.declared.Step.{Step}
 use Rattle.step.specs.declared.Step.the-variants as step
 use Rattle.step.specs.Steps.{stepAt}
-use Rattle.step.proofs.Says.{at-step, spent-skip}
+use Rattle.step.proofs.Says.{Idle, at-step, idle-skip, spent-skip}
 use Rattle.step.proofs.Choosing.{chosen-means}
 use Rattle.events.specs.declared.Emit.{Emit}
 use Rattle.events.specs.Scan.{seen, scan}
@@ -121,23 +121,11 @@ module _ {bs ix m : List ℕ} {p k : ℕ} {write : Bool} {st : Emit} {room ws : 
   whole-spent e = walks-whole (λ R C. follows-as write (whole-skip (chainsIn bs ix p k) l cs (st .next) (statementAt p bs ix depth i) (spent-skip p bs ix depth i e)) (follows-none write st room ws))
 
   module _ {found : Step} (nz : depth ≡ 0 → ⊥) (is : found ≡ stepAt p bs ix i l) where
-    idle : statementAt p bs ix depth i ≡ skip → Whole bs ix m p k write st room ws st room ws i depth l cs
-    idle e = walks-whole (λ R C. follows-as write (whole-skip (chainsIn bs ix p k) l cs (st .next) (statementAt p bs ix depth i) e) (follows-none write st room ws))
+    whole-skipped : statementAt p bs ix depth i ≡ skip → Whole bs ix m p k write st room ws st room ws i depth l cs
+    whole-skipped e = walks-whole (λ R C. follows-as write (whole-skip (chainsIn bs ix p k) l cs (st .next) (statementAt p bs ix depth i) e) (follows-none write st room ws))
 
-    pub whole-nothing : found ≡ step.Nothing → Whole bs ix m p k write st room ws st room ws i depth l cs
-    whole-nothing e = idle (at-step p bs ix depth i l nz is e)
-
-    pub whole-holds : {b : Bool} → found ≡ step.Holds b → Whole bs ix m p k write st room ws st room ws i depth l cs
-    whole-holds e = idle (at-step p bs ix depth i l nz is e)
-
-    pub whole-both : {a b : ℕ} → found ≡ step.Both a b → Whole bs ix m p k write st room ws st room ws i depth l cs
-    whole-both e = idle (at-step p bs ix depth i l nz is e)
-
-    pub whole-either : {a b : ℕ} → found ≡ step.Either a b → Whole bs ix m p k write st room ws st room ws i depth l cs
-    whole-either e = idle (at-step p bs ix depth i l nz is e)
-
-    pub whole-negates : {a : ℕ} → found ≡ step.Negates a → Whole bs ix m p k write st room ws st room ws i depth l cs
-    whole-negates e = idle (at-step p bs ix depth i l nz is e)
+    pub whole-idle : (x : Step) → found ≡ x → Idle x → Whole bs ix m p k write st room ws st room ws i depth l cs
+    whole-idle x e o = whole-skipped (idle-skip p bs ix depth i l nz is x e o)
 
     module _ {r : Emit} {room₁ : List ℕ} where
       pub whole-touches : {q : ℕ} → found ≡ step.Touches q → seen r room₁ ≡ scan write (places (flip cs q) ∷ []) (seen st room) →
@@ -178,6 +166,6 @@ module _ {bs ix m : List ℕ} {p k : ℕ} {write : Bool} {st : Emit} {room ws : 
             follows-as write (whole-case (chainsIn bs ix p k) l cs (st .next) (statementAt p bs ix depth i) (h .2) (h .3)) (two-parts bs ix p k l (statementAt p bs ix (depth - 1) x) (statementAt p bs ix (depth - 1) y) (asking q false cs) (asking q true cs) R F (use-whole B′ (ready-then R F) (roomy-asking nz C q true))))
 
 pub ruleset wholes = (
-    needs, whole-stopped, whole-spent, whole-nothing, whole-holds, whole-both, whole-either, whole-negates, whole-touches, whole-calls, whole-chosen,
+    needs, whole-stopped, whole-spent, whole-idle, whole-touches, whole-calls, whole-chosen,
     whole-sequence, whole-branches
   )

@@ -1,6 +1,5 @@
 -- What the step of a record says of the positions that the statement there touches, and one law for each way out of the walk over a body.
 use mathlib.Core.Path.{_≡_, sym, ap, _∙_}
-use mathlib.Core.Bool.{Bool}
 use mathlib.Core.List.{List}
 use Prim.Native.Nat.{ℕ, _-_, _≤_, _<_, min}
 use native.Mathlib.Omega.{arith}
@@ -16,7 +15,7 @@ use Rattle.table.specs.Index.{testAt, statementAt}
 use Rattle.step.specs.declared.Step.{Step}
 use Rattle.step.specs.declared.Step.the-variants as step
 use Rattle.step.specs.Steps.{stepAt}
-use Rattle.step.proofs.Says.{at-step, spent-skip}
+use Rattle.step.proofs.Says.{Idle, at-step, idle-skip, spent-skip}
 use Rattle.step.proofs.Choosing.{chosen-means}
 use Rattle.faults.specs.Touches.{CallTouches, joined, closes, callTouches, touches}
 use Rattle.faults.specs.Rows.{rowOf, marked, closedRow, knownTouches}
@@ -49,21 +48,8 @@ module _ (known : List ℕ) (p : ℕ) (bs ix : List ℕ) (m depth i : ℕ) where
   walk-deep e = idle (spent-skip p bs ix depth i e)
 
   module _ (l : List ℕ) (st : Step) (deep : depth ≡ 0 → ⊥) (listed : l ≡ qubits (min m 32)) (steps : st ≡ stepAt p bs ix i l) where
-    pub walk-nothing : st ≡ step.Nothing → 0 ≡ rowAt known p bs ix m depth i
-    walk-nothing e = idle (at-step p bs ix depth i l deep steps e)
-
-    -- a condition stands where a statement is asked for
-    pub walk-holds : (b : Bool) → st ≡ step.Holds b → 0 ≡ rowAt known p bs ix m depth i
-    walk-holds b e = idle (at-step p bs ix depth i l deep steps e)
-
-    pub walk-both : (a b : ℕ) → st ≡ step.Both a b → 0 ≡ rowAt known p bs ix m depth i
-    walk-both a b e = idle (at-step p bs ix depth i l deep steps e)
-
-    pub walk-either : (a b : ℕ) → st ≡ step.Either a b → 0 ≡ rowAt known p bs ix m depth i
-    walk-either a b e = idle (at-step p bs ix depth i l deep steps e)
-
-    pub walk-negates : (a : ℕ) → st ≡ step.Negates a → 0 ≡ rowAt known p bs ix m depth i
-    walk-negates a e = idle (at-step p bs ix depth i l deep steps e)
+    pub walk-idle : (x : Step) → st ≡ x → Idle x → 0 ≡ rowAt known p bs ix m depth i
+    walk-idle x e o = idle (idle-skip p bs ix depth i l deep steps x e o)
 
     module _ (row : ℕ) where
       pub walk-touches : (q : ℕ) → st ≡ step.Touches q → row ≡ marked 0 q → row ≡ rowAt known p bs ix m depth i
@@ -107,5 +93,4 @@ module _ (known : List ℕ) (p : ℕ) (bs ix : List ℕ) (m depth i : ℕ) where
         rw (h .2, ← listed, ← h .3)
           (c ∙ rw together (closes-rows (knownTouches known) (statementAt p bs ix (depth - 1) a) (statementAt p bs ix (depth - 1) b) m q))
 
-pub ruleset walking = (needs, walk-deep, walk-nothing, walk-touches, walk-sequence, walk-chosen, walk-branches, walk-calls,
-    walk-holds, walk-both, walk-either, walk-negates)
+pub ruleset walking = (needs, walk-deep, walk-idle, walk-touches, walk-sequence, walk-chosen, walk-branches, walk-calls)

@@ -20,7 +20,7 @@ use Rattle.model.proofs.ListLaws.{member-head, member-tail, member-nil,
 use Rattle.model.proofs.ListLaws.{touched-member, Data, data-zero, qubits-data, range-length}
 use Rattle.model.proofs.GateLaws.{flipped-other}
 use Rattle.model.proofs.Calls.{Named, Ranked, rank, rank-all, all-ranked}
-use Rattle.model.proofs.Fuel.{does-yes, does-no, does-zero, does-one, faults-yes, faults-no, call-falls}
+use Rattle.model.proofs.Fuel.{does-yes, does-no, does-zero, does-one, faults-yes, faults-no, call-falls, no-fuel}
 use Rattle.model.proofs.Figure2.{condition-is, set-derived, qubit-derived, condition-one, set-one, qubit-one}
 
 -- A \ {q}: the clauses of `without` by their test
@@ -158,10 +158,7 @@ module _ (P : Program) (rank : ℕ → ℕ) (R : (f : ℕ) → Ranked rank (recu
   body-ends : (fuel f : ℕ) (l : List ℕ) (s : State) (A closed : List ℕ) → 0 < length l → rank f + length l ≤ fuel → Opens l A closed →
       Ends P (body P f) s A l (callDoesWithin P fuel f l s) (callFaultsWithin P fuel f l closed)
   unfolding callDoesWithin callFaultsWithin
-  body-ends zero f l s A closed some le h = absurd (nothing some le)
-    where
-      nothing : 0 < length l → rank f + length l ≤ 0 → ⊥
-      nothing x y = omega arith
+  body-ends zero f l s A closed some le h = absurd (no-fuel rank f l some le)
   body-ends (suc fuel) f l s A closed some le h =
     ends P rank (callDoesWithin P fuel) (callFaultsWithin P fuel) (recursive P f) (rank f) l some
       (λ g l′ s′ A′ closed′ some′ lt h′. body-ends fuel g l′ s′ A′ closed′ some′ (omega arith) h′) (body P f) (R f) s A closed h

@@ -89,33 +89,25 @@ module _ (rank : ℕ → ℕ) (r : ℕ → Bool) (k : ℕ) (l : List ℕ) (some 
     rw (faults-agree o o′ A t (touched rs a l ∷ closed) (q .0), faults-agree o o′ A u (touched rs a l ∷ closed) (q .1))
   faults-agree o o′ A (call rs f) closed q = callFaults-agree rank (k + length l) o o′ A f (remaining rs l) closed (call-falls rs f q)
 
+-- no fuel is never enough
+pub no-fuel : (rank : ℕ → ℕ) (f : ℕ) (l : List ℕ) → 0 < length l → rank f + length l ≤ 0 → ⊥
+no-fuel rank f l some h = omega arith
+
 module _ (P : Program) (rank : ℕ → ℕ) (R : (f : ℕ) → Ranked rank (recursive P f) (rank f) (body P f)) where
   -- all fuel from rank + length on is the same
   pub fuel-does : (a b f : ℕ) (l : List ℕ) (s : State) → 0 < length l → rank f + length l ≤ a → rank f + length l ≤ b →
       callDoesWithin P a f l s ≡ callDoesWithin P b f l s
   unfolding callDoesWithin
-  fuel-does zero b f l s some ha hb = absurd (nothing some ha)
-    where
-      nothing : 0 < length l → rank f + length l ≤ 0 → ⊥
-      nothing x y = omega arith
-  fuel-does (suc a) zero f l s some ha hb = absurd (nothing some hb)
-    where
-      nothing : 0 < length l → rank f + length l ≤ 0 → ⊥
-      nothing x y = omega arith
+  fuel-does zero b f l s some ha hb = absurd (no-fuel rank f l some ha)
+  fuel-does (suc a) zero f l s some ha hb = absurd (no-fuel rank f l some hb)
   fuel-does (suc a) (suc b) f l s some ha hb = does-agree rank (recursive P f) (rank f) l some (callDoesWithin P a) (callDoesWithin P b)
     (λ g l′ s′ some′ h. fuel-does a b g l′ s′ some′ (omega arith) (omega arith)) (body P f) s (R f)
 
   pub fuel-faults : (a b f : ℕ) (l closed : List ℕ) → 0 < length l → rank f + length l ≤ a → rank f + length l ≤ b →
       callFaultsWithin P a f l closed ≡ callFaultsWithin P b f l closed
   unfolding callFaultsWithin
-  fuel-faults zero b f l closed some ha hb = absurd (nothing some ha)
-    where
-      nothing : 0 < length l → rank f + length l ≤ 0 → ⊥
-      nothing x y = omega arith
-  fuel-faults (suc a) zero f l closed some ha hb = absurd (nothing some hb)
-    where
-      nothing : 0 < length l → rank f + length l ≤ 0 → ⊥
-      nothing x y = omega arith
+  fuel-faults zero b f l closed some ha hb = absurd (no-fuel rank f l some ha)
+  fuel-faults (suc a) zero f l closed some ha hb = absurd (no-fuel rank f l some hb)
   fuel-faults (suc a) (suc b) f l closed some ha hb = faults-agree rank (recursive P f) (rank f) l some (callFaultsWithin P a) (callFaultsWithin P b)
     (λ g l′ closed′ some′ h. fuel-faults a b g l′ closed′ some′ (omega arith) (omega arith)) (body P f) closed (R f)
 

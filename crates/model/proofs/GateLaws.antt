@@ -126,18 +126,18 @@ fires-renamed cs s u v nu nv = fires-same cs (renamed (exchange u v) s) s
     (λ w m. ap s (exchange-other u v w (asked-differs cs w u m nu) (asked-differs cs w v m nv)))
 
 -- one control more
+exchanged : (a b c : Bool) → b && (a && c) ≡ a && (b && c)
+exchanged true true c = refl
+exchanged true false c = refl
+exchanged false true c = refl
+exchanged false false c = refl
+
 allOne-insert : (w : ℕ) (l : List ℕ) (s : State) → allOne (insert w l) s ≡ s w && allOne l s
 unfolding insert allOne
 allOne-insert w [] s = refl
 allOne-insert w (x ∷ l) s = byBool (ltb w x)
     (λ e. rw (e, insert) refl)
     (λ e. rw (e, insert) (rw (allOne-insert w l s) (exchanged (s w) (s x) (allOne l s))))
-  where
-    exchanged : (a b c : Bool) → b && (a && c) ≡ a && (b && c)
-    exchanged true true c = refl
-    exchanged true false c = refl
-    exchanged false true c = refl
-    exchanged false false c = refl
 
 allZero-insert : (w : ℕ) (l : List ℕ) (s : State) → allZero (insert w l) s ≡ not (s w) && allZero l s
 unfolding insert allZero
@@ -145,12 +145,6 @@ allZero-insert w [] s = refl
 allZero-insert w (x ∷ l) s = byBool (ltb w x)
     (λ e. rw (e, insert) refl)
     (λ e. rw (e, insert) (rw (allZero-insert w l s) (exchanged (not (s w)) (not (s x)) (allZero l s))))
-  where
-    exchanged : (a b c : Bool) → b && (a && c) ≡ a && (b && c)
-    exchanged true true c = refl
-    exchanged true false c = refl
-    exchanged false true c = refl
-    exchanged false false c = refl
 
 pub fires-none : (s : State) → fires noControls s ≡ true
 unfolding fires allOne allZero

@@ -17,6 +17,7 @@ use Rattle.model.specs.Reading.{ConditionKind, greaters, atLeasts, equal
 use Rattle.model.specs.Reading.{requiredMap, optionalMap, permitted, stands, Fields, optional, fields, known, opening, counted, contents}
 use Rattle.model.specs.Reading.{two, conditionOf, condition, statementOf, statement, statements, trees, readTable}
 use Rattle.model.specs.Reach.{calls}
+use Rattle.model.specs.Answers.{Outcome, gives, refuses, outcome}
 use Rattle.model.proofs.Tests.{clash, and-left, and-right, or-cases}
 use Rattle.model.proofs.Calls.{Named}
 
@@ -283,6 +284,19 @@ read-end bs e = (rw e at (reads-table bs)) .2
 -- the reader of tables gives no refusal but 1 to 8
 pub read-refusal : (bs : List ℕ) {k : ℕ} → readTable bs ≡ refused k → (1 ≤ k) × (k ≤ 8)
 read-refusal bs e = rw e at (reads-table bs)
+
+-- the same of the reader's outcome
+abbrev pub WasRead : Outcome Program → Type 0
+WasRead (gives P) = Named P × (count P ≤ mostProcedures)
+WasRead (refuses k) = (1 ≤ k) × (k ≤ 8)
+
+pub outcome-read : (bs : List ℕ) → WasRead (outcome (readTable bs))
+unfolding outcome
+outcome-read bs = by-reading (readTable bs) (reads-table bs)
+  where
+    by-reading : (x : Parsed Program) → Reads TableRead Low x → WasRead (outcome x)
+    by-reading (parsed P i) r = (r .1, r .0)
+    by-reading (refused k) r = r
 
 -- What lies past the records that a table may have is never looked at.
 

@@ -2,7 +2,7 @@
 use mathlib.Core.Path.{_≡_, sym, ap}
 use mathlib.Core.Bool.{Bool, true, false, true≢false}
 use Prim.Native.Nat.{ℕ}
-use Rattle.model.specs.Answers.{Outcome, gives, refuses, valueOr, number}
+use Rattle.model.specs.Answers.{Outcome, gives, refuses, valueOr}
 
 unfoldable isGiven : {A : Type 0} → Outcome A → Bool
 isGiven (gives a) = true
@@ -16,6 +16,3 @@ pub gives-same : {A : Type 0} {a b : A} → gives a ≡ gives b → a ≡ b
 unfolding valueOr
 gives-same {a = a} e = ap (valueOr a) e
 
-pub refuses-same : {A : Type 0} {j k : ℕ} → _≡_ {A = Outcome A} (refuses j) (refuses k) → j ≡ k
-unfolding number
-refuses-same e = ap number e

@@ -21,7 +21,7 @@ use Rattle.step.specs.declared.Step.{Step}
 use Rattle.step.specs.declared.Step.the-variants as step
 use Rattle.step.specs.Steps.{stepAt}
 use Rattle.step.proofs.Places.{less-one}
-use Rattle.step.proofs.Says.{at-step, spent-skip}
+use Rattle.step.proofs.Says.{Idle, at-step, idle-skip, spent-skip}
 use Rattle.step.proofs.Choosing.{chosen-means}
 use Rattle.run.specs.Words.{bitFlipped, flippedWord, bitOf, callWords, wordDoes, callWordsWithin, ranWord, walked, called}
 use Rattle.model.proofs.Words.{tested, shifted}
@@ -73,8 +73,8 @@ module _ (p : ℕ) (bs ix : List ℕ) (depth i : ℕ) (l : List ℕ) (fuel word 
   unfolding wordDoes
   skipped e = rw e
 
-  pub walk-nothing : st ≡ step.Nothing → word ≡ walked p bs ix depth i l fuel word
-  walk-nothing e = skipped (at-step p bs ix depth i l deep steps e)
+  pub walk-idle : (x : Step) → st ≡ x → Idle x → word ≡ walked p bs ix depth i l fuel word
+  walk-idle x e o = skipped (idle-skip p bs ix depth i l deep steps x e o)
 
   -- NOT flips the bit of the qubit that it touches
   pub walk-touches : (q r : ℕ) → st ≡ step.Touches q → r ≡ flippedWord q word → r ≡ walked p bs ix depth i l fuel word
@@ -117,19 +117,6 @@ module _ (p : ℕ) (bs ix : List ℕ) (depth i : ℕ) (l : List ℕ) (fuel word 
   unfolding wordDoes
   walk-calls f at r rest e left h = rw (at-step p bs ix depth i l deep steps e, ← left) h
 
-  -- a condition where a statement is asked for is skip: a comparison, and, or, not
-  pub walk-holds : (b : Bool) → st ≡ step.Holds b → word ≡ walked p bs ix depth i l fuel word
-  walk-holds b e = skipped (at-step p bs ix depth i l deep steps e)
-
-  pub walk-both : (a b : ℕ) → st ≡ step.Both a b → word ≡ walked p bs ix depth i l fuel word
-  walk-both a b e = skipped (at-step p bs ix depth i l deep steps e)
-
-  pub walk-either : (a b : ℕ) → st ≡ step.Either a b → word ≡ walked p bs ix depth i l fuel word
-  walk-either a b e = skipped (at-step p bs ix depth i l deep steps e)
-
-  pub walk-negates : (a : ℕ) → st ≡ step.Negates a → word ≡ walked p bs ix depth i l fuel word
-  walk-negates a e = skipped (at-step p bs ix depth i l deep steps e)
-
 -- ---- call
 
 module _ (p : ℕ) (bs ix : List ℕ) where
@@ -171,7 +158,6 @@ module _ (p : ℕ) (bs ix : List ℕ) where
     rw (count-at p bs ix) (rw (root, all, len) at h)
 
 pub ruleset walking = (
-    needs, walk-spent, walk-nothing, walk-touches, walk-sequence, walk-chosen, walk-zero, walk-one, walk-calls,
-    walk-holds, walk-both, walk-either, walk-negates)
+    needs, walk-spent, walk-idle, walk-touches, walk-sequence, walk-chosen, walk-zero, walk-one, walk-calls)
 
 pub ruleset calling = (needs, call-empty, call-spent, call-past, call-body)
