@@ -1,8 +1,9 @@
 -- The ways out of the code: one law for each, from what its callees ensure to what the word becomes.
 use mathlib.Core.Path.{_≡_, refl, sym, ap, _∙_}
-use mathlib.Core.Bool.{Bool, true, false}
+use mathlib.Core.Bool.{false}
 use mathlib.Core.List.{List, [], _∷_}
 use Prim.Native.Nat.{ℕ, zero, suc, _+_, _-_, _*_, _/_, _%_, _^_, _≤_, _<_}
+use native.Mathlib.Nat.{le-refl}
 use native.Mathlib.Omega.{arith}
 use borrow.Author.Needs.{needs}
 use borrow.Author.Tests.{lt-ltb}
@@ -13,6 +14,7 @@ use Rattle.model.specs.Limits.{mostQubits, mostDepth}
 use Rattle.model.specs.Syntax.{skip}
 use Rattle.model.specs.Lists.{qubits, remaining, holds}
 use Rattle.model.specs.Meaning.{stateOf}
+use Rattle.model.proofs.Tests.{byBool}
 use Rattle.model.proofs.Calls.{body-out}
 use Rattle.model.proofs.ListLaws.{range-length}
 use Rattle.records.specs.Fields.{pick, removalsOf}
@@ -61,61 +63,63 @@ bit-bit (suc k) word some h = rw (qubit-is (suc k) h, less-one k) (tested word k
 
 -- ---- walk
 
--- too deep is nothing
-pub walk-spent : (p : ℕ) (bs ix : List ℕ) (depth i : ℕ) (l : List ℕ) (fuel word : ℕ) → depth ≡ 0 → word ≡ walked p bs ix depth i l fuel word
-unfolding wordDoes
-walk-spent p bs ix depth i l fuel word e = rw (spent-skip p bs ix depth i e)
-
-module _ (p : ℕ) (bs ix : List ℕ) (depth i : ℕ) (l : List ℕ) (fuel word : ℕ) (st : Step)
-    (deep : depth ≡ 0 → ⊥) (steps : st ≡ stepAt p bs ix i l) where
+-- what its loop keeps: the statement at record `at` makes of the word as it is now what the whole statement makes of the word given
+module _ (p : ℕ) (bs ix : List ℕ) (left at : ℕ) (l : List ℕ) (fuel word whole : ℕ) (inv : walked p bs ix left at l fuel word ≡ whole) where
   -- skip gives its word back
-  skipped : statementAt p bs ix depth i ≡ skip → word ≡ walked p bs ix depth i l fuel word
+  skipped : statementAt p bs ix left at ≡ skip → word ≡ whole
   unfolding wordDoes
-  skipped e = rw e
+  skipped e = rw (← inv, e)
 
-  pub walk-idle : (x : Step) → st ≡ x → Idle x → word ≡ walked p bs ix depth i l fuel word
-  walk-idle x e o = skipped (idle-skip p bs ix depth i l deep steps x e o)
+  -- too deep is nothing
+  pub walk-spent : left ≤ 0 → word ≡ whole
+  walk-spent h = skipped (spent-skip p bs ix left at (omega arith))
 
-  -- NOT flips the bit of the qubit that it touches
-  pub walk-touches : (q r : ℕ) → st ≡ step.Touches q → r ≡ flippedWord q word → r ≡ walked p bs ix depth i l fuel word
-  unfolding wordDoes
-  walk-touches q r e h = let t = at-step p bs ix depth i l deep steps e in rw (t .2) (h ∙ ap (λ (x : ℕ). flippedWord x word) (t .3))
+  module _ (st : Step) (more : 0 < left) (steps : st ≡ stepAt p bs ix at l) where
+    deep : left ≡ 0 → ⊥
+    deep e = omega arith
 
-  -- a sequence hands the first statement's word to the second
-  pub walk-sequence : (a b middle r : ℕ) → st ≡ step.Sequence a b → middle ≡ walked p bs ix (depth - 1) a l fuel word →
-      r ≡ walked p bs ix (depth - 1) b l fuel middle → r ≡ walked p bs ix depth i l fuel word
-  unfolding wordDoes
-  walk-sequence a b middle r e first second = rw (at-step p bs ix depth i l deep steps e)
-    (second ∙ ap (λ (x : ℕ). walked p bs ix (depth - 1) b l fuel x) first)
+    pub walk-idle : (x : Step) → st ≡ x → Idle x → word ≡ whole
+    walk-idle x e o = skipped (idle-skip p bs ix left at l deep steps x e o)
 
-  -- if goes on as the statement that is chosen
-  pub walk-chosen : (c a b x r : ℕ) → st ≡ step.Chooses c a b → x ≡ pick (holds (testAt p bs ix (depth - 1) c) (length l)) a b →
-      r ≡ walked p bs ix (depth - 1) x l fuel word → r ≡ walked p bs ix depth i l fuel word
-  walk-chosen c a b x r e q h =
-    let calls = callWordsWithin (programAt p bs ix) fuel in
-    h ∙ sym (chosen-means (λ s. wordDoes calls s l word) l (λ c s t. word-yes calls c s t l word) (λ c s t. word-no calls c s t l word)
-      p bs ix depth i deep steps e q)
+    -- NOT flips the bit of the qubit that it touches
+    pub walk-touches : (q r : ℕ) → st ≡ step.Touches q → r ≡ flippedWord q word → r ≡ whole
+    unfolding wordDoes
+    walk-touches q r e h = let t = at-step p bs ix left at l deep steps e in rw (← inv, t .2) (h ∙ ap (λ (x : ℕ). flippedWord x word) (t .3))
 
-  module _ (q a b : ℕ) (t : Bool) (r : ℕ) (e : st ≡ step.Branches q a b) (reads : t ≡ bitOf q word) where
-    -- qcase goes on as zero where it reads 0
-    pub walk-zero : t ≡ false → r ≡ walked p bs ix (depth - 1) a l fuel word → r ≡ walked p bs ix depth i l fuel word
-    walk-zero y h = let s = at-step p bs ix depth i l deep steps e in rw (s .2)
-      (h ∙ sym (word-zero (callWordsWithin (programAt p bs ix) fuel) (s .0) (s .1)
-        (statementAt p bs ix (depth - 1) a) (statementAt p bs ix (depth - 1) b) l word
-        (ap (λ (x : ℕ). bitOf x word) (sym (s .3)) ∙ sym reads ∙ y)))
+    -- a sequence hands the first statement's word to the second
+    pub walk-sequence : (a b middle : ℕ) → st ≡ step.Sequence a b → middle ≡ walked p bs ix (left - 1) a l fuel word →
+        walked p bs ix (left - 1) b l fuel middle ≡ whole
+    unfolding wordDoes
+    walk-sequence a b middle e first = rw (← inv, at-step p bs ix left at l deep steps e)
+      (ap (λ (x : ℕ). walked p bs ix (left - 1) b l fuel x) first)
 
-    -- as one where it reads 1
-    pub walk-one : t ≡ true → r ≡ walked p bs ix (depth - 1) b l fuel word → r ≡ walked p bs ix depth i l fuel word
-    walk-one y h = let s = at-step p bs ix depth i l deep steps e in rw (s .2)
-      (h ∙ sym (word-one (callWordsWithin (programAt p bs ix) fuel) (s .0) (s .1)
-        (statementAt p bs ix (depth - 1) a) (statementAt p bs ix (depth - 1) b) l word
-        (ap (λ (x : ℕ). bitOf x word) (sym (s .3)) ∙ sym reads ∙ y)))
+    -- if goes on as the statement that is chosen
+    pub walk-chosen : (c a b x : ℕ) → st ≡ step.Chooses c a b → x ≡ pick (holds (testAt p bs ix (left - 1) c) (length l)) a b →
+        walked p bs ix (left - 1) x l fuel word ≡ whole
+    walk-chosen c a b x e q =
+      let calls = callWordsWithin (programAt p bs ix) fuel in
+      sym (chosen-means (λ s. wordDoes calls s l word) l (λ c s t. word-yes calls c s t l word) (λ c s t. word-no calls c s t l word)
+        p bs ix left at deep steps e q) ∙ inv
 
-  -- a call hands its word on, with what its removals left
-  pub walk-calls : (f at r : ℕ) (rest : List ℕ) → st ≡ step.Calls f at → rest ≡ remaining (removalsOf bs at) l →
-      r ≡ called p bs ix f rest fuel word → r ≡ walked p bs ix depth i l fuel word
-  unfolding wordDoes
-  walk-calls f at r rest e left h = rw (at-step p bs ix depth i l deep steps e, ← left) h
+    -- qcase reads the bit of the qubit it touches and goes on as zero or one
+    pub walk-taken : (q a b x : ℕ) → st ≡ step.Branches q a b → x ≡ pick (bitOf q word) b a → walked p bs ix (left - 1) x l fuel word ≡ whole
+    walk-taken q a b x e k =
+      let calls = callWordsWithin (programAt p bs ix) fuel in
+      let s = at-step p bs ix left at l deep steps e in
+      let part = statementAt p bs ix (left - 1) in
+      let reads = ap (λ (y : ℕ). bitOf y word) (s .3) in
+      rw (← inv, s .2) (byBool (bitOf q word)
+        (λ h. rw (k, h) (sym (word-one calls (s .0) (s .1) (part a) (part b) l word (sym reads ∙ h))))
+        (λ h. rw (k, h) (sym (word-zero calls (s .0) (s .1) (part a) (part b) l word (sym reads ∙ h)))))
+
+    -- a call hands its word on, with what its removals left
+    pub walk-calls : (f place r : ℕ) (rest : List ℕ) → st ≡ step.Calls f place → rest ≡ remaining (removalsOf bs place) l →
+        r ≡ called p bs ix f rest fuel word → r ≡ whole
+    unfolding wordDoes
+    walk-calls f place r rest e kept h = rw (← inv, at-step p bs ix left at l deep steps e, ← kept) h
+
+pub less-deep : (left depth : ℕ) → left ≤ depth → left - 1 ≤ depth
+less-deep left depth h = omega arith
 
 -- ---- call
 
@@ -158,6 +162,6 @@ module _ (p : ℕ) (bs ix : List ℕ) where
     rw (count-at p bs ix) (rw (root, all, len) at h)
 
 pub ruleset walking = (
-    needs, walk-spent, walk-idle, walk-touches, walk-sequence, walk-chosen, walk-zero, walk-one, walk-calls)
+    needs, le-refl, less-deep, walk-spent, walk-idle, walk-touches, walk-sequence, walk-chosen, walk-taken, walk-calls)
 
 pub ruleset calling = (needs, call-empty, call-spent, call-past, call-body)

@@ -3,6 +3,7 @@ ghost use mathlib.Core.Path.{_≡_};
 ghost use Prim.Native.Nat.{min};
 ghost use Rattle.table.specs.Index.{programAt};
 ghost use Rattle.step.specs.Steps.{qubitsOf};
+ghost use Rattle.records.specs.Fields.{pick};
 ghost use Rattle.run.specs.Words.{flippedWord, bitOf, walked, called, ranWord};
 ghost use Rattle.run.specs.Answers.{answerOf};
 ghost use Rattle.model.specs.Answers as model;
@@ -40,38 +41,41 @@ fn bit(word: u64, q: u8) -> bool
     (word >> (q - 1)) & 1 == 1
 }
 
+// A qcase goes on as one of its two statements: as `one` where the bit of its qubit is 1, otherwise as `zero`.
+fn taken(word: u64, q: u8, zero: usize, one: usize) -> usize
+    ensures { λ r. ⌜ r ≡ pick (bitOf q word) one zero ⌝ }
+{
+    if bit(word, q) { one } else { zero }
+}
+
 // What the statement at record i makes of a word, on the whole list of its procedure. It is followed `depth` records down, and its calls
-// `fuel` deep.
+// `fuel` deep. An if, a qcase and the second statement of a sequence go on in place.
 fn walk(table: &[u8], index: &[u16], p: u8, i: usize, depth: u8, list: Qubits, fuel: u16, word: u64) -> u64
     ensures { λ r. ⌜ r ≡ walked p (now (table .entry)) (now (index .entry)) depth i (qubitsOf list) fuel word ⌝ }
 {
-    if depth == 0 {
-        return word;
-    }
-    let step = step_at(table, index, p, i, list);
-    match step {
-        Step::Touches(q) => flip(word, q),
-        Step::Sequence(first, second) => {
-            let middle = walk(table, index, p, first, depth - 1, list, fuel, word);
-            walk(table, index, p, second, depth - 1, list, fuel, middle)
-        }
-        Step::Chooses(condition, yes, no) => {
-            let part = chosen(table, index, p, condition, yes, no, list, depth - 1);
-            walk(table, index, p, part, depth - 1, list, fuel, word)
-        }
-        Step::Branches(q, zero, one) => {
-            if bit(word, q) {
-                return walk(table, index, p, one, depth - 1, list, fuel, word);
+    let mut at = i;
+    let mut left = depth;
+    let mut current = word;
+    while 0 < left {
+        let step = step_at(table, index, p, at, list);
+        left -= 1;
+        match step {
+            Step::Touches(q) => return flip(current, q),
+            Step::Sequence(first, second) => {
+                current = walk(table, index, p, first, left, list, fuel, current);
+                at = second;
             }
-            walk(table, index, p, zero, depth - 1, list, fuel, word)
+            Step::Chooses(condition, yes, no) => at = chosen(table, index, p, condition, yes, no, list, left),
+            Step::Branches(q, zero, one) => at = taken(current, q, zero, one),
+            Step::Calls(f, removals) => return call(table, index, p, f, remaining(table, removals, list), fuel, current),
+            Step::Nothing => return current,
+            Step::Holds(_) => return current,
+            Step::Both(_, _) => return current,
+            Step::Either(_, _) => return current,
+            Step::Negates(_) => return current,
         }
-        Step::Calls(f, at) => call(table, index, p, f, remaining(table, at, list), fuel, word),
-        Step::Nothing => word,
-        Step::Holds(_) => word,
-        Step::Both(_, _) => word,
-        Step::Either(_, _) => word,
-        Step::Negates(_) => word,
     }
+    current
 }
 
 // What a call of procedure f makes of a word: its body goes on with the list that the removals left, and with all its depth. No table that was

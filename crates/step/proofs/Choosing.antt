@@ -15,7 +15,7 @@ use Rattle.step.specs.declared.Step.the-variants as step
 use Rattle.step.specs.Steps.{stepAt}
 use Rattle.step.proofs.Says.{at-step}
 
--- the ways out of `chosen`
+-- the ways out of `chosen`, and of any choice between two numbers
 module _ (t b : Bool) (i j : ℕ) (e : t ≡ b) where
   pub choose-yes : t ≡ true → i ≡ pick b i j
   choose-yes h = rw (← e, h)

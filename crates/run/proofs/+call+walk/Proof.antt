@@ -1,8 +1,11 @@
 -- `run::walk` and `run::call` meet their contracts: the fuel falls at each call, the depth within a body, and each way out is one law.
 -- Assumes nothing.
-use Prim.Native.Nat.{ℕ, _+_, _*_, _<_}
+use mathlib.Core.Path.{_≡_}
+use Prim.Native.Nat.{ℕ, _+_, _*_, _≤_, _<_}
 use borrow.Fn.Kinds.{In}
 use borrow.Fn.PlainCycle.{Measures, is, falls, and}
+use Rattle.step.specs.Steps.{qubitsOf}
+use Rattle.run.specs.Words.{walked}
 use Rattle.run.proofs.Walks.{calling, walking}
 use Rattle.run.proofs.call.Reads as call
 use Rattle.run.proofs.call.Kinds as call-kinds
@@ -10,8 +13,8 @@ use Rattle.run.proofs.+call+walk.Lts-call as call-lts
 use Rattle.run.proofs.walk.Reads as walk
 use Rattle.run.proofs.walk.Kinds as walk-kinds
 use Rattle.run.proofs.+call+walk.Lts-walk as walk-lts
-use Rattle.run.proofs.bit.Reads as bit-reads
 use Rattle.run.proofs.flip.Reads as flip-reads
+use Rattle.run.proofs.taken.Reads as taken-reads
 use Rattle.reach.proofs.root.Reads as root-reads
 use Rattle.step.proofs.chosen.Reads as chosen-reads
 use Rattle.step.proofs.remaining.Reads as remaining-reads
@@ -37,6 +40,14 @@ walk-at t = and 2 walk-kinds.ps (is 2 walk-kinds.ps μ-walk t) walk.Pre
 
 abbrev walk-below : ℕ → In 2 walk-kinds.ps
 walk-below t = and 2 walk-kinds.ps (falls 2 walk-kinds.ps _<_ μ-walk t) walk.Pre
+
+-- what the statement at record `at` makes of the word as it is now is what the whole statement makes of the word given
+abbrev walk-Inv-loop : walk-lts.InvT-loop
+walk-Inv-loop table index p i depth list fuel word at₀ left₀ current₀ at left current =
+    (left ≤ depth) × (walked p table index left at (qubitsOf list) fuel current ≡ walked p table index depth i (qubitsOf list) fuel word)
+
+abbrev walk-μ-loop : walk-lts.MeasureT-loop
+walk-μ-loop table index p i depth list fuel word at₀ left₀ current₀ at left current = left
 
 pub +call+walk-spec : {M : Type 1} → statement M
 +call+walk-spec = close μ-call μ-walk (λ t. call-lts.spec (
@@ -66,8 +77,8 @@ pub +call+walk-spec : {M : Type 1} → statement M
       walk.Post,
       chosen-reads.Asked,
       chosen-reads.Learnt,
-      bit-reads.Asked,
-      bit-reads.Learnt,
+      taken-reads.Asked,
+      taken-reads.Learnt,
       remaining-reads.Asked,
       remaining-reads.Learnt,
       call-below t,
@@ -75,33 +86,29 @@ pub +call+walk-spec : {M : Type 1} → statement M
     )
     (walk-at t)
     walk.Post
-    (λ c. search walking)
-    (λ c κs. search walking)
-    (λ c. search walking)
-    (λ c κs. search walking)
-    (λ c. search walking)
-    (λ c. search walking)
-    (λ c κs. search walking)
+    walk-Inv-loop
+    walk-μ-loop
     (λ c. search walking)
     (λ c κs. search walking)
     (λ c. search walking)
     (λ c. search walking)
     (λ c κs. search walking)
     (λ c. search walking)
-    (λ c κs. search walking)
-    (λ c. search walking)
-    (λ c κs. search walking)
     (λ c. search walking)
     (λ c κs. search walking)
     (λ c. search walking)
     (λ c. search walking)
-    (λ c κs. search walking)
     (λ c. search walking)
-    (λ c κs. search walking)
     (λ c κs. search walking)
     (λ c. search walking)
     (λ c. search walking)
     (λ c. search walking)
+    (λ c κs. search walking)
+    (λ c. search walking)
+    (λ c. search walking)
+    (λ c. search walking)
+    (λ c κs. search walking)
+    (λ c κs. search walking)
     (λ c. search walking)
     (λ c. search walking)
     (λ c. search walking)
