@@ -11,7 +11,9 @@ use Rattle.model.specs.Syntax.{Number, Condition, Statement, skip, NOT, sequenc
 use Rattle.model.specs.Lists.{remaining, holds, member}
 use Rattle.model.specs.Reach.{width}
 use Rattle.model.specs.Gates.{Controls}
-use Rattle.model.specs.Emission.{Chains, startChain, whole, Invocation, invoked, isWide, invocations, invokes, returns, left, right, Emitted, bodyInvocations, around, bodies}
+use Rattle.model.specs.Emission.{
+  Chains, startChain, whole, Invocation, invoked, isWide, invocations, invokes, returns, left, right, Emitted, bodyInvocations, around, bodies,
+}
 use Rattle.model.proofs.Tests.{byBool, not-zero}
 use Rattle.model.proofs.Calls.{Ranked}
 
@@ -83,11 +85,13 @@ module _ (chains : Chains) (r : ℕ → Bool) (l : List ℕ) (cs : Controls) (ne
   unfolding right
   right-thin s t top e = rw (e, right)
 
-  pub right-yes : (c : Condition) (s t : Statement) (top : ℕ) → holds c (length l) ≡ true → right chains r (if c s t) l cs next top ≡ right chains r s l cs next top
+  pub right-yes : (c : Condition) (s t : Statement) (top : ℕ) → holds c (length l) ≡ true →
+      right chains r (if c s t) l cs next top ≡ right chains r s l cs next top
   unfolding right
   right-yes c s t top e = rw (e, right)
 
-  pub right-no : (c : Condition) (s t : Statement) (top : ℕ) → holds c (length l) ≡ false → right chains r (if c s t) l cs next top ≡ right chains r t l cs next top
+  pub right-no : (c : Condition) (s t : Statement) (top : ℕ) → holds c (length l) ≡ false →
+      right chains r (if c s t) l cs next top ≡ right chains r t l cs next top
   unfolding right
   right-no c s t top e = rw (e, right)
 

@@ -10,7 +10,9 @@ use Rattle.model.specs.Syntax.{Statement, skip, NOT, sequence, if, qcase, call,
 use Rattle.model.specs.Reach.{calls, reaches, recursive, anyLacksRemoval}
 use Rattle.model.specs.Bound.{largest, fallsTo, classesWithin, rOf}
 use Rattle.model.proofs.Tests.{byBool, byEq, byLt, eqb-same, clash, not-true-false, and-left, and-right, and-both, or-left, or-right}
-use Rattle.model.proofs.Calls.{Named, Ranked, rank, rank-positive, rank-all, rank-falls, all-ranked, body-out, reach-sound, reached-named, reach-call, reach-trans}
+use Rattle.model.proofs.Calls.{
+  Named, Ranked, rank, rank-positive, rank-all, rank-falls, all-ranked, body-out, reach-sound, reached-named, reach-call, reach-trans,
+}
 use Rattle.agreement.proofs.Clauses.{Low}
 
 -- the clauses of `largest` by its test

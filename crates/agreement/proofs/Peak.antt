@@ -14,9 +14,16 @@ use Rattle.model.specs.Syntax.{Statement, skip, NOT, sequence, if, qcase, call,
 use Rattle.model.specs.Lists.{qubits, remaining, touched, holds, member}
 use Rattle.model.specs.Reach.{recursive}
 use Rattle.model.specs.Gates.{Controls, noControls, asking, flip, exchange}
-use Rattle.model.specs.Emission.{Event, takes, places, frees, Chains, startChain, whole, Invocation, invocation, invoked, isWide, invocations, invokes, returns, left, right, under, swaps, entryGates, samePair, allEntryGates, Emitted, bodyInvocations, around, bodies, bodiesFrom, chainsWithin, emission, below, inUse, peak}
+use Rattle.model.specs.Emission.{
+  Event, takes, places, frees, Chains, startChain, whole, Invocation, invocation, invoked, isWide, invocations, invokes, returns, left, right, under,
+  swaps, entryGates, samePair, allEntryGates, Emitted, bodyInvocations, around, bodies, bodiesFrom, chainsWithin, emission, below, inUse, peak,
+}
 use Rattle.model.proofs.Tests.{byBool, byLt}
-use Rattle.agreement.proofs.Clauses.{bodies-here, bodies-past, whole-yes, whole-no, invocations-wide, invocations-thin, invocations-yes, invocations-no, invocations-recursive, invocations-other, left-wide, left-thin, left-yes, left-no, left-recursive, left-other, right-wide, right-thin, right-yes, right-no, right-recursive, right-other}
+use Rattle.agreement.proofs.Clauses.{
+  bodies-here, bodies-past, whole-yes, whole-no, invocations-wide, invocations-thin, invocations-yes, invocations-no, invocations-recursive,
+  invocations-other, left-wide, left-thin, left-yes, left-no, left-recursive, left-other, right-wide, right-thin, right-yes, right-no,
+  right-recursive, right-other,
+}
 
 module _ (n : ℕ) where
   -- the events take and give back ancillas above n like a stack, from next wire a to next wire b

@@ -145,7 +145,8 @@ compile-promises table n room workspace e =
 -- Refusals 22 and 23, for an accepted table and a workspace that is long enough: a room without place for the header, or the first step that does not fit
 module _ (table : List ℕ) (n room workspace : ℕ) (P : Program) (accepts : accepted table n ≡ gives P) (space : leastWorkspace ≤ workspace) where
   -- what compile is there
-  pub compiles : compile table n room workspace ≡ require (leb headerLength (usable room)) noRoom (fitted (fit (usable room) headerLength (emission P n)) (circuit P n))
+  pub compiles : compile table n room workspace ≡
+      require (leb headerLength (usable room)) noRoom (fitted (fit (usable room) headerLength (emission P n)) (circuit P n))
   unfolding compile after require
   compiles = rw (accepts, le-leb leastWorkspace workspace space)
 

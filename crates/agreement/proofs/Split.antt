@@ -23,7 +23,9 @@ use Rattle.agreement.proofs.Clauses.{invocations-wide, invocations-thin
 use Rattle.agreement.proofs.Clauses.{invocations-other, left-wide, left-thin, left-yes, left-no, left-recursive, left-other, right-wide}
 use Rattle.agreement.proofs.Clauses.{right-thin, right-yes, right-no, right-recursive, right-other, width-sequence, width-if, width-qcase}
 use Rattle.agreement.proofs.Clauses.{thin-width, wide-width, thin-low}
-use Rattle.agreement.proofs.World.{Safely, SafeCall, Safe, World, Zero, zero-up, zero-flip, AskedIn, asked-in-asking, Below, below-asking, below-up, Served}
+use Rattle.agreement.proofs.World.{
+  Safely, SafeCall, Safe, World, Zero, zero-up, zero-flip, AskedIn, asked-in-asking, Below, below-asking, below-up, Served,
+}
 use Rattle.agreement.proofs.Invocations.{Mem, mem-left, mem-right, invocations-range, invocations-new}
 use Rattle.agreement.proofs.Frame.{does-keeps, does-stays, fires-does}
 use Rattle.agreement.proofs.Whole.{effect-flip-fires, zero-does, zero-call, fires-call, startChain-fires, whole-fires}

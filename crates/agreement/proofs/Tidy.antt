@@ -15,23 +15,38 @@ use Rattle.model.specs.Faults.{touchFaults, programFaults}
 use Rattle.model.specs.Meaning.{CallDoes}
 use Rattle.model.specs.Reach.{recursive, width, anyLacksRemoval, anyTooWide}
 use Rattle.model.specs.Gates.{Controls, noControls, insert, asking, flip, swap, swapOf, exchange}
-use Rattle.model.specs.Emission.{Event, takes, places, frees, Chains, startChain, whole, Invocation, invocation, invoked, isWide, invocations, invokes, returns, left, right, under, swaps, entryGates, samePair, allEntryGates, Emitted, bodyInvocations, around, bodies, bodiesFrom, chainsWithin, emission, gates, peak}
+use Rattle.model.specs.Emission.{
+  Event, takes, places, frees, Chains, startChain, whole, Invocation, invocation, invoked, isWide, invocations, invokes, returns, left, right, under,
+  swaps, entryGates, samePair, allEntryGates, Emitted, bodyInvocations, around, bodies, bodiesFrom, chainsWithin, emission, gates, peak,
+}
 use Rattle.model.specs.Answers.{fit, circuit, usable}
 use Rattle.model.specs.Circuit.{write, wires, controlsOf, ascends, distinct, within, lowerFirst, gateIsWellFormed}
 use Rattle.model.proofs.Tests.{byBool, byEq, byLt, clash, not-true-false, and-left, and-right, and-both, or-false, or-false-left, or-false-right}
-use Rattle.model.proofs.ListLaws.{qubits-data, range-distinct, member-head, member-tail, member-cases, member-append, member-skip, not-head, not-tail, not-in-nil, Distinct, Data, data-remaining, data-touched, remaining-distinct}
+use Rattle.model.proofs.ListLaws.{
+  qubits-data, range-distinct, member-head, member-tail, member-cases, member-append, member-skip, not-head, not-tail, not-in-nil, Distinct, Data,
+  data-remaining, data-touched, remaining-distinct,
+}
 use Rattle.model.proofs.WireLists.{ascends-tail, ascends-larger, ascends-distinct}
 use Rattle.model.proofs.GateLaws.{insert-cases, asks, asks-none, asks-cases, exchange-left, exchange-right, exchange-other}
 use Rattle.model.proofs.Calls.{Named, Ranked, rank}
 use Rattle.model.proofs.RoundTrip.{AllWellFormed, write-length, WellFormed}
-use Rattle.agreement.proofs.Clauses.{bodies-here, bodies-past, whole-yes, whole-no, invocations-wide, invocations-thin, invocations-yes, invocations-no, invocations-recursive, left-wide, left-thin, left-yes, left-no, left-recursive, left-other, right-wide, right-thin, right-yes, right-no, right-recursive, right-other, width-sequence, width-if, width-qcase, thin-width, wide-width, Low, thin-low}
-use Rattle.agreement.proofs.World.{Safely, SafeCall, Safe, World, AskedIn, asked-in-none, asked-in-asking, asked-in-under, Below, below-none, below-asking, below-under, below-up, below-not, Fine, fine-call, Served}
+use Rattle.agreement.proofs.Clauses.{
+  bodies-here, bodies-past, whole-yes, whole-no, invocations-wide, invocations-thin, invocations-yes, invocations-no, invocations-recursive,
+  left-wide, left-thin, left-yes, left-no, left-recursive, left-other, right-wide, right-thin, right-yes, right-no, right-recursive, right-other,
+  width-sequence, width-if, width-qcase, thin-width, wide-width, Low, thin-low,
+}
+use Rattle.agreement.proofs.World.{
+  Safely, SafeCall, Safe, World, AskedIn, asked-in-none, asked-in-asking, asked-in-under, Below, below-none, below-asking, below-under, below-up,
+  below-not, Fine, fine-call, Served,
+}
 use Rattle.agreement.proofs.Invocations.{Mem, mem-left, DistinctAncillas}
 use Rattle.agreement.proofs.Track.{asks-under}
 use Rattle.agreement.proofs.Onion.{Goods, next-above, safe-body, ranked-body, goods-more, distinct-more, start-good, chains-served}
 use Rattle.agreement.proofs.Agreement.{callRuns, callSafe, main-low, world, main-safe}
 use Rattle.agreement.proofs.Fits.{fit-all, fits-length, fits-wires, fits-count}
-use Rattle.agreement.proofs.Peak.{StackedChains, left-stacked, AllRise, bodies-stacked, bodiesFrom-stacked, chains-stacked, taken-left, taken-right, TakenTo, stacked-to, taken-wires}
+use Rattle.agreement.proofs.Peak.{
+  StackedChains, left-stacked, AllRise, bodies-stacked, bodiesFrom-stacked, chains-stacked, taken-left, taken-right, TakenTo, stacked-to, taken-wires,
+}
 
 -- a smaller wire in front keeps a list ascending
 ascends-cons : (x : ℕ) (l : List ℕ) → ((v : ℕ) → member v l ≡ true → x < v) → ascends l ≡ true → ascends (x ∷ l) ≡ true

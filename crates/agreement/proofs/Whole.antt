@@ -16,7 +16,9 @@ use Rattle.model.proofs.GateLaws.{flipped-same, flipped-twice, fires-same, fire
 use Rattle.model.proofs.Fuel.{does-yes, does-no, does-zero, does-one}
 use Rattle.agreement.proofs.Events.{effect, effect-nil, effect-takes, effect-places, effect-frees, effect-append}
 use Rattle.agreement.proofs.Clauses.{Low, whole-yes, whole-no}
-use Rattle.agreement.proofs.World.{Safely, SafeCall, Safe, World, Zero, zero-up, zero-flip, AskedIn, asked-in-asking, Below, below-asking, below-not, fine-call, Served}
+use Rattle.agreement.proofs.World.{
+  Safely, SafeCall, Safe, World, Zero, zero-up, zero-flip, AskedIn, asked-in-asking, Below, below-asking, below-not, fine-call, Served,
+}
 use Rattle.agreement.proofs.Frame.{does-keeps, does-stays, fires-does}
 
 -- one flip under controls that fire

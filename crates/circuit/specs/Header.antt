@@ -1,4 +1,4 @@
--- A circuit by its header, and the reader's answer: "the circuit reader n, ancillas and gate count" and "A refusal gives its number and otherwise zeros", as the code's struct.
+-- The circuit that stands behind a header, and what the circuit reader answers, as the code's structs.
 use Prim.Native.Nat.{ℕ}
 use mathlib.Core.List.{List}
 use lib.ListN.{length}
@@ -28,6 +28,7 @@ unfoldable pub circuitBehind : List ℕ → HeaderRead → Outcome Circuit
 circuitBehind bs (Opened h) = wellFormed (closed (h .qubits) (h .ancillas) (gatesBehind bs h))
 circuitBehind bs NoHeader = refuses notWellFormed
 
+-- "the circuit reader n, ancillas and gate count"; "A refusal gives its number and otherwise zeros."
 unfoldable pub headerOf : Outcome Circuit → CircuitHeader
 headerOf (gives c) = record { number = success; qubits = c .dataWires; ancillas = c .ancillas; gates = length (c .gates) }
 headerOf (refuses k) = record { number = k; qubits = 0; ancillas = 0; gates = 0 }

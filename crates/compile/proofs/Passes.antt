@@ -64,7 +64,8 @@ module _ (P : Program) (n : ℕ) (room : List ℕ) (header : headerLength ≤ us
     let none : 0 + length (write (circuit P n)) ≡ length (write (circuit P n)) = omega arith in
     sym joined ∙ rw circuit-bytes (sets-eq (write (circuit P n)) room 0 within ∙ rw none)
 
-number-given : (P : Program) (n used : ℕ) → used ≡ length (write (circuit P n)) → record { number = 0; length = used } ≡ compiledOf (gives (write (circuit P n)))
+number-given : (P : Program) (n used : ℕ) → used ≡ length (write (circuit P n)) →
+    record { number = 0; length = used } ≡ compiledOf (gives (write (circuit P n)))
 unfolding number valueOr
 number-given P n used e = rw e
 
@@ -73,7 +74,8 @@ pub ancillas-none : (n highest : ℕ) → highest < n → 0 ≡ wireOf (highest 
 ancillas-none n highest h = let e : highest - n ≡ 0 = omega arith in rw e
 
 -- the ways out of `write_circuit`
-ancillas-low : (P : Program) (n room : ℕ) → n ≤ mostQubits → fit room headerLength (emission P n) ≡ 0 → wireOf (n + peak [] (emission P n) - n) ≡ peak [] (emission P n)
+ancillas-low : (P : Program) (n room : ℕ) → n ≤ mostQubits → fit room headerLength (emission P n) ≡ 0 →
+    wireOf (n + peak [] (emission P n) - n) ≡ peak [] (emission P n)
 ancillas-low P n room small fits =
     let w = fits-wires P n room headerLength (omega arith) fits in
     let e : n + peak [] (emission P n) - n ≡ peak [] (emission P n) = omega arith in
@@ -115,7 +117,8 @@ module _ {bs ix m : List ℕ} {p n : ℕ} {room ws : List ℕ} where
 
 -- measuring gives the number of the definitions, and the room as it was
 module _ {bs ix m : List ℕ} {p n : ℕ} {room ws : List ℕ} {a : Emit} {room₁ ws₁ : List ℕ} (A : Emits bs ix m p n false room ws a room₁ ws₁)
-    (few : p ≤ mostProcedures) (reach : m ≡ reachAt p bs ix) (small : n ≤ mostQubits) (space : 8704 ≤ length ws) (header : headerLength ≤ usable (length room)) where
+    (few : p ≤ mostProcedures) (reach : m ≡ reachAt p bs ix) (small : n ≤ mostQubits) (space : 8704 ≤ length ws)
+    (header : headerLength ≤ usable (length room)) where
   measured-status : a .status ≡ fit (usable (length room)) headerLength (emission (programAt p bs ix) n)
   measured-status = ap (λ (x : Seen). emitOf x .status) (use-main A few reach small space .0) ∙ emission-status false (programAt p bs ix) n room header
 
@@ -129,7 +132,8 @@ module _ {bs ix m : List ℕ} {p n : ℕ} {room ws : List ℕ} {a : Emit} {room�
   measured-space = use-main A few reach small space .1
 
 refused-answer : (P : Program) (n k : ℕ) (room : List ℕ) → headerLength ≤ usable (length room) → k ≡ fit (usable (length room)) headerLength (emission P n) →
-    (k ≡ 0 → ⊥) → (record { number = k; length = 0 } ≡ compiledOf (emissionAnswer P n (length room))) × (room ≡ roomAfter (emissionAnswer P n (length room)) room)
+    (k ≡ 0 → ⊥) → (record { number = k; length = 0 } ≡ compiledOf (emissionAnswer P n (length room)))
+      × (room ≡ roomAfter (emissionAnswer P n (length room)) room)
 unfolding emissionAnswer require
 refused-answer P n k room header e h =
     rw (le-leb headerLength (usable (length room)) header, ← e) (refused-is k (circuit P n) room h)

@@ -83,7 +83,8 @@ fn compile_judged(table: &[u8], index: &[u16; 544], p: u8, n: u8, room: &mut [u8
     compile_emission(table, &index[..], p, &matrix, n, room, workspace)
 }
 
-// "9; header 1 .., 2, 3; each record ..; 8; 10 over the whole table, then 11, then 12; .. 21. Then 23 for the header, then 22 or 23 at the first ancilla or gate that does not fit."
+// "9; header 1 .., 2, 3; each record ..; 8; 10 over the whole table, then 11, then 12; .. 21. Then 23 for the header, then 22 or 23 at the first ancilla
+// or gate that does not fit."
 pub fn compile(table: &[u8], n: u32, room: &mut [u8], workspace: &mut [u8]) -> Compiled
     ensures { λ r. ⌜ answered r (now (room .exit)) ≡
         answerOf (model.compile (now (table .entry)) n (length (now (room .entry))) (length (now (workspace .entry)))) (now (room .entry)) ⌝ }

@@ -14,7 +14,10 @@ use Rattle.model.specs.Syntax.{Program, body}
 use Rattle.model.specs.Lists.{member}
 use Rattle.model.specs.Reach.{recursive}
 use Rattle.model.specs.Gates.{Controls, asking, insert, Gate, flip}
-use Rattle.model.specs.Emission.{Event, places, frees, Chains, startChain, Invocation, invocation, invoked, invokes, left, right, under, allEntryGates, Emitted, bodyInvocations, around, bodies, bodiesFrom, chainsWithin}
+use Rattle.model.specs.Emission.{
+  Event, places, frees, Chains, startChain, Invocation, invocation, invoked, invokes, left, right, under, allEntryGates, Emitted, bodyInvocations,
+  around, bodies, bodiesFrom, chainsWithin,
+}
 use Rattle.model.specs.Circuit.{encode}
 use Rattle.model.specs.Answers.{usable}
 use Rattle.model.proofs.Tests.{byBool, byLt, byEq, not-zero, not-below}
@@ -27,10 +30,16 @@ use Rattle.events.specs.declared.Emit.{Emit}
 use Rattle.events.specs.Scan.{Seen, seen, emitOf, freed, placed, stored, scan, slotProcedure, slotList, wireOf, slotOf, heldIn}
 use Rattle.events.specs.Slots.{appears, seekOf}
 use Rattle.events.specs.Follows.{Follows, Opens, Invokes}
-use Rattle.emit.specs.Walks.{Ready, Roomy, bodyDepth, chainsIn, bodiesUpTo, leftOf, rightOf, SeenIn, Call, walks-call, Left, Right, Fore, walks-fore, Back, walks-back, Bodies, walks-bodies, Rest, walks-rest, Inner, walks-inner, Body, walks-body}
+use Rattle.emit.specs.Walks.{
+  Ready, Roomy, bodyDepth, chainsIn, bodiesUpTo, leftOf, rightOf, SeenIn, Call, walks-call, Left, Right, Fore, walks-fore, Back, walks-back, Bodies,
+  walks-bodies, Rest, walks-rest, Inner, walks-inner, Body, walks-body,
+}
 use Rattle.events.proofs.ScanLaws.{scan-append, scan-stopped, scan-places, scan-no-gate, scan-many, scan-frees, nextAfter, stacked-after}
 use Rattle.events.proofs.Entering.{scan-nothing}
-use Rattle.events.proofs.Following.{gates-next, follows-none, follows-stopped, follows-gates, follows-next, follows-if, follows-as, follows-append, slot-kept, held-kept, appears-kept, held-append}
+use Rattle.events.proofs.Following.{
+  gates-next, follows-none, follows-stopped, follows-gates, follows-next, follows-if, follows-as, follows-append, slot-kept, held-kept, appears-kept,
+  held-append,
+}
 use Rattle.emit.proofs.Stepping.{ready-then}
 use Rattle.emit.proofs.Walking.{left-next}
 use Rattle.emit.proofs.Lefts.{was-ok, use-left, use-invokes}
@@ -51,7 +60,8 @@ module _ (bs ix : List ℕ) (p k : ℕ) where
     stacked-after 0 next (out .next) (out .events)
       (bodies-stacked 0 P ch C (suc n) (bodiesFrom P ch n) (bodiesFrom-stacked 0 P ch C n) known calls all next h .0)
 
-  pub bodies-all : (n : ℕ) (all : List Invocation) (next : ℕ) → bodiesUpTo bs ix p k n [] all all next ≡ bodiesFrom (programAt p bs ix) (chainsIn bs ix p k) n all next
+  pub bodies-all : (n : ℕ) (all : List Invocation) (next : ℕ) →
+      bodiesUpTo bs ix p k n [] all all next ≡ bodiesFrom (programAt p bs ix) (chainsIn bs ix p k) n all next
   unfolding bodiesUpTo bodiesFrom
   bodies-all zero all next = refl
   bodies-all (suc n) all next = refl
@@ -118,7 +128,8 @@ module _ (bs ix : List ℕ) (p k : ℕ) (ws : List ℕ) (base n j upto : ℕ) wh
   up-none (suc v) d q nz le known S all next e h =
     let low = seek-low ws base n j (upto - j) in
     let less : suc v - 1 ≡ v = omega arith in
-    rw (less, q) (seek-none (programAt p bs ix) (chainsIn bs ix p k) ws base n (bodiesFrom (programAt p bs ix) (chainsIn bs ix p k) v) known all next j (upto - j)
+    rw (less, q) (seek-none (programAt p bs ix) (chainsIn bs ix p k) ws base n
+      (bodiesFrom (programAt p bs ix) (chainsIn bs ix p k) v) known all next j (upto - j)
       le S (omega arith))
 
 -- the ways out of `emit_bodies`
@@ -127,7 +138,8 @@ module _ {bs ix m : List ℕ} {p k : ℕ} {write : Bool} {st : Emit} {room ws : 
   bodies-stopped h = walks-bodies (λ R a b c known S. follows-stopped write _ st room ws h)
 
   pub bodies-empty : n ≡ 0 → Bodies bs ix m p k write st room ws st room ws base n j upto
-  bodies-empty e = walks-bodies (λ R a b c known S. follows-as write (no-bodies bs ix p k ws base n j upto known _ _ (st .next) e) (follows-none write st room ws))
+  bodies-empty e = walks-bodies (λ R a b c known S. follows-as write
+    (no-bodies bs ix p k ws base n j upto known _ _ (st .next) e) (follows-none write st room ws))
 
   module _ {r : Emit} {room₁ ws₁ : List ℕ} where
     pub bodies-found : {d : ℕ} → (n ≡ 0 → ⊥) → d ≡ seekOf ws base n j (upto - j) → d < upto →
@@ -142,7 +154,8 @@ module _ {bs ix m : List ℕ} {p k : ℕ} {write : Bool} {st : Emit} {room ws : 
     bodies-on {d = d} nz e h A = walks-bodies (λ R le top over known S.
       let all = heldIn ws base (st .next - base) in
       follows-as write
-        (ap (λ (o : Emitted). o .events) (bodies-all bs ix p k (n - 1) all (st .next) ∙ sym (up-none bs ix p k ws base n j upto n d refl nz le known S all (st .next) e h)))
+        (ap (λ (o : Emitted). o .events) (bodies-all bs ix p k (n - 1) all (st .next) ∙
+          sym (up-none bs ix p k ws base n j upto n d refl nz le known S all (st .next) e h)))
         (use-bodies A R (le-refl base) (le-refl (st .next)) over [] (none-seen ws base (n - 1))))
 
 -- the ways out of `emit_rest`: the bodies that follow and the right part
@@ -365,9 +378,11 @@ module _ {bs ix m : List ℕ} {p k : ℕ} {write : Bool} {st : Emit} {room ws : 
       call-flat e q = walks-call (λ R.
         let O = use-invokes A (R .space) in
         follows-as write
-          (ap (λ (es : List Event). invokes l cs (st .next) ++ (es ++ (places (flip cs (st .next)) ∷ frees (st .next) ∷ []))) (chain-none (programAt p bs ix) k f l (st .next) e)
+          (ap (λ (es : List Event). invokes l cs (st .next) ++ (es ++ (places (flip cs (st .next)) ∷ frees (st .next) ∷ [])))
+              (chain-none (programAt p bs ix) k f l (st .next) e)
             ∙ start-is (chainsIn bs ix p k) f l cs (st .next) (λ e. nz (is ∙ e)))
-          (follows-finish (flip cs (wireOf (st .next))) (flip cs (st .next)) (O .follows) (λ ok. ap (flip cs) (taken-low A (λ e. nz (is ∙ e)) (R .space) (R .low) ok .1)) q))
+          (follows-finish (flip cs (wireOf (st .next))) (flip cs (st .next)) (O .follows)
+            (λ ok. ap (flip cs) (taken-low A (λ e. nz (is ∙ e)) (R .space) (R .low) ok .1)) q))
 
       pub call-chain : {b : Emit} {room₂ ws₂ : List ℕ} {r : Emit} {room₃ : List ℕ} → (k ≡ 0 → ⊥) →
           Bodies bs ix m p (k - 1) write a room₁ ws₁ b room₂ ws₂ (st .next) n (st .next) (a .next) →

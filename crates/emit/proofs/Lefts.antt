@@ -12,7 +12,10 @@ use Rattle.model.specs.Lists.{remaining, touched, holds}
 use Rattle.model.specs.Reach.{recursive, width}
 use Rattle.model.specs.Gates.{Controls, asking, flip}
 use Rattle.model.specs.Emission.{Event, places, Chains, whole, Invocation, invoked, isWide, invocations, invokes, left}
-use Rattle.agreement.proofs.Clauses.{left-wide, left-thin, left-yes, left-no, left-recursive, left-other, invocations-wide, invocations-thin, invocations-yes, invocations-no, invocations-recursive, invocations-other}
+use Rattle.agreement.proofs.Clauses.{
+  left-wide, left-thin, left-yes, left-no, left-recursive, left-other, invocations-wide, invocations-thin, invocations-yes, invocations-no,
+  invocations-recursive, invocations-other,
+}
 use Rattle.circuit.specs.Writing.{askingWithin}
 use Rattle.records.specs.Fields.{pick, removalsOf}
 use Rattle.table.specs.Index.{testAt, statementAt, programAt}
@@ -116,7 +119,8 @@ module _ (bs ix : List ℕ) (p k : ℕ) (f : ℕ) (l : List ℕ) (cs₁ cs₂ : 
         (invocations (recursive (programAt p bs ix) f) y l (r .next)) r room₁ ws₁ b room₂ ws₂ →
       Opens write
         (left (chainsIn bs ix p k) (recursive (programAt p bs ix) f) x l cs₁ (st .next) ++
-          left (chainsIn bs ix p k) (recursive (programAt p bs ix) f) y l cs₂ (st .next + length (invocations (recursive (programAt p bs ix) f) x l (st .next))))
+          left (chainsIn bs ix p k) (recursive (programAt p bs ix) f) y l cs₂
+            (st .next + length (invocations (recursive (programAt p bs ix) f) x l (st .next))))
         (invocations (recursive (programAt p bs ix) f) x l (st .next) ++
           invocations (recursive (programAt p bs ix) f) y l (st .next + length (invocations (recursive (programAt p bs ix) f) x l (st .next))))
         st room ws b room₂ ws₂

@@ -32,7 +32,8 @@ emission-is p bs ix n k root l cs h e a q c =
 pub main-walk : {bs ix m : List ℕ} {p n : ℕ} {write : Bool} {room ws : List ℕ} {r : Emit} {room₁ ws₁ : List ℕ} {root : ℕ} {l : List ℕ} {cs : Controls} →
     root ≡ startOf ix 512 → l ≡ qubits (min n 32) → cs ≡ noControls → Whole bs ix m p p write (begun n) room ws r room₁ ws₁ root 32 l cs →
     Emits bs ix m p n write room ws r room₁ ws₁
-main-walk {bs = bs} {ix = ix} {m = m} {p = p} {n = n} {write = write} {room = room} {ws = ws} {root = root} {l = l} {cs = cs} a q c A = walks-main (λ few reach small space.
+main-walk {bs = bs} {ix = ix} {m = m} {p = p} {n = n} {write = write} {room = room} {ws = ws} {root = root} {l = l} {cs = cs} a q c A =
+    walks-main (λ few reach small space.
     let R : Ready bs ix m p (begun n) ws = record { few = few; reach = reach; some = omega arith; low = omega arith; space = space } in
     let C : Roomy 32 cs = rw c (record { ones = omega arith; zeros = omega arith }) in
     let F = use-whole A R C in

@@ -14,7 +14,10 @@ use Rattle.model.specs.Reach.{recursive, width}
 use Rattle.model.specs.Gates.{Controls, asking}
 use Rattle.model.specs.Emission.{Chains, whole, invoked, invocations, returns, right}
 use Rattle.agreement.proofs.Peak.{OnlyGates}
-use Rattle.agreement.proofs.Clauses.{right-wide, right-thin, right-yes, right-no, right-recursive, right-other, invocations-wide, invocations-thin, invocations-yes, invocations-no, invocations-recursive}
+use Rattle.agreement.proofs.Clauses.{
+  right-wide, right-thin, right-yes, right-no, right-recursive, right-other, invocations-wide, invocations-thin, invocations-yes, invocations-no,
+  invocations-recursive,
+}
 use Rattle.circuit.specs.Writing.{askingWithin}
 use Rattle.records.specs.Fields.{pick, removalsOf}
 use Rattle.table.specs.Index.{testAt, statementAt, programAt}
@@ -197,7 +200,8 @@ module _ {bs ix m : List ℕ} {p k : ℕ} {write : Bool} {st : Emit} {room ws : 
               let counted : n ≡ min 65535 (length (invocations rec X l 0)) = rw (recursive-is f R) at is-n in
               let same = same-count rec X l 0 first in
               let second-is : st .status ≡ 0 → second ≡ first + length (invocations rec X l first) = λ ok.
-                    exactly first n second (length (invocations rec X l 0)) (length (invocations rec X l first)) _ (length (invocations rec S l first)) counted is-s same both (Q ok) in
+                    exactly first n second (length (invocations rec X l 0)) (length (invocations rec X l first)) _
+                      (length (invocations rec S l first)) counted is-s same both (Q ok) in
               let F = use-right A′ R (roomy-asking nz C q true) (λ ok.
                     subst (λ (v : ℕ). v + length (invocations rec Y l v) ≤ 256) (sym (second-is ok))
                       (total first (length (invocations rec X l first)) _ (length (invocations rec S l first)) both (Q ok))) in

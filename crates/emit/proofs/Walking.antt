@@ -118,11 +118,13 @@ module _ {bs ix m : List ℕ} {p k : ℕ} {write : Bool} {st : Emit} {room ws : 
   whole-stopped f = walks-whole (λ R C. follows-stopped write _ st room ws f)
 
   pub whole-spent : depth ≡ 0 → Whole bs ix m p k write st room ws st room ws i depth l cs
-  whole-spent e = walks-whole (λ R C. follows-as write (whole-skip (chainsIn bs ix p k) l cs (st .next) (statementAt p bs ix depth i) (spent-skip p bs ix depth i e)) (follows-none write st room ws))
+  whole-spent e = walks-whole (λ R C. follows-as write
+    (whole-skip (chainsIn bs ix p k) l cs (st .next) (statementAt p bs ix depth i) (spent-skip p bs ix depth i e)) (follows-none write st room ws))
 
   module _ {found : Step} (nz : depth ≡ 0 → ⊥) (is : found ≡ stepAt p bs ix i l) where
     whole-skipped : statementAt p bs ix depth i ≡ skip → Whole bs ix m p k write st room ws st room ws i depth l cs
-    whole-skipped e = walks-whole (λ R C. follows-as write (whole-skip (chainsIn bs ix p k) l cs (st .next) (statementAt p bs ix depth i) e) (follows-none write st room ws))
+    whole-skipped e = walks-whole (λ R C. follows-as write
+      (whole-skip (chainsIn bs ix p k) l cs (st .next) (statementAt p bs ix depth i) e) (follows-none write st room ws))
 
     pub whole-idle : (x : Step) → found ≡ x → Idle x → Whole bs ix m p k write st room ws st room ws i depth l cs
     whole-idle x e o = whole-skipped (idle-skip p bs ix depth i l nz is x e o)
@@ -131,13 +133,17 @@ module _ {bs ix m : List ℕ} {p k : ℕ} {write : Bool} {st : Emit} {room ws : 
       pub whole-touches : {q : ℕ} → found ≡ step.Touches q → seen r room₁ ≡ scan write (places (flip cs q) ∷ []) (seen st room) →
           Whole bs ix m p k write st room ws r room₁ ws i depth l cs
       whole-touches e g = let h = at-step p bs ix depth i l nz is e in
-        walks-whole (λ R C. follows-as write (whole-not (chainsIn bs ix p k) l cs (st .next) (statementAt p bs ix depth i) (h .2) (h .3)) (follows-gates write _ st room ws r room₁ tt g))
+        walks-whole (λ R C. follows-as write (whole-not (chainsIn bs ix p k) l cs (st .next) (statementAt p bs ix depth i) (h .2) (h .3))
+          (follows-gates write _ st room ws r room₁ tt g))
 
       module _ {ws₁ : List ℕ} where
         pub whole-calls : {f at : ℕ} {rest : List ℕ} → found ≡ step.Calls f at → rest ≡ remaining (removalsOf bs at) l →
             Call bs ix m p k write st room ws r room₁ ws₁ f rest cs → Whole bs ix m p k write st room ws r room₁ ws₁ i depth l cs
         whole-calls {f = f} {at = at} {rest = rest} e q A = let h = at-step p bs ix depth i l nz is e in
-          walks-whole (λ R C. follows-as write (ap (λ (v : List ℕ). startChain (chainsIn bs ix p k) f v cs (st .next)) q ∙ whole-call (chainsIn bs ix p k) l cs (st .next) (statementAt p bs ix depth i) h) (use-call A R))
+          walks-whole (λ R C. follows-as write
+            (ap (λ (v : List ℕ). startChain (chainsIn bs ix p k) f v cs (st .next)) q ∙
+              whole-call (chainsIn bs ix p k) l cs (st .next) (statementAt p bs ix depth i) h)
+            (use-call A R))
 
         pub whole-chosen : {c a b x : ℕ} → found ≡ step.Chooses c a b → x ≡ pick (holds (testAt p bs ix (depth - 1) c) (length l)) a b →
             Whole bs ix m p k write st room ws r room₁ ws₁ x (depth - 1) l cs → Whole bs ix m p k write st room ws r room₁ ws₁ i depth l cs
@@ -153,7 +159,9 @@ module _ {bs ix m : List ℕ} {p k : ℕ} {write : Bool} {st : Emit} {room ws : 
               Whole bs ix m p k write st room ws b room₂ ws₂ i depth l cs
           whole-sequence {x = x} {y = y} e A B = walks-whole (λ R C.
             let F = use-whole A R (roomy-less nz C) in
-            follows-as write (whole-pair (chainsIn bs ix p k) l cs (st .next) (statementAt p bs ix depth i) (at-step p bs ix depth i l nz is e)) (two-parts bs ix p k l (statementAt p bs ix (depth - 1) x) (statementAt p bs ix (depth - 1) y) cs cs R F (use-whole B (ready-then R F) (roomy-less nz C))))
+            follows-as write (whole-pair (chainsIn bs ix p k) l cs (st .next) (statementAt p bs ix depth i) (at-step p bs ix depth i l nz is e))
+              (two-parts bs ix p k l (statementAt p bs ix (depth - 1) x) (statementAt p bs ix (depth - 1) y) cs cs R F
+                (use-whole B (ready-then R F) (roomy-less nz C))))
 
           pub whole-branches : {q x y : ℕ} {cs₁ cs₂ : Controls} → found ≡ step.Branches q x y → cs₁ ≡ askingWithin q false cs →
               Whole bs ix m p k write st room ws r room₁ ws₁ x (depth - 1) l cs₁ → cs₂ ≡ askingWithin q true cs →
@@ -163,7 +171,9 @@ module _ {bs ix m : List ℕ} {p k : ℕ} {write : Bool} {st : Emit} {room ws : 
             let A′ = subst (λ (v : Controls). Whole bs ix m p k write st room ws r room₁ ws₁ x (depth - 1) l v) (c₁ ∙ within-is nz C q false) A in
             let B′ = subst (λ (v : Controls). Whole bs ix m p k write r room₁ ws₁ b room₂ ws₂ y (depth - 1) l v) (c₂ ∙ within-is nz C q true) B in
             let F = use-whole A′ R (roomy-asking nz C q false) in
-            follows-as write (whole-case (chainsIn bs ix p k) l cs (st .next) (statementAt p bs ix depth i) (h .2) (h .3)) (two-parts bs ix p k l (statementAt p bs ix (depth - 1) x) (statementAt p bs ix (depth - 1) y) (asking q false cs) (asking q true cs) R F (use-whole B′ (ready-then R F) (roomy-asking nz C q true))))
+            follows-as write (whole-case (chainsIn bs ix p k) l cs (st .next) (statementAt p bs ix depth i) (h .2) (h .3))
+              (two-parts bs ix p k l (statementAt p bs ix (depth - 1) x) (statementAt p bs ix (depth - 1) y) (asking q false cs)
+                (asking q true cs) R F (use-whole B′ (ready-then R F) (roomy-asking nz C q true))))
 
 pub ruleset wholes = (
     needs, whole-stopped, whole-spent, whole-idle, whole-touches, whole-calls, whole-chosen,

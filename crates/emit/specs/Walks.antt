@@ -10,7 +10,10 @@ use Rattle.model.specs.Syntax.{Program, body}
 use Rattle.model.specs.Lists.{member}
 use Rattle.model.specs.Reach.{recursive}
 use Rattle.model.specs.Gates.{Controls}
-use Rattle.model.specs.Emission.{Event, Chains, startChain, whole, Invocation, invocations, left, right, under, Emitted, bodyInvocations, around, bodies, bodiesFrom, chainsWithin, emission}
+use Rattle.model.specs.Emission.{
+  Event, Chains, startChain, whole, Invocation, invocations, left, right, under, Emitted, bodyInvocations, around, bodies, bodiesFrom, chainsWithin,
+  emission,
+}
 use Rattle.records.specs.Fields.{pick}
 use Rattle.table.specs.Index.{statementAt, programAt}
 use Rattle.reach.specs.Walk.{reachAt}

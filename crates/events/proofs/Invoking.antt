@@ -106,7 +106,8 @@ module _ (f : ℕ) (cs : Controls) (write : Bool) (st : Emit) (room ws : List �
           long = refl; rises = le-refl (st .next); low = λ k. k; kept = λ i k. refl };
         held = λ z. absurd (not-zero 21 z) })
 
-    invoked-now : (a r : Emit) (room₁ ws₁ : List ℕ) → st .status ≡ 0 → st .next ≤ 255 → seen a ws₁ ≡ seen (taken st (st .next)) (filled ws (st .next) f (q ∷ l)) →
+    invoked-now : (a r : Emit) (room₁ ws₁ : List ℕ) → st .status ≡ 0 → st .next ≤ 255 →
+        seen a ws₁ ≡ seen (taken st (st .next)) (filled ws (st .next) f (q ∷ l)) →
         seen r room₁ ≡ scan write (places (flip cs (wireOf (st .next))) ∷ []) (seen a room) →
         Opens write (invokes (q ∷ l) cs (st .next)) (invoked f (q ∷ l) (st .next)) st room ws r room₁ ws₁
     unfolding invokes invoked

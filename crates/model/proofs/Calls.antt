@@ -11,8 +11,13 @@ use borrow.Author.Tests.{eqb-true, ne-eqb, ltb-false}
 use lib.ListN.{List·getD-eq-default}
 use lib.Dec.{eqb, ltb}
 use Rattle.model.specs.Syntax.{Number, Statement, skip, NOT, sequence, if, qcase, call, Program, count, body}
-use Rattle.model.specs.Reach.{calls, Reaches, direct, onward, reachesBelow, reaches, recursive, isEmpty, lacksRemoval, width, anyBody, anyLacksRemoval, anyTooWide}
-use Rattle.model.proofs.Tests.{byBool, byEq, byLt, eqb-same, clash, not-true-false, and-left, and-right, and-both, or-cases, or-left, or-right, or-false, or-false-left, or-false-right}
+use Rattle.model.specs.Reach.{
+  calls, Reaches, direct, onward, reachesBelow, reaches, recursive, isEmpty, lacksRemoval, width, anyBody, anyLacksRemoval, anyTooWide,
+}
+use Rattle.model.proofs.Tests.{
+  byBool, byEq, byLt, eqb-same, clash, not-true-false, and-left, and-right, and-both, or-cases, or-left, or-right, or-false, or-false-left,
+  or-false-right,
+}
 use Rattle.model.proofs.ListLaws.{Carries}
 
 -- every call names a procedure: 1 to p. Reading gives 6 otherwise.
@@ -190,7 +195,8 @@ module _ (P : Program) where
   unfolding rank from
   rank-falls f g lf lg c nr =
     howMany-less (from P g) (from P f) (λ x h. or-right (eqb x f) (reaches P f x) (below-from f g lg c x h)) (suc (count P)) f (suc-le-suc lf)
-      (or-false (eqb f g) (reaches P g f) (ne-eqb f g (λ e. clash (subst (λ (v : ℕ). reaches P v f ≡ true) e (subst (λ (v : ℕ). reaches P f v ≡ true) (sym e) c)) nr)) nr)
+      (or-false (eqb f g) (reaches P g f) (ne-eqb f g (λ e.
+        clash (subst (λ (v : ℕ). reaches P v f ≡ true) e (subst (λ (v : ℕ). reaches P f v ≡ true) (sym e) c)) nr)) nr)
       (from-self P f)
 
 -- the calls of a statement in a procedure of rank k, where r says which are recursive: those do not rise in rank and carry a removal, the others fall

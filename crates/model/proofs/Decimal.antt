@@ -32,7 +32,8 @@ digits-spell zero k h = absurd (omega arith)
 digits-spell (suc most) k h =
     byLt k 10
       (λ l. rw (digits-one most k l) (omega arith))
-      (λ l. rw (digits-more most k l, spelled-append 0 (digitsWithin most (k / 10)) ((digitZero + k % 10) ∷ []), digits-spell most (k / 10) (omega arith)) (omega arith))
+      (λ l. rw (digits-more most k l, spelled-append 0 (digitsWithin most (k / 10)) ((digitZero + k % 10) ∷ []),
+        digits-spell most (k / 10) (omega arith)) (omega arith))
 
 -- `most` is enough: the digits spell the number
 pub decimal-spells : (k : ℕ) → spelled 0 (decimal k) ≡ k

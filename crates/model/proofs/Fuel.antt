@@ -32,11 +32,13 @@ module _ (o : CallDoes) (rs : List Number) (a : Number) (t u : Statement) (l : L
   unfolding does
   does-one e = rw (e, does)
 
-pub faults-yes : (o : CallFaults) (c : Condition) (t u : Statement) (l closed : List ℕ) → holds c (length l) ≡ true → faults o (if c t u) l closed ≡ faults o t l closed
+pub faults-yes : (o : CallFaults) (c : Condition) (t u : Statement) (l closed : List ℕ) → holds c (length l) ≡ true →
+    faults o (if c t u) l closed ≡ faults o t l closed
 unfolding faults
 faults-yes o c t u l closed e = rw (e, faults)
 
-pub faults-no : (o : CallFaults) (c : Condition) (t u : Statement) (l closed : List ℕ) → holds c (length l) ≡ false → faults o (if c t u) l closed ≡ faults o u l closed
+pub faults-no : (o : CallFaults) (c : Condition) (t u : Statement) (l closed : List ℕ) → holds c (length l) ≡ false →
+    faults o (if c t u) l closed ≡ faults o u l closed
 unfolding faults
 faults-no o c t u l closed e = rw (e, faults)
 
@@ -47,12 +49,14 @@ DoesAgree rank m o o′ = (f : ℕ) (l : List ℕ) (s : State) → 0 < length l 
 abbrev FaultsAgree : (ℕ → ℕ) → ℕ → CallFaults → CallFaults → Type 0
 FaultsAgree rank m o o′ = (f : ℕ) (l closed : List ℕ) → 0 < length l → rank f + length l < m → o f l closed ≡ o′ f l closed
 
-callDoes-agree : (rank : ℕ → ℕ) (m : ℕ) (o o′ : CallDoes) → DoesAgree rank m o o′ → (f : ℕ) (l : List ℕ) (s : State) → rank f + length l < m → callDoes o f l s ≡ callDoes o′ f l s
+callDoes-agree : (rank : ℕ → ℕ) (m : ℕ) (o o′ : CallDoes) → DoesAgree rank m o o′ → (f : ℕ) (l : List ℕ) (s : State) → rank f + length l < m →
+    callDoes o f l s ≡ callDoes o′ f l s
 unfolding callDoes
 callDoes-agree rank m o o′ A f [] s h = refl
 callDoes-agree rank m o o′ A f (q ∷ l) s h = A f (q ∷ l) s (suc-le-suc zero-le) h
 
-callFaults-agree : (rank : ℕ → ℕ) (m : ℕ) (o o′ : CallFaults) → FaultsAgree rank m o o′ → (f : ℕ) (l closed : List ℕ) → rank f + length l < m → callFaults o f l closed ≡ callFaults o′ f l closed
+callFaults-agree : (rank : ℕ → ℕ) (m : ℕ) (o o′ : CallFaults) → FaultsAgree rank m o o′ → (f : ℕ) (l closed : List ℕ) → rank f + length l < m →
+    callFaults o f l closed ≡ callFaults o′ f l closed
 unfolding callFaults
 callFaults-agree rank m o o′ A f [] closed h = refl
 callFaults-agree rank m o o′ A f (q ∷ l) closed h = A f (q ∷ l) closed (suc-le-suc zero-le) h
@@ -77,7 +81,8 @@ module _ (rank : ℕ → ℕ) (r : ℕ → Bool) (k : ℕ) (l : List ℕ) (some 
     (λ e. rw (does-zero o rs a t u l s e, does-zero o′ rs a t u l s e) (does-agree o o′ A t s (q .0)))
   does-agree o o′ A (call rs f) s q = callDoes-agree rank (k + length l) o o′ A f (remaining rs l) s (call-falls rs f q)
 
-  pub faults-agree : (o o′ : CallFaults) → FaultsAgree rank (k + length l) o o′ → (t : Statement) (closed : List ℕ) → Ranked rank r k t → faults o t l closed ≡ faults o′ t l closed
+  pub faults-agree : (o o′ : CallFaults) → FaultsAgree rank (k + length l) o o′ → (t : Statement) (closed : List ℕ) → Ranked rank r k t →
+      faults o t l closed ≡ faults o′ t l closed
   unfolding faults
   faults-agree o o′ A skip closed q = refl
   faults-agree o o′ A (NOT rs a) closed q = refl

@@ -171,4 +171,5 @@ block-from (suc count) a s (suc j) k h l =
 -- so bit k of byte j of a word's block is bit 8j + k of the word: past the word's bits all are zero
 pub block-bit : (word j k : ℕ) → j < blockLength → k < 8 → bit (getD (blockOf (stateOf word)) j 0) k ≡ bit word (8 * j + k)
 unfolding stateOf
-block-bit word j k h l = block-from blockLength 1 (stateOf word) j k h l ∙ ap (stateOf word) (let same : 1 + (8 * j + k) ≡ suc (8 * j + k) = omega arith in same)
+block-bit word j k h l = block-from blockLength 1 (stateOf word) j k h l ∙
+    ap (stateOf word) (let same : 1 + (8 * j + k) ≡ suc (8 * j + k) = omega arith in same)

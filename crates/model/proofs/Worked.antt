@@ -4,17 +4,31 @@ use Prim.Native.Nat.{ℕ, _^_}
 use mathlib.Core.Path.{_≡_, refl}
 use mathlib.Core.List.{List, [], _∷_, _++_, map}
 use Rattle.model.specs.Limits.{mostCircuit, leastWorkspace}
-use Rattle.model.specs.Examples.{Example, examples, orders, Compared, compared, pairs, pairsCircuit, pairsListing, needsSwap, swapCircuit, equalLengths, equalCircuit, twoEntries, entriesCircuit, rightPart, rightCircuit}
-use Rattle.model.specs.Reading.{andThen, provided, byteOf, signed16, numberOf, numbers, removals, procedure, statementKind, conditionKind, optional, fields, known, opening, contents, two, conditionOf, condition, statementOf, statement, statements, trees, readTable}
+use Rattle.model.specs.Examples.{
+  Example, examples, orders, Compared, compared, pairs, pairsCircuit, pairsListing, needsSwap, swapCircuit, equalLengths, equalCircuit, twoEntries,
+  entriesCircuit, rightPart, rightCircuit,
+}
+use Rattle.model.specs.Reading.{
+  andThen, provided, byteOf, signed16, numberOf, numbers, removals, procedure, statementKind, conditionKind, optional, fields, known, opening,
+  contents, two, conditionOf, condition, statementOf, statement, statements, trees, readTable,
+}
 use Rattle.model.specs.Reading as reading
 use Rattle.model.specs.Lists.{range, delete, remove, removeAll, holds, member}
 use Rattle.model.specs.Faults.{callFaults, faults, callFaultsWithin, programFaults}
 use Rattle.model.specs.Meaning.{update, flipped, stateOf, digit, wordFrom, callDoes, does, callDoesWithin, endState, endWord}
 use Rattle.model.specs.Reach.{calls, reachesBelow, isEmpty, lacksRemoval, width, anyBody, anyLacksRemoval, anyTooWide}
 use Rattle.model.specs.Gates.{insert, asking, swapOf, exchange, renamed, allOne, allZero, fires, act, acts}
-use Rattle.model.specs.Emission.{startChain, whole, invoked, invocations, invokes, returns, left, right, swaps, entryGates, samePair, allEntryGates, around, bodies, bodiesFrom, chainsWithin, emission, gates, below, inUse, peak}
-use Rattle.model.specs.Circuit.{listBit, listBytes, encode, encodeAll, fourBytes, write, wires, controlsOf, ascends, distinct, within, lowerFirst, gateIsWellFormed, bytes, wireList, gateOf, readGate, readGates, fourByteNumber, circuitOf, readCircuit, blockFrom, blockOf, circuitBlock}
-use Rattle.model.specs.Answers.{Outcome, gives, refuses, after, require, outcome, number, valueOr, accepted, run, fit, fitted, circuit, compile, Block, wellFormed, circuitRun}
+use Rattle.model.specs.Emission.{
+  startChain, whole, invoked, invocations, invokes, returns, left, right, swaps, entryGates, samePair, allEntryGates, around, bodies, bodiesFrom,
+  chainsWithin, emission, gates, below, inUse, peak,
+}
+use Rattle.model.specs.Circuit.{
+  listBit, listBytes, encode, encodeAll, fourBytes, write, wires, controlsOf, ascends, distinct, within, lowerFirst, gateIsWellFormed, bytes,
+  wireList, gateOf, readGate, readGates, fourByteNumber, circuitOf, readCircuit, blockFrom, blockOf, circuitBlock,
+}
+use Rattle.model.specs.Answers.{
+  Outcome, gives, refuses, after, require, outcome, number, valueOr, accepted, run, fit, fitted, circuit, compile, Block, wellFormed, circuitRun,
+}
 use Rattle.model.specs.Listing.{digitsWithin, hyphens, placed, controlText, actionText, gateLines, listed, listing}
 
 pub record Result : Type 0 where
@@ -28,12 +42,20 @@ abbrev pub computed : Example → Result
 computed e = record { number = number (run (e .table) (e .n) (e .word) (e .workspace)); endWord = valueOr 0 (run (e .table) (e .n) (e .word) (e .workspace)) }
 
 pub worked : map computed (examples ++ orders) ≡ map said (examples ++ orders)
-unfolding andThen provided byteOf signed16 numberOf reading.number numbers removals procedure statementKind conditionKind optional fields known opening contents two conditionOf condition statementOf statement statements trees readTable range delete remove removeAll holds member callFaults faults callFaultsWithin programFaults update flipped stateOf digit wordFrom callDoes does callDoesWithin endState endWord calls reachesBelow isEmpty lacksRemoval width anyBody anyLacksRemoval anyTooWide after require outcome number valueOr accepted run
+unfolding andThen provided byteOf signed16 numberOf reading.number numbers removals procedure statementKind conditionKind optional fields known
+    opening contents two conditionOf condition statementOf statement statements trees readTable range delete remove removeAll holds member callFaults
+    faults callFaultsWithin programFaults update flipped stateOf digit wordFrom callDoes does callDoesWithin endState endWord calls reachesBelow
+    isEmpty lacksRemoval width anyBody anyLacksRemoval anyTooWide after require outcome number valueOr accepted run
 worked = refl
 
 -- the circuit of PAIRS, and the circuit of a body that needs a swap
 pub circuits : (compile pairs 3 mostCircuit leastWorkspace ≡ gives pairsCircuit) × (compile needsSwap 4 mostCircuit leastWorkspace ≡ gives swapCircuit)
-unfolding andThen provided byteOf signed16 numberOf reading.number numbers removals procedure statementKind conditionKind optional fields known opening contents two conditionOf condition statementOf statement statements trees readTable range delete remove removeAll holds member callFaults faults callFaultsWithin programFaults calls reachesBelow isEmpty lacksRemoval width anyBody anyLacksRemoval anyTooWide insert asking swapOf exchange startChain whole invoked invocations invokes returns left right swaps entryGates samePair allEntryGates around bodies bodiesFrom chainsWithin emission gates below inUse peak listBit listBytes encode encodeAll fourBytes write after require outcome accepted fit fitted circuit compile
+unfolding andThen provided byteOf signed16 numberOf reading.number numbers removals procedure statementKind conditionKind optional fields known
+    opening contents two conditionOf condition statementOf statement statements trees readTable range delete remove removeAll holds member callFaults
+    faults callFaultsWithin programFaults calls reachesBelow isEmpty lacksRemoval width anyBody anyLacksRemoval anyTooWide insert asking swapOf
+    exchange startChain whole invoked invocations invokes returns left right swaps entryGates samePair allEntryGates around bodies bodiesFrom
+    chainsWithin emission gates below inUse peak listBit listBytes encode encodeAll fourBytes write after require outcome accepted fit fitted circuit
+    compile
 circuits = (refl, refl)
 
 -- circuits that fix orders which the meaning leaves free: of bodies with equal lengths, of entries, of right parts
@@ -41,7 +63,12 @@ pub ordered :
     (compile equalLengths 2 mostCircuit leastWorkspace ≡ gives equalCircuit)
     × (compile twoEntries 5 mostCircuit leastWorkspace ≡ gives entriesCircuit)
     × (compile rightPart 2 mostCircuit leastWorkspace ≡ gives rightCircuit)
-unfolding andThen provided byteOf signed16 numberOf reading.number numbers removals procedure statementKind conditionKind optional fields known opening contents two conditionOf condition statementOf statement statements trees readTable range delete remove removeAll holds member callFaults faults callFaultsWithin programFaults calls reachesBelow isEmpty lacksRemoval width anyBody anyLacksRemoval anyTooWide insert asking swapOf exchange startChain whole invoked invocations invokes returns left right swaps entryGates samePair allEntryGates around bodies bodiesFrom chainsWithin emission gates below inUse peak listBit listBytes encode encodeAll fourBytes write after require outcome accepted fit fitted circuit compile
+unfolding andThen provided byteOf signed16 numberOf reading.number numbers removals procedure statementKind conditionKind optional fields known
+    opening contents two conditionOf condition statementOf statement statements trees readTable range delete remove removeAll holds member callFaults
+    faults callFaultsWithin programFaults calls reachesBelow isEmpty lacksRemoval width anyBody anyLacksRemoval anyTooWide insert asking swapOf
+    exchange startChain whole invoked invocations invokes returns left right swaps entryGates samePair allEntryGates around bodies bodiesFrom
+    chainsWithin emission gates below inUse peak listBit listBytes encode encodeAll fourBytes write after require outcome accepted fit fitted circuit
+    compile
 ordered = (refl, refl, refl)
 
 -- the bits that the run of a table's circuit ends with, and the block of the table's own end word
@@ -56,11 +83,26 @@ abbrev runBits : Compared → ℕ → List ℕ
 runBits e word = blockOf (stateOf (valueOr 0 (run (e .table) (e .n) word leastWorkspace)))
 
 -- from every start word, each circuit ends as the run does, with every ancilla at zero
-pub compares : map (λ (e : Compared). map (circuitBits e) (range (2 ^ (e .n)) 0)) compared ≡ map (λ (e : Compared). map (runBits e) (range (2 ^ (e .n)) 0)) compared
-unfolding andThen provided byteOf signed16 numberOf reading.number numbers removals procedure statementKind conditionKind optional fields known opening contents two conditionOf condition statementOf statement statements trees readTable range delete remove removeAll holds member callFaults faults callFaultsWithin programFaults update flipped stateOf digit wordFrom callDoes does callDoesWithin endState endWord calls reachesBelow isEmpty lacksRemoval width anyBody anyLacksRemoval anyTooWide after require outcome number valueOr accepted run insert asking swapOf exchange startChain whole invoked invocations invokes returns left right swaps entryGates samePair allEntryGates around bodies bodiesFrom chainsWithin emission gates below inUse peak listBit listBytes encode encodeAll fourBytes write fit fitted circuit compile renamed allOne allZero fires act acts ascends distinct within lowerFirst gateIsWellFormed bytes wireList gateOf readGate readGates fourByteNumber circuitOf readCircuit blockFrom circuitBlock wires controlsOf wellFormed circuitRun
+pub compares : map (λ (e : Compared). map (circuitBits e) (range (2 ^ (e .n)) 0)) compared ≡
+    map (λ (e : Compared). map (runBits e) (range (2 ^ (e .n)) 0)) compared
+unfolding andThen provided byteOf signed16 numberOf reading.number numbers removals procedure statementKind conditionKind optional fields known
+    opening contents two conditionOf condition statementOf statement statements trees readTable range delete remove removeAll holds member callFaults
+    faults callFaultsWithin programFaults update flipped stateOf digit wordFrom callDoes does callDoesWithin endState endWord calls reachesBelow
+    isEmpty lacksRemoval width anyBody anyLacksRemoval anyTooWide after require outcome number valueOr accepted run insert asking swapOf exchange
+    startChain whole invoked invocations invokes returns left right swaps entryGates samePair allEntryGates around bodies bodiesFrom chainsWithin
+    emission gates below inUse peak listBit listBytes encode encodeAll fourBytes write fit fitted circuit compile renamed allOne allZero fires act
+    acts ascends distinct within lowerFirst gateIsWellFormed bytes wireList gateOf readGate readGates fourByteNumber circuitOf readCircuit blockFrom
+    circuitBlock wires controlsOf wellFormed circuitRun
 compares = refl
 
 -- the listing of PAIRS at n = 3, of empty input, and of a table that is refused
 pub listings : (listing (3 ∷ pairs) ≡ pairsListing) × (listing [] ≡ 0x39 ∷ 0x0a ∷ []) × (listing (3 ∷ []) ≡ 0x31 ∷ 0x0a ∷ [])
-unfolding andThen provided byteOf signed16 numberOf reading.number numbers removals procedure statementKind conditionKind optional fields known opening contents two conditionOf condition statementOf statement statements trees readTable range delete remove removeAll holds member callFaults faults callFaultsWithin programFaults update flipped stateOf digit wordFrom callDoes does callDoesWithin endState endWord calls reachesBelow isEmpty lacksRemoval width anyBody anyLacksRemoval anyTooWide after require outcome number valueOr accepted run insert asking swapOf exchange startChain whole invoked invocations invokes returns left right swaps entryGates samePair allEntryGates around bodies bodiesFrom chainsWithin emission gates below inUse peak listBit listBytes encode encodeAll fourBytes write fit fitted circuit compile renamed allOne allZero fires act acts ascends distinct within lowerFirst gateIsWellFormed bytes wireList gateOf readGate readGates fourByteNumber circuitOf readCircuit blockFrom circuitBlock wires controlsOf wellFormed circuitRun digitsWithin hyphens placed controlText actionText gateLines listed listing
+unfolding andThen provided byteOf signed16 numberOf reading.number numbers removals procedure statementKind conditionKind optional fields known
+    opening contents two conditionOf condition statementOf statement statements trees readTable range delete remove removeAll holds member callFaults
+    faults callFaultsWithin programFaults update flipped stateOf digit wordFrom callDoes does callDoesWithin endState endWord calls reachesBelow
+    isEmpty lacksRemoval width anyBody anyLacksRemoval anyTooWide after require outcome number valueOr accepted run insert asking swapOf exchange
+    startChain whole invoked invocations invokes returns left right swaps entryGates samePair allEntryGates around bodies bodiesFrom chainsWithin
+    emission gates below inUse peak listBit listBytes encode encodeAll fourBytes write fit fitted circuit compile renamed allOne allZero fires act
+    acts ascends distinct within lowerFirst gateIsWellFormed bytes wireList gateOf readGate readGates fourByteNumber circuitOf readCircuit blockFrom
+    circuitBlock wires controlsOf wellFormed circuitRun digitsWithin hyphens placed controlText actionText gateLines listed listing
 listings = (refl, refl, refl)

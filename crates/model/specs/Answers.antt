@@ -4,7 +4,10 @@ use mathlib.Core.Bool.{Bool, true, false, not, _&&_}
 use mathlib.Core.List.{List, [], _∷_, _++_}
 use lib.ListN.{length, drop, replicate}
 use lib.Dec.{ltb, leb}
-use Rattle.model.specs.Limits.{mostQubits, mostWires, headerLength, mostCircuit, leastWorkspace, success, wrongQubits, noRemoval, tooWide, accessFault, highBit, notWellFormed, shortWorkspace, manyWires, noRoom}
+use Rattle.model.specs.Limits.{
+  mostQubits, mostWires, headerLength, mostCircuit, leastWorkspace, success, wrongQubits, noRemoval, tooWide, accessFault, highBit, notWellFormed,
+  shortWorkspace, manyWires, noRoom,
+}
 use Rattle.model.specs.Syntax.{Program}
 use Rattle.model.specs.Reading.{Parsed, parsed, refused, readTable}
 use Rattle.model.specs.Faults.{programFaults}

@@ -6,7 +6,10 @@ use mathlib.Core.Option.{Option, none, some}
 use lib.ListN.{length, getD, getElem?}
 use lib.Dec.{eqb, ltb, leb}
 use lib.IntN.{ℤ, pos, negsuc}
-use Rattle.model.specs.Limits.{tableEdition, mostProcedures, mostRecords, mostDepth, mostRemovals, tableStops, wrongEdition, manyProcedures, wrongKind, wrongMap, wrongField, tooDeep, bytesLeft}
+use Rattle.model.specs.Limits.{
+  tableEdition, mostProcedures, mostRecords, mostDepth, mostRemovals, tableStops, wrongEdition, manyProcedures, wrongKind, wrongMap, wrongField,
+  tooDeep, bytesLeft,
+}
 use Rattle.model.specs.Syntax.{Number, constant, sizePlus, Condition, greater, atLeast, equal, conjunction, disjunction, negation}
 use Rattle.model.specs.Syntax.{Statement, skip, NOT, sequence, if, qcase, call, Program}
 

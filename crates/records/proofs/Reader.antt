@@ -23,7 +23,9 @@ use Rattle.records.specs.declared.Answer.{Answer}
 use Rattle.records.specs.declared.Answer.the-variants as answer
 use Rattle.records.specs.Fields.{byteAt, behindPlace, behindNumber, behindProcedure, based, writtenAt, numberAt, numbersAt, removalsAt, procedureAt}
 use Rattle.records.specs.Fields.{maybeRemovalsAt, placeOf, behindRemovals, plain, touching, comparing, calling, withNumber, withNumbers, withProcedure}
-use Rattle.records.specs.Fields.{fieldsAt, recordOf, recordAt, numberOf, numbersFrom, removalsOf, noFields, touchedFields, comparedFields, calledFields, fieldsOf}
+use Rattle.records.specs.Fields.{
+  fieldsAt, recordOf, recordAt, numberOf, numbersFrom, removalsOf, noFields, touchedFields, comparedFields, calledFields, fieldsOf,
+}
 
 -- the bytes from a place on, and how many records came before them
 abbrev pub inputAt : List ℕ → ℕ → ℕ → Input

@@ -32,5 +32,6 @@ load-spec = tie.close (tie.spec
     (λ c. search filling)
     (λ c. let at-loop = c .before .before in
       let next = load-next _ _ _ _ (at-loop .loop .inv .6) in
-      (search filling, search filling, search filling, search filling, search filling, search filling, search (needs, next, at-loop .loop .inv .4, at-loop .loop .inv .5)))
+      (search filling, search filling, search filling, search filling, search filling, search filling,
+        search (needs, next, at-loop .loop .inv .4, at-loop .loop .inv .5)))
     (λ c. search filling))

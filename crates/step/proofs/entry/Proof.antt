@@ -11,9 +11,11 @@ entry-spec =
     (λ c κs. search needs)
     (λ c κs. search needs)
     (λ c. let b = c .before .before in
-      entry-none (b .before .args .t1 .len) (b .before .args .t1 .at) _ _ _ (b .before .fits .k) (b .size .ensures) (c .before .within .ensures) (c .if1 .taken))
+      entry-none (b .before .args .t1 .len) (b .before .args .t1 .at) _ _ _ (b .before .fits .k) (b .size .ensures) (c .before .within .ensures)
+        (c .if1 .taken))
     (λ c. search needs)
     (λ c. search (needs, place-inside))
     (λ c. let b = c .before .before in
-      entry-some (b .before .before .args .t1 .len) (b .before .before .args .t1 .at) _ _ _ (b .before .before .fits .k) (b .before .size .ensures) (b .within .ensures)
+      entry-some (b .before .before .args .t1 .len) (b .before .before .args .t1 .at) _ _ _ (b .before .before .fits .k) (b .before .size .ensures)
+        (b .within .ensures)
       (c .before .if1 .left)))
