@@ -11,12 +11,12 @@ use lib.Dec.{eqb, leb}
 use Rattle.model.specs.Limits.{notWellFormed, tableStops}
 use Rattle.model.specs.Reading.{Input, Parsed, parsed, refused, andThen, provided, byte}
 use Rattle.model.specs.Gates.{Gate}
-use Rattle.model.specs.Circuit.{Circuit, readGate, readGates, fourByteNumber, circuitOf, readCircuit}
+use Rattle.model.specs.Circuit.{Circuit, readGate, readGates, fourByteNumber, closed, circuitOf, readCircuit}
 use Rattle.model.specs.Answers.{Outcome, gives, refuses, number, wellFormed, circuitRead}
 use Rattle.model.proofs.Tests.{byLt}
 use Rattle.circuit.proofs.Reading.{byte-at, byte-past}
 use Rattle.circuit.specs.Views.{inputAt, fills}
-use Rattle.circuit.specs.Header.{closed, gatesBehind, circuitBehind, headerOf, refusedHeader}
+use Rattle.circuit.specs.Header.{gatesBehind, circuitBehind, headerOf, refusedHeader}
 use Rattle.circuit.specs.declared.CircuitHeader.{CircuitHeader}
 use Rattle.circuit.specs.declared.Header.{Header}
 use Rattle.circuit.specs.declared.HeaderRead.{HeaderRead}

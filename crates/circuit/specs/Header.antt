@@ -2,22 +2,16 @@
 use Prim.Native.Nat.{ℕ}
 use mathlib.Core.List.{List}
 use lib.ListN.{length}
-use lib.Dec.{eqb}
 use Rattle.model.specs.Limits.{success, notWellFormed}
-use Rattle.model.specs.Reading.{Parsed, parsed, andThen, provided}
+use Rattle.model.specs.Reading.{Parsed}
 use Rattle.model.specs.Gates.{Gate}
-use Rattle.model.specs.Circuit.{Circuit, readGates}
+use Rattle.model.specs.Circuit.{Circuit, readGates, closed}
 use Rattle.model.specs.Answers.{Outcome, gives, refuses, wellFormed}
 use Rattle.circuit.specs.Views.{inputAt}
 use Rattle.circuit.specs.declared.Header.{Header}
 use Rattle.circuit.specs.declared.HeaderRead.{HeaderRead}
 use Rattle.circuit.specs.declared.HeaderRead.the-variants.{Opened, NoHeader}
 use Rattle.circuit.specs.declared.CircuitHeader.{CircuitHeader}
-
--- a circuit of the gates that were read behind its header: "no byte is left"
-abbrev pub closed : ℕ → ℕ → Parsed (List Gate) → Parsed Circuit
-closed n ancillas p =
-    andThen p (λ gs o. provided (eqb (length (o .bytes)) 0) notWellFormed (parsed (record { dataWires = n; ancillas = ancillas; gates = gs }) o))
 
 -- the gates behind a header, from byte 7 on
 abbrev pub gatesBehind : List ℕ → Header → Parsed (List Gate)

@@ -305,7 +305,7 @@ pub fn gates_fill(bytes: &[u8], from: usize, most: u8, count: u32) -> bool
 }
 
 // "4 bytes little-endian"
-pub fn little_endian(a: u8, b: u8, c: u8, d: u8) -> u32
+fn little_endian(a: u8, b: u8, c: u8, d: u8) -> u32
     ensures { λ r. ⌜ r ≡ a + 256 * b + 65536 * c + 16777216 * d ⌝ }
 {
     a as u32 + 256 * (b as u32) + 65536 * (c as u32) + 16777216 * (d as u32)

@@ -10,13 +10,13 @@ use lib.ListN.{length}
 use Rattle.model.specs.Reading.{Parsed, parsed, refused, andThen, provided}
 use Rattle.model.specs.Meaning.{stateOf}
 use Rattle.model.specs.Gates.{Gate}
-use Rattle.model.specs.Circuit.{circuitBlock}
+use Rattle.model.specs.Circuit.{closed, circuitBlock}
 use Rattle.model.specs.Answers.{after, require, wellFormed, circuitRead, circuitRun}
 use Rattle.model.proofs.Tests.{byBool}
 use Rattle.wires.specs.States.{wiresOf}
 use Rattle.wires.specs.declared.Wires.{Wires}
 use Rattle.wires.proofs.Blocks.{start-state}
-use Rattle.circuit.specs.Header.{closed, gatesBehind, circuitBehind}
+use Rattle.circuit.specs.Header.{gatesBehind, circuitBehind}
 use Rattle.circuit.specs.declared.Header.{Header}
 use Rattle.circuit.specs.declared.HeaderRead.{HeaderRead}
 use Rattle.circuit.specs.declared.HeaderRead.the-variants.{Opened, NoHeader}

@@ -1,6 +1,6 @@
 -- The ways out of `count_calls`: the number of recursive calls does not depend on their ancillas.
 use mathlib.Core.Path.{_≡_, refl, sym, ap, _∙_}
-use mathlib.Core.Bool.{Bool, true, false}
+use mathlib.Core.Bool.{Bool, true, false, cond}
 use mathlib.Core.List.{List, [], _∷_}
 use Prim.Native.Nat.{ℕ, _+_, _-_, _≤_, _<_, min}
 use native.Mathlib.Omega.{arith}
@@ -13,7 +13,7 @@ use Rattle.model.specs.Reach.{width}
 use Rattle.model.specs.Emission.{Invocation, invoked, isWide, invocations}
 use Rattle.model.proofs.Tests.{byBool, not-zero}
 use Rattle.agreement.proofs.Clauses.{invocations-wide, invocations-thin, invocations-yes, invocations-no, invocations-recursive, invocations-other}
-use Rattle.records.specs.Fields.{pick, removalsOf}
+use Rattle.records.specs.Fields.{removalsOf}
 use Rattle.table.specs.Index.{testAt, statementAt}
 use Rattle.step.specs.declared.Step.{Step}
 use Rattle.step.specs.declared.Step.the-variants as step
@@ -105,7 +105,7 @@ module _ (r : ℕ → Bool) (p : ℕ) (bs ix : List ℕ) (i depth : ℕ) (l : Li
         let thin : isWide r x ≡ false = le-ltb 0 (width r x) (omega arith) in
         rw (at-step p bs ix depth i l nz is e, invocations-thin r l 0 x (statementAt p bs ix (depth - 1) b) thin) q
 
-      pub count-chosen : (c x : ℕ) → found ≡ step.Chooses c a b → x ≡ pick (holds (testAt p bs ix (depth - 1) c) (length l)) a b →
+      pub count-chosen : (c x : ℕ) → found ≡ step.Chooses c a b → x ≡ cond (holds (testAt p bs ix (depth - 1) c) (length l)) a b →
           n ≡ min 65535 (length (invocations r (statementAt p bs ix (depth - 1) x) l 0)) →
           n ≡ min 65535 (length (invocations r (statementAt p bs ix depth i) l 0))
       count-chosen c x e h q = q ∙ ap (λ (all : List Invocation). min 65535 (length all))

@@ -1,6 +1,6 @@
 -- The next body of a chain: the code seeks the first slot that opens one, the definitions look at the invocations in order.
 use mathlib.Core.Path.{_≡_, refl, sym, _∙_}
-use mathlib.Core.Bool.{Bool, true, false, not, _||_}
+use mathlib.Core.Bool.{Bool, true, false, not, cond, _||_}
 use mathlib.Core.List.{List, _∷_, _++_}
 use Prim.Native.Nat.{ℕ, zero, suc, _+_, _-_, _*_, _≤_, _<_}
 use native.Mathlib.Omega.{arith}
@@ -12,8 +12,7 @@ use Rattle.model.specs.Lists.{member}
 use Rattle.model.specs.Emission.{Chains, Invocation, Emitted, bodyInvocations, around, bodies}
 use Rattle.model.proofs.Tests.{byBool, byEq, clash}
 use Rattle.agreement.proofs.Clauses.{opens, bodies-here, bodies-past}
-use Rattle.records.specs.Fields.{pick}
-use Rattle.records.proofs.Laws.{and-pick}
+use Rattle.records.proofs.Laws.{and-cond}
 use Rattle.events.specs.Scan.{slotLength, slotProcedure, slotOf, heldIn}
 use Rattle.events.specs.Slots.{pairAt, appears, opensAt, seekOf}
 use Rattle.emit.specs.Walks.{SeenIn}
@@ -27,9 +26,9 @@ or-done : (a : Bool) → a || true ≡ true
 or-done true = refl
 or-done false = refl
 
-pick-or : (a b : Bool) → pick a true b ≡ a || b
-pick-or true b = refl
-pick-or false b = refl
+cond-or : (a b : Bool) → cond a true b ≡ a || b
+cond-or true b = refl
+cond-or false b = refl
 
 or-assoc : (a b c : Bool) → (a || b) || c ≡ a || (b || c)
 or-assoc true b c = refl
@@ -38,12 +37,12 @@ or-assoc false b c = refl
 -- one slot more
 appears-more : (ws : List ℕ) (a n f m : ℕ) → appears ws a (suc n) f m ≡ appears ws a n f m || pairAt ws (a + n) f m
 unfolding appears
-appears-more ws a zero f m = let e : a + 0 ≡ a = omega arith in rw (e, pick-or (pairAt ws a f m) false) (or-none (pairAt ws a f m))
+appears-more ws a zero f m = let e : a + 0 ≡ a = omega arith in rw (e, cond-or (pairAt ws a f m) false) (or-none (pairAt ws a f m))
 appears-more ws a (suc n) f m =
     let e : a + suc n ≡ a + 1 + n = omega arith in
     let ih = appears-more ws (a + 1) n f m in
-    rw (e, pick-or (pairAt ws a f m) (appears ws (a + 1) n f m), or-assoc (pairAt ws a f m) (appears ws (a + 1) n f m) (pairAt ws (a + 1 + n) f m), ← ih)
-      (pick-or (pairAt ws a f m) (appears ws (a + 1) (suc n) f m))
+    rw (e, cond-or (pairAt ws a f m) (appears ws (a + 1) n f m), or-assoc (pairAt ws a f m) (appears ws (a + 1) n f m) (pairAt ws (a + 1 + n) f m), ← ih)
+      (cond-or (pairAt ws a f m) (appears ws (a + 1) (suc n) f m))
 
 module _ (ws : List ℕ) (base m j : ℕ) (le : base ≤ j) where
   appears-next : (f : ℕ) → appears ws base (j + 1 - base) f m ≡ appears ws base (j - base) f m || pairAt ws j f m
@@ -57,7 +56,7 @@ module _ (ws : List ℕ) (base m j : ℕ) (le : base ≤ j) where
     opens-is : opens m known (slotOf ws j) ≡ opensAt ws base m j
     unfolding slotOf opensAt
     opens-is = rw (bytes-length ws (34 * j + 2) (slotLength ws j), S (slotProcedure ws j))
-      (and-pick (eqb (slotLength ws j) m) (not (appears ws base (j - base) (slotProcedure ws j) m)))
+      (and-cond (eqb (slotLength ws j) m) (not (appears ws base (j - base) (slotProcedure ws j) m)))
 
     -- a slot passed over adds no procedure
     seen-past : opensAt ws base m j ≡ false → SeenIn ws base m (j + 1) known

@@ -1,6 +1,6 @@
 -- The ways out of the walkers over statements: one law for each, its premises what the calls on that way promise, in their order.
 use mathlib.Core.Path.{_≡_, refl, sym, ap, _∙_, subst}
-use mathlib.Core.Bool.{Bool, true, false}
+use mathlib.Core.Bool.{Bool, true, false, cond}
 use mathlib.Core.List.{List, [], _∷_, _++_}
 use Prim.Native.Nat.{ℕ, suc, _+_, _-_, _<_}
 use native.Mathlib.Omega.{arith}
@@ -16,7 +16,7 @@ use Rattle.model.proofs.Tests.{byBool}
 use Rattle.agreement.proofs.Peak.{StackedChains, whole-stacked, left-stacked, right-stacked, chains-stacked}
 use Rattle.agreement.proofs.Clauses.{whole-yes, whole-no}
 use Rattle.circuit.specs.Writing.{insertWithin, askingWithin}
-use Rattle.records.specs.Fields.{pick, removalsOf}
+use Rattle.records.specs.Fields.{removalsOf}
 use Rattle.table.specs.Index.{testAt, statementAt, programAt}
 use Rattle.step.specs.declared.Step.{Step}
 use Rattle.step.specs.declared.Step.the-variants as step
@@ -145,7 +145,7 @@ module _ {bs ix m : List ℕ} {p k : ℕ} {write : Bool} {st : Emit} {room ws : 
               whole-call (chainsIn bs ix p k) l cs (st .next) (statementAt p bs ix depth i) h)
             (use-call A R))
 
-        pub whole-chosen : {c a b x : ℕ} → found ≡ step.Chooses c a b → x ≡ pick (holds (testAt p bs ix (depth - 1) c) (length l)) a b →
+        pub whole-chosen : {c a b x : ℕ} → found ≡ step.Chooses c a b → x ≡ cond (holds (testAt p bs ix (depth - 1) c) (length l)) a b →
             Whole bs ix m p k write st room ws r room₁ ws₁ x (depth - 1) l cs → Whole bs ix m p k write st room ws r room₁ ws₁ i depth l cs
         whole-chosen e q A =
           let ch = chainsIn bs ix p k in

@@ -1,7 +1,7 @@
 -- What the walkers promise: each follows the events that the definitions have for it.
 use Prim.Native.Nat.{ℕ, zero, suc, _+_, _-_, _≤_, _<_}
 use mathlib.Core.Path.{_≡_}
-use mathlib.Core.Bool.{Bool}
+use mathlib.Core.Bool.{Bool, cond}
 use mathlib.Core.List.{List, [], _++_}
 use lib.ListN.{length}
 use lib.Dec.{ltb}
@@ -14,7 +14,6 @@ use Rattle.model.specs.Emission.{
   Event, Chains, startChain, whole, Invocation, invocations, left, right, under, Emitted, bodyInvocations, around, bodies, bodiesFrom, chainsWithin,
   emission,
 }
-use Rattle.records.specs.Fields.{pick}
 use Rattle.table.specs.Index.{statementAt, programAt}
 use Rattle.reach.specs.Walk.{reachAt}
 use Rattle.events.specs.declared.Emit.{Emit}
@@ -32,7 +31,7 @@ pub record Ready (bs ix m : List ℕ) (p : ℕ) (st : Emit) (ws : List ℕ) : Ty
 
 -- how deep a body is: nothing where no procedure is f
 abbrev pub bodyDepth : ℕ → ℕ → ℕ
-bodyDepth p f = pick (ltb p f) 0 mostDepth
+bodyDepth p f = cond (ltb p f) 0 mostDepth
 
 -- room for the controls of the qcases to come
 pub record Roomy (depth : ℕ) (cs : Controls) : Type 0 where

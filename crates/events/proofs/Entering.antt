@@ -13,7 +13,7 @@ use lib.Dec.{eqb}
 use Rattle.model.specs.Gates.{Controls, Gate, flip, swapOf, exchange}
 use Rattle.model.specs.Emission.{Event, places, under, swaps, entryGates, samePair, allEntryGates}
 use Rattle.model.proofs.Tests.{byBool}
-use Rattle.records.proofs.Laws.{and-pick}
+use Rattle.records.proofs.Laws.{and-cond}
 use Rattle.events.specs.declared.Emit.{Emit}
 use Rattle.events.specs.Scan.{Seen, seen, scan, bytesFrom, slotLength, slotProcedure, slotList, wireOf, slotOf, heldIn}
 use Rattle.events.specs.Slots.{pairAt, turned, Differ, entryAt}
@@ -182,7 +182,7 @@ bytes-length bs at (suc n) = ap suc (bytes-length bs (at + 1) n)
 pair-is : (ws : List ℕ) (d e : ℕ) → samePair (slotOf ws d) (slotOf ws e) ≡ pairAt ws e (slotProcedure ws d) (slotLength ws d)
 unfolding samePair slotOf pairAt
 pair-is ws d e = rw (bytes-length ws (34 * d + 2) (slotLength ws d), bytes-length ws (34 * e + 2) (slotLength ws e))
-    (and-pick (eqb (slotProcedure ws e) (slotProcedure ws d)) (eqb (slotLength ws e) (slotLength ws d)))
+    (and-cond (eqb (slotProcedure ws e) (slotProcedure ws d)) (eqb (slotLength ws e) (slotLength ws d)))
 
 entries-cons : (ws : List ℕ) (d e n : ℕ) →
     allEntryGates (slotOf ws d) (heldIn ws e (suc n)) ≡ entryAt ws d e ++ allEntryGates (slotOf ws d) (heldIn ws (e + 1) n)

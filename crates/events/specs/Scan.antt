@@ -1,6 +1,6 @@
 -- An emission as the code keeps it: what each event does to the state of the walk and to the room, and the slots of the workspace.
 use Prim.Native.Nat.{ℕ, zero, suc, _+_, _*_, max, min}
-use mathlib.Core.Bool.{Bool}
+use mathlib.Core.Bool.{Bool, cond}
 use mathlib.Core.List.{List, [], _∷_}
 use lib.ListN.{length, getD}
 use lib.Seq.{sets}
@@ -10,7 +10,6 @@ use Rattle.model.specs.Syntax.{Program}
 use Rattle.model.specs.Emission.{Event, takes, places, frees, Invocation, invocation, emission, gates, peak}
 use Rattle.model.specs.Circuit.{encode, encodeAll}
 use Rattle.model.specs.Answers.{usable}
-use Rattle.records.specs.Fields.{pick}
 use Rattle.events.specs.declared.Emit.{Emit}
 
 -- what is seen of an emission: where it stands, and the room
@@ -38,14 +37,14 @@ placed st n = record { status = 0; used = st .used + n; gates = st .gates + 1; n
 
 -- bytes stored from a place on, where the room is to be written
 abbrev pub stored : Bool → List ℕ → ℕ → List ℕ → List ℕ
-stored write room at bytes = pick write (sets room at bytes) room
+stored write room at bytes = cond write (sets room at bytes) room
 
 -- one event where nothing was refused: "22 or 23 at the first ancilla or gate that does not fit". A room holds fewer than 65,536 gates.
 unfoldable pub goes : Bool → Event → Emit → List ℕ → Seen
-goes write (takes w) st room = pick (ltb mostWires w) (seen (stopped st manyWires) room) (seen (taken st w) room)
+goes write (takes w) st room = cond (ltb mostWires w) (seen (stopped st manyWires) room) (seen (taken st w) room)
 goes write (places g) st room =
-    pick (leb (st .used + length (encode g)) (usable (length room)))
-    (pick (ltb (st .gates) mostCircuit)
+    cond (leb (st .used + length (encode g)) (usable (length room)))
+    (cond (ltb (st .gates) mostCircuit)
     (seen (placed st (length (encode g))) (stored write room (st .used) (encode g)))
     (seen (stopped st noRoom) room))
     (seen (stopped st noRoom) room)
@@ -54,7 +53,7 @@ goes write (frees a) st room = seen (freed st a) room
 -- the events in order; a refusal absorbs what follows it
 unfoldable pub scan : Bool → List Event → Seen → Seen
 scan write [] x = x
-scan write (e ∷ es) (seen st room) = scan write es (pick (eqb (st .status) 0) (goes write e st room) (seen st room))
+scan write (e ∷ es) (seen st room) = scan write es (cond (eqb (st .status) 0) (goes write e st room) (seen st room))
 
 -- an emission with n qubits starts behind the header, with wire n + 1
 abbrev pub begun : ℕ → Emit
@@ -86,7 +85,7 @@ slotList ws a = bytesFrom ws (slotAt a + 2) (slotLength ws a)
 
 -- the wire of an ancilla. None is above 255: for such the code has 0.
 abbrev pub wireOf : ℕ → ℕ
-wireOf a = pick (ltb mostWires a) 0 a
+wireOf a = cond (ltb mostWires a) 0 a
 
 unfoldable pub slotOf : List ℕ → ℕ → Invocation
 slotOf ws a = invocation (slotProcedure ws a) (slotList ws a) (wireOf a)

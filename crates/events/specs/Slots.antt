@@ -1,14 +1,13 @@
 -- What the code does with the slots of the workspace: they are filled, compared, and sought for the next body.
 use Prim.Native.Nat.{ℕ, zero, suc, _+_, _-_, _≤_, _<_}
 use mathlib.Core.Path.{_≡_}
-use mathlib.Core.Bool.{Bool, true, false, not}
+use mathlib.Core.Bool.{Bool, true, false, not, cond}
 use mathlib.Core.List.{List, [], _∷_, reverse}
 use lib.ListN.{length, getD, drop}
 use lib.Seq.{sets}
 use lib.Dec.{eqb, ltb}
 use Rattle.model.specs.Limits.{mostWires, manyWires}
 use Rattle.model.specs.Emission.{Event, swaps, entryGates}
-use Rattle.records.specs.Fields.{pick}
 use Rattle.events.specs.declared.Emit.{Emit}
 use Rattle.events.specs.Scan.{Seen, seen, stopped, taken, freed, slotAt, slotLength, slotProcedure, slotOf}
 
@@ -19,31 +18,31 @@ filled ws a f l = sets ws (slotAt a) (f ∷ length l ∷ l)
 -- the next ancilla is taken, and its slot filled
 unfoldable pub taking : ℕ → List ℕ → Emit → List ℕ → Seen
 taking f l st ws =
-    pick (eqb (st .status) 0)
-    (pick (ltb mostWires (st .next)) (seen (stopped st manyWires) ws) (seen (taken st (st .next)) (filled ws (st .next) f l)))
+    cond (eqb (st .status) 0)
+    (cond (ltb mostWires (st .next)) (seen (stopped st manyWires) ws) (seen (taken st (st .next)) (filled ws (st .next) f l)))
     (seen st ws)
 
 -- the ancillas from a on are given back
 unfoldable pub returned : ℕ → Emit → Emit
-returned a st = pick (eqb (st .status) 0) (freed st a) st
+returned a st = cond (eqb (st .status) 0) (freed st a) st
 
 -- is slot a of the pair (f, m)?
 unfoldable pub pairAt : List ℕ → ℕ → ℕ → ℕ → Bool
-pairAt ws a f m = pick (eqb (slotProcedure ws a) f) (eqb (slotLength ws a) m) false
+pairAt ws a f m = cond (eqb (slotProcedure ws a) f) (eqb (slotLength ws a) m) false
 
 -- is one of n slots from a on?
 unfoldable pub appears : List ℕ → ℕ → ℕ → ℕ → ℕ → Bool
 appears ws a zero f m = false
-appears ws a (suc n) f m = pick (pairAt ws a f m) true (appears ws (a + 1) n f m)
+appears ws a (suc n) f m = cond (pairAt ws a f m) true (appears ws (a + 1) n f m)
 
 -- does slot e of a chain from `base` on open the body of a pair with lists of length m? Then no slot before it is of its pair.
 unfoldable pub opensAt : List ℕ → ℕ → ℕ → ℕ → Bool
-opensAt ws base m e = pick (eqb (slotLength ws e) m) (not (appears ws base (e - base) (slotProcedure ws e) m)) false
+opensAt ws base m e = cond (eqb (slotLength ws e) m) (not (appears ws base (e - base) (slotProcedure ws e) m)) false
 
 -- the first of n slots from e on that does, otherwise the slot behind them
 unfoldable pub seekOf : List ℕ → ℕ → ℕ → ℕ → ℕ → ℕ
 seekOf ws base m e zero = e
-seekOf ws base m e (suc n) = pick (opensAt ws base m e) e (seekOf ws base m (e + 1) n)
+seekOf ws base m e (suc n) = cond (opensAt ws base m e) e (seekOf ws base m (e + 1) n)
 
 -- in order, or reversed
 abbrev pub turned : Bool → List Event → List Event
@@ -58,4 +57,4 @@ pub record Differ (first later : List ℕ) (k r : ℕ) : Type 0 where
 
 -- the entry gates from slot e to the body of slot d, if they are of one pair
 unfoldable pub entryAt : List ℕ → ℕ → ℕ → List Event
-entryAt ws d e = pick (pairAt ws e (slotProcedure ws d) (slotLength ws d)) (entryGates (slotOf ws d) (slotOf ws e)) []
+entryAt ws d e = cond (pairAt ws e (slotProcedure ws d) (slotLength ws d)) (entryGates (slotOf ws d) (slotOf ws e)) []

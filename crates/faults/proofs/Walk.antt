@@ -1,4 +1,5 @@
 -- What the step of a record says of the positions that the statement there touches, and one law for each way out of the walk over a body.
+use mathlib.Core.Bool.{cond}
 use mathlib.Core.Path.{_≡_, sym, ap, _∙_}
 use mathlib.Core.List.{List}
 use Prim.Native.Nat.{ℕ, _-_, _≤_, _<_, min}
@@ -10,7 +11,7 @@ use Rattle.model.specs.Syntax.{Statement, skip}
 use Rattle.model.specs.Lists.{qubits, remaining, holds}
 use Rattle.model.proofs.Tests.{or-false}
 use Rattle.model.proofs.ListLaws.{range-length}
-use Rattle.records.specs.Fields.{pick, removalsOf}
+use Rattle.records.specs.Fields.{removalsOf}
 use Rattle.table.specs.Index.{testAt, statementAt}
 use Rattle.step.specs.declared.Step.{Step}
 use Rattle.step.specs.declared.Step.the-variants as step
@@ -64,7 +65,7 @@ module _ (known : List ℕ) (p : ℕ) (bs ix : List ℕ) (m depth i : ℕ) where
       walk-calls f at rest e left r = rw (at-step p bs ix depth i l deep steps e, ← listed, ← left) r
 
       -- the chosen branch of an if
-      pub walk-chosen : (c a b x : ℕ) → st ≡ step.Chooses c a b → x ≡ pick (holds (testAt p bs ix (depth - 1) c) (length l)) a b →
+      pub walk-chosen : (c a b x : ℕ) → st ≡ step.Chooses c a b → x ≡ cond (holds (testAt p bs ix (depth - 1) c) (length l)) a b →
           row ≡ rowAt known p bs ix m (depth - 1) x → row ≡ rowAt known p bs ix m depth i
       walk-chosen c a b x e q r =
         let size : length l ≡ min m 32 = ap length listed ∙ range-length (min m 32) 1 in

@@ -1,11 +1,10 @@
 -- The table of rows, filled by length, and by rank within a length: all that a body can call is there before it.
 use Prim.Native.Nat.{ℕ, zero, suc, _+_, _-_, min}
-use mathlib.Core.Bool.{Bool, _||_}
+use mathlib.Core.Bool.{Bool, cond, _||_}
 use mathlib.Core.List.{List}
 use lib.ListN.{getD, set, replicate}
 use lib.Dec.{eqb, ltb}
 use Rattle.model.specs.Meaning.{digit}
-use Rattle.records.specs.Fields.{pick}
 use Rattle.table.specs.Index.{bodyAt}
 use Rattle.reach.specs.Matrix.{recursiveIn}
 use Rattle.faults.specs.Touches.{touches}
@@ -36,7 +35,7 @@ ranksIn matrix p = ranksBelow matrix p 17
 
 -- the rank of f among them; 0, which none has, past 16
 abbrev pub rankAt : List ℕ → ℕ → ℕ
-rankAt ranks f = pick (ltb f 17) (getD ranks f 0) 0
+rankAt ranks f = cond (ltb f 17) (getD ranks f 0) 0
 
 -- the row of procedure f on lists of length m: what its body touches, by the table so far
 unfoldable pub filledRow : ℕ → List ℕ → List ℕ → ℕ → ℕ → List ℕ → List ℕ
@@ -45,7 +44,7 @@ filledRow p bs ix f m known = stored f m (rowOf (touches (knownTouches known) (b
 module _ (p : ℕ) (bs ix ranks : List ℕ) where
   -- only where f has rank k
   unfoldable pub filledIf : ℕ → ℕ → ℕ → List ℕ → List ℕ
-  filledIf k f m known = pick (eqb (rankAt ranks f) k) (filledRow p bs ix f m known) known
+  filledIf k f m known = cond (eqb (rankAt ranks f) k) (filledRow p bs ix f m known) known
 
   -- procedures 1 to n, those of rank k
   unfoldable pub filledRank : ℕ → ℕ → ℕ → List ℕ → List ℕ
@@ -59,7 +58,7 @@ module _ (p : ℕ) (bs ix ranks : List ℕ) where
 
   -- only where calls can have removed `gone` entries of main's list
   unfoldable pub filledAsked : ℕ → ℕ → ℕ → List ℕ → List ℕ
-  filledAsked sums gone m known = pick (rowIs sums gone) (filledLength p m known) known
+  filledAsked sums gone m known = cond (rowIs sums gone) (filledLength p m known) known
 
   -- lengths 1 to m, of main's n
   unfoldable pub filled : ℕ → ℕ → ℕ → List ℕ → List ℕ

@@ -1,11 +1,11 @@
 -- The lengths that calls can lead to: a removal takes one entry away or empties the list, so a call leaves as many entries less as it carries
 -- removals, or none. From main's n entries calls lead to n less a sum of such numbers.
 use Prim.Native.Nat.{ℕ, zero, suc, _*_, _%_, _^_}
+use mathlib.Core.Bool.{cond}
 use mathlib.Core.List.{List}
 use lib.Bits.{bitOr}
 use lib.ListN.{length}
 use Rattle.model.specs.Syntax.{Statement, skip, NOT, sequence, if, qcase, call}
-use Rattle.records.specs.Fields.{pick}
 use Rattle.table.specs.Index.{bodyAt}
 use Rattle.faults.specs.Touches.{Touched, touchesNone, touchesOne, joined}
 use Rattle.faults.specs.Rows.{rowOf, rowIs}
@@ -27,7 +27,7 @@ countsBelow p bs ix (suc f) = bitOr (countsBelow p bs ix f) (rowOf (removalCount
 -- 0, and what one number of the set more makes of the sums below n
 unfoldable pub sumsBelow : ℕ → ℕ → ℕ
 sumsBelow counts zero = 1
-sumsBelow counts (suc j) = pick (rowIs (sumsBelow counts j) j) (bitOr (sumsBelow counts j) ((counts * 2 ^ j) % 2 ^ 64)) (sumsBelow counts j)
+sumsBelow counts (suc j) = cond (rowIs (sumsBelow counts j) j) (bitOr (sumsBelow counts j) ((counts * 2 ^ j) % 2 ^ 64)) (sumsBelow counts j)
 
 -- how many entries of main's list calls can remove
 abbrev pub sumsIn : ℕ → List ℕ → List ℕ → ℕ

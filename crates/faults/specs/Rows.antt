@@ -1,12 +1,12 @@
 -- Sets of numbers below 64 as the code has them: words, whose bit t says whether t is in the set. A row is the set of the positions touched.
 use Prim.Native.Nat.{ℕ, _+_, _*_, _^_}
+use mathlib.Core.Bool.{cond}
 use mathlib.Core.List.{List}
 use lib.Bits.{bitOr}
 use lib.ListN.{getD, set}
 use lib.Dec.{ltb}
 use Rattle.model.specs.Lists.{entry}
 use Rattle.model.specs.Meaning.{bit, wordFrom}
-use Rattle.records.specs.Fields.{pick}
 use Rattle.faults.specs.Touches.{Touched, CallTouches}
 
 -- the word of a set
@@ -19,11 +19,11 @@ rowIs row = λ t. bit row t
 
 -- one number more; a word has none past 63
 unfoldable pub marked : ℕ → ℕ → ℕ
-marked row q = pick (ltb q 64) (bitOr row (2 ^ q)) row
+marked row q = cond (ltb q 64) (bitOr row (2 ^ q)) row
 
 -- position q closed: touched by the qcase itself, and a fault where its branches touch it
 unfoldable pub closedRow : ℕ → ℕ → ℕ
-closedRow q row = pick (rowIs row q) (marked (marked row q) 0) (marked row q)
+closedRow q row = cond (rowIs row q) (marked (marked row q) 0) (marked row q)
 
 -- one table has the rows of procedures 0 to 16 on lists of lengths 0 to 32: where each stands
 abbrev pub place : ℕ → ℕ → ℕ
@@ -35,7 +35,7 @@ allRows = 561
 
 -- the row of procedure f on lists of length m; past the table's end nothing
 abbrev pub knownRow : List ℕ → ℕ → ℕ → ℕ
-knownRow known f m = pick (ltb (place f m) allRows) (getD known (place f m) 0) 0
+knownRow known f m = cond (ltb (place f m) allRows) (getD known (place f m) 0) 0
 
 -- what the table says that calls touch
 abbrev pub knownTouches : List ℕ → CallTouches
@@ -43,8 +43,8 @@ knownTouches known f m = rowIs (knownRow known f m)
 
 -- position u of the callee's list l, where it is touched, goes into the caller's row as the entry that stands there
 unfoldable pub carriedOn : ℕ → List ℕ → ℕ → ℕ → ℕ
-carriedOn callee l u row = pick (rowIs callee u) (marked row (entry l u)) row
+carriedOn callee l u row = cond (rowIs callee u) (marked row (entry l u)) row
 
 -- the row of procedure f on lists of length m, written; nothing past the table's end
 unfoldable pub stored : ℕ → ℕ → ℕ → List ℕ → List ℕ
-stored f m row known = pick (ltb (place f m) allRows) (set known (place f m) row) known
+stored f m row known = cond (ltb (place f m) allRows) (set known (place f m) row) known

@@ -112,15 +112,18 @@ fourByteNumber i =
     andThen (byte i) (λ a j. andThen (byte j) (λ b k. andThen (byte k) (λ c l. andThen (byte l) (λ d m.
     parsed (a + 256 * b + 65536 * c + 16777216 * d) m))))
 
--- "A circuit is well formed if this holds, n is 1 to 32, .. that sum is at most 255, the count is true, no byte is left"
+-- "no byte is left": the circuit of the gates that were read
+abbrev pub closed : ℕ → ℕ → Parsed (List Gate) → Parsed Circuit
+closed n ancillas p =
+    andThen p (λ gs i. provided (eqb (length (i .bytes)) 0) notWellFormed (parsed (record { dataWires = n; ancillas = ancillas; gates = gs }) i))
+
+-- "A circuit is well formed if this holds, n is 1 to 32, .. that sum is at most 255, the count is true"
 unfoldable pub circuitOf : Input → Parsed Circuit
 circuitOf i =
     andThen (byte i) (λ edition j. provided (eqb edition circuitEdition) notWellFormed
     (andThen (byte j) (λ n k. provided (leb 1 n && leb n mostQubits) notWellFormed
     (andThen (byte k) (λ ancillas l. provided (leb (n + ancillas) mostWires) notWellFormed
-    (andThen (fourByteNumber l) (λ count m.
-    andThen (readGates (n + ancillas) count m) (λ gs o.
-    provided (eqb (length (o .bytes)) 0) notWellFormed (parsed (record { dataWires = n; ancillas = ancillas; gates = gs }) o)))))))))
+    (andThen (fourByteNumber l) (λ count m. closed n ancillas (readGates (n + ancillas) count m))))))))
 
 -- ".. and it is at most 65,536 long"
 unfoldable pub readCircuit : List ℕ → Parsed Circuit

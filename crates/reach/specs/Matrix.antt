@@ -1,6 +1,6 @@
 -- Which procedure reaches which, as 17 rows of 17 bytes, main at 0: the byte at 17 * f + g is 1 where f reaches g.
 use Prim.Native.Nat.{ℕ, zero, suc, _+_, _*_, _/_, _%_}
-use mathlib.Core.Bool.{Bool, false}
+use mathlib.Core.Bool.{Bool, false, cond}
 use mathlib.Core.List.{List, map}
 use lib.ListN.{getD, set, replicate}
 use lib.Dec.{eqb, ltb}
@@ -8,7 +8,6 @@ use Rattle.model.specs.Lists.{range}
 use Rattle.model.specs.Meaning.{digit}
 use Rattle.model.specs.Syntax.{Program}
 use Rattle.model.specs.Reach.{reaches}
-use Rattle.records.specs.Fields.{pick}
 
 -- the place of row f, column g
 abbrev pub cell : ℕ → ℕ → ℕ
@@ -16,11 +15,11 @@ cell f g = 17 * f + g
 
 -- does a mark stand at a place?
 unfoldable pub markAt : List ℕ → ℕ → Bool
-markAt m at = pick (ltb at 289) (eqb (getD m at 0) 1) false
+markAt m at = cond (ltb at 289) (eqb (getD m at 0) 1) false
 
 -- does f reach g, by the matrix? It has rows and columns 0 to 16.
 unfoldable pub entry : List ℕ → ℕ → ℕ → Bool
-entry m f g = pick (ltb 16 f) false (pick (ltb 16 g) false (markAt m (cell f g)))
+entry m f g = cond (ltb 16 f) false (cond (ltb 16 g) false (markAt m (cell f g)))
 
 -- "A call from f to g is recursive if g also reaches f", by the matrix
 abbrev pub recursiveIn : List ℕ → ℕ → ℕ → Bool
@@ -28,11 +27,11 @@ recursiveIn m f g = entry m g f
 
 -- a mark at row f, column g
 unfoldable pub mark : ℕ → ℕ → List ℕ → List ℕ
-mark f g m = pick (ltb 16 f) m (pick (ltb 16 g) m (set m (cell f g) 1))
+mark f g m = cond (ltb 16 f) m (cond (ltb 16 g) m (set m (cell f g) 1))
 
 -- where a mark stands at one place, one is set at another
 unfoldable pub carried : ℕ → ℕ → List ℕ → List ℕ
-carried from to m = pick (ltb to 289) (pick (markAt m from) (set m to 1) m) m
+carried from to m = cond (ltb to 289) (cond (markAt m from) (set m to 1) m) m
 
 -- row f gets the marks of row v in columns below n
 unfoldable pub joined : ℕ → ℕ → ℕ → List ℕ → List ℕ
@@ -41,7 +40,7 @@ joined (suc g) f v m = carried (cell v g) (cell f g) (joined g f v m)
 
 -- where f reaches v, it reaches what v reaches
 unfoldable pub extended : ℕ → ℕ → List ℕ → List ℕ
-extended f v m = pick (markAt m (cell f v)) (joined 17 f v m) m
+extended f v m = cond (markAt m (cell f v)) (joined 17 f v m) m
 
 -- the rows below n go through v
 unfoldable pub through : ℕ → ℕ → List ℕ → List ℕ

@@ -1,12 +1,11 @@
 -- The calls of a table's statements: what each record is for them, the marks that they leave, and refusals 10 and 11 by a matrix.
 use Prim.Native.Nat.{ℕ, zero, suc}
-use mathlib.Core.Bool.{Bool, true, false}
+use mathlib.Core.Bool.{Bool, true, false, cond}
 use mathlib.Core.List.{List, []}
 use lib.Dec.{ltb}
 use Rattle.model.specs.Limits.{mostProcedures}
 use Rattle.model.specs.Syntax.{Statement, skip, NOT, sequence, if, qcase, call}
 use Rattle.model.specs.Reach.{lacksRemoval, width, anyBody}
-use Rattle.records.specs.Fields.{pick}
 use Rattle.table.specs.Index.{bodyAt, programAt}
 use Rattle.step.specs.declared.Step.{Step}
 use Rattle.step.specs.declared.Step.the-variants as step
@@ -48,7 +47,7 @@ markedBelow part (suc f) m = marked f (part f) (markedBelow part f m)
 
 -- the matrix of the program that a table's bytes and index have; no mark where there would be more than 16 procedures
 unfoldable pub reachAt : ℕ → List ℕ → List ℕ → List ℕ
-reachAt p bs ix = pick (ltb mostProcedures p) noMarks (reachTable (programAt p bs ix))
+reachAt p bs ix = cond (ltb mostProcedures p) noMarks (reachTable (programAt p bs ix))
 
 -- does the body of f lack a removal, by the matrix? Is it too wide?
 unfoldable pub lacksIn : List ℕ → ℕ → List ℕ → List ℕ → ℕ → Bool

@@ -1,6 +1,6 @@
 -- Laws of the readers of fields, turned as the code's needs are: how a field is followed by the next, and how tests decide. Assumes nothing.
 use mathlib.Core.Path.{_≡_, refl, sym, ap, _∙_, subst}
-use mathlib.Core.Bool.{Bool, true, false, _&&_, _||_}
+use mathlib.Core.Bool.{Bool, true, false, cond, _&&_, _||_}
 use mathlib.Core.List.{List, [], _∷_}
 use Prim.Native.Nat.{ℕ, zero, suc, _+_, _-_, _*_, _≤_, _<_}
 use native.Mathlib.Numerals.{sub-one}
@@ -25,16 +25,16 @@ use Rattle.records.specs.declared.Record.the-variants as kind
 use Rattle.records.specs.declared.Answer.{Answer}
 use Rattle.records.specs.declared.Answer.the-variants as answer
 use Rattle.records.specs.Fields.{
-  pick, byteAt, writtenAt, behindPlace, behindNumber, behindProcedure, based, numberAt, numbersAt, removalsAt, maybeRemovalsAt,
+  byteAt, writtenAt, behindPlace, behindNumber, behindProcedure, based, numberAt, numbersAt, removalsAt, maybeRemovalsAt,
 }
 use Rattle.records.specs.Fields.{
   placeOf, behindRemovals, plain, touching, comparing, calling, withNumber, withNumbers, withProcedure, fieldsAt, recordOf, recordAt,
 }
 
 -- a conjunction as the code takes it, test by test
-pub and-pick : (a b : Bool) → a && b ≡ pick a b false
-and-pick true b = refl
-and-pick false b = refl
+pub and-cond : (a b : Bool) → a && b ≡ cond a b false
+and-cond true b = refl
+and-cond false b = refl
 
 -- which variant an answer is: 0 a place, 1 a number, 2 a procedure, 3 a record, 4 a refusal
 abbrev pub Among : List ℕ → Answer → Type 0

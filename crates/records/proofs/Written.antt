@@ -1,7 +1,7 @@
 -- What a record at a place is, whatever the bytes are: of one of the twelve kinds, its numbers are written there, and it calls one of p procedures.
 use Prim.Native.Nat.{ℕ, _+_, _≤_, _<_}
 use native.Mathlib.Omega.{arith}
-use mathlib.Core.Bool.{Bool, true, false}
+use mathlib.Core.Bool.{Bool, true, false, cond}
 use mathlib.Core.List.{List}
 use borrow.Author.Tests.{lt-ltb, le-ltb, eq-eqb, ne-eqb}
 use lib.Dec.{eqb}
@@ -9,7 +9,7 @@ use Rattle.model.specs.Reading.{requiredMap}
 use Rattle.model.proofs.Tests.{byEq, byLt}
 use Rattle.records.specs.declared.Record.{Record}
 use Rattle.records.specs.declared.Record.the-variants as kind
-use Rattle.records.specs.Fields.{pick, byteAt, writtenAt, plain, touching, comparing, calling, recordOf, recordAt}
+use Rattle.records.specs.Fields.{byteAt, writtenAt, plain, touching, comparing, calling, recordOf, recordAt}
 
 module _
     (p : ℕ) (bs : List ℕ) (C : Record → Type 0)
@@ -25,7 +25,7 @@ module _
     (and : C kind.And)
     (or : C kind.Or)
     (negation : C kind.Negation) where
-  either : (b : Bool) (x y : Record) → C x → C y → C (pick b x y)
+  either : (b : Bool) (x y : Record) → C x → C y → C (cond b x y)
   either true x y c d = c
   either false x y c d = d
 

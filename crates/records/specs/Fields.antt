@@ -1,7 +1,7 @@
 -- The fields of a record, read at a place of the table's bytes, and the record as it is written there. A law ties each to the model's reader of the bytes
 -- from that place on.
 use Prim.Native.Nat.{ℕ, zero, suc, _+_, _*_}
-use mathlib.Core.Bool.{Bool, true, false}
+use mathlib.Core.Bool.{Bool, true, false, cond}
 use mathlib.Core.List.{List, [], _∷_}
 use lib.ListN.{length, getD}
 use lib.Dec.{ltb, leb, eqb}
@@ -15,10 +15,6 @@ use Rattle.records.specs.declared.Record.{Record}
 use Rattle.records.specs.declared.Record.the-variants as kind
 use Rattle.records.specs.declared.Answer.{Answer}
 use Rattle.records.specs.declared.Answer.the-variants as answer
-
-abbrev pub pick : {A : Type 0} → Bool → A → A → A
-pick true a b = a
-pick false a b = b
 
 -- the byte at a place, 0 past the end
 abbrev pub byteAt : List ℕ → ℕ → ℕ
@@ -58,9 +54,9 @@ writtenAt bs at = based (byteAt bs at) (signed16 (byteAt bs (at + 1)) (byteAt bs
 -- "A number is a base byte and a signed 16-bit constant"
 unfoldable pub numberAt : List ℕ → ℕ → Answer
 numberAt bs at =
-    pick (ltb at (length bs))
-    (pick (ltb 1 (byteAt bs at)) (answer.Refused wrongField)
-    (pick (leb (at + 3) (length bs))
+    cond (ltb at (length bs))
+    (cond (ltb 1 (byteAt bs at)) (answer.Refused wrongField)
+    (cond (leb (at + 3) (length bs))
     (answer.Number (writtenAt bs at) (at + 3))
     (answer.Refused tableStops)))
     (answer.Refused tableStops)
@@ -73,18 +69,18 @@ numbersAt (suc n) bs at = behindNumber (numberAt bs at) (λ a next. numbersAt n 
 -- "removals: a count byte 1 to 8, then that many numbers": the place behind them
 unfoldable pub removalsAt : List ℕ → ℕ → Answer
 removalsAt bs at =
-    pick (ltb at (length bs))
-    (pick (eqb (byteAt bs at) 0) (answer.Refused wrongField)
-    (pick (ltb mostRemovals (byteAt bs at)) (answer.Refused wrongField)
+    cond (ltb at (length bs))
+    (cond (eqb (byteAt bs at) 0) (answer.Refused wrongField)
+    (cond (ltb mostRemovals (byteAt bs at)) (answer.Refused wrongField)
     (numbersAt (byteAt bs at) bs (at + 1))))
     (answer.Refused tableStops)
 
 -- "a procedure byte, 1 to p"
 unfoldable pub procedureAt : ℕ → List ℕ → ℕ → Answer
 procedureAt p bs at =
-    pick (ltb at (length bs))
-    (pick (eqb (byteAt bs at) 0) (answer.Refused wrongField)
-    (pick (ltb p (byteAt bs at)) (answer.Refused wrongField)
+    cond (ltb at (length bs))
+    (cond (eqb (byteAt bs at) 0) (answer.Refused wrongField)
+    (cond (ltb p (byteAt bs at)) (answer.Refused wrongField)
     (answer.Procedure (byteAt bs at) (at + 1))))
     (answer.Refused tableStops)
 
@@ -95,7 +91,7 @@ maybeRemovalsAt false bs at = answer.Place at
 
 -- the place of the removals' count, 0 where there are none. A place past 16 bits would be passed over: reading comes to none.
 unfoldable pub placeOf : Bool → ℕ → ℕ
-placeOf true at = pick (ltb at 65536) at 0
+placeOf true at = cond (ltb at 65536) at 0
 placeOf false at = 0
 
 -- the place behind the removals, a count and three bytes each, where bit 0 stands in the map
@@ -106,30 +102,30 @@ behindRemovals false bs at = at
 -- a kind without fields; what is no kind counts as skip
 unfoldable pub plain : ℕ → Record
 plain k =
-    pick (eqb k 2) kind.Sequence
-    (pick (eqb k 3) kind.If
-    (pick (eqb k 9) kind.And
-    (pick (eqb k 10) kind.Or
-    (pick (eqb k 11) kind.Negation kind.Skip))))
+    cond (eqb k 2) kind.Sequence
+    (cond (eqb k 3) kind.If
+    (cond (eqb k 9) kind.And
+    (cond (eqb k 10) kind.Or
+    (cond (eqb k 11) kind.Negation kind.Skip))))
 
 -- NOT, kind 1, or qcase, kind 4
 unfoldable pub touching : ℕ → ℕ → Number → Record
-touching k at a = pick (eqb k 1) (kind.Not at a) (kind.Qcase at a)
+touching k at a = cond (eqb k 1) (kind.Not at a) (kind.Qcase at a)
 
 -- a comparison, kind 6, 7 or 8
 unfoldable pub comparing : ℕ → Number → Number → Record
-comparing k a b = pick (eqb k 6) (kind.Greater a b) (pick (eqb k 7) (kind.AtLeast a b) (kind.Equal a b))
+comparing k a b = cond (eqb k 6) (kind.Greater a b) (cond (eqb k 7) (kind.AtLeast a b) (kind.Equal a b))
 
 -- a call of procedure 1 to p; any other counts as skip
 unfoldable pub calling : ℕ → ℕ → ℕ → Record
-calling p at f = pick (eqb f 0) kind.Skip (pick (ltb p f) kind.Skip (kind.Call at f))
+calling p at f = cond (eqb f 0) kind.Skip (cond (ltb p f) kind.Skip (kind.Call at f))
 
 -- by the bits that the map of a kind must have: number a, numbers a and b, a procedure, or none of these
 abbrev pub byFields : {A : Type 0} → ℕ → A → A → A → A → A
 byFields k a b c d =
-    pick (eqb (requiredMap k) 2) a
-    (pick (eqb (requiredMap k) 6) b
-    (pick (eqb (requiredMap k) 8) c d))
+    cond (eqb (requiredMap k) 2) a
+    (cond (eqb (requiredMap k) 6) b
+    (cond (eqb (requiredMap k) 8) c d))
 
 -- removals, if any, then number a
 unfoldable pub withNumber : (ℕ → Number → Record) → Bool → List ℕ → ℕ → Answer

@@ -1,6 +1,6 @@
 -- The ways out of the code: one law for each, from what its callees ensure to what the word becomes.
 use mathlib.Core.Path.{_≡_, refl, sym, ap, _∙_}
-use mathlib.Core.Bool.{false}
+use mathlib.Core.Bool.{false, cond}
 use mathlib.Core.List.{List, [], _∷_}
 use Prim.Native.Nat.{ℕ, zero, suc, _+_, _-_, _*_, _/_, _%_, _^_, _≤_, _<_}
 use native.Mathlib.Nat.{le-refl}
@@ -17,7 +17,7 @@ use Rattle.model.specs.Meaning.{stateOf}
 use Rattle.model.proofs.Tests.{byBool}
 use Rattle.model.proofs.Calls.{body-out}
 use Rattle.model.proofs.ListLaws.{range-length}
-use Rattle.records.specs.Fields.{pick, removalsOf}
+use Rattle.records.specs.Fields.{removalsOf}
 use Rattle.table.specs.Index.{rootOf, testAt, statementAt, programAt}
 use Rattle.step.specs.declared.Step.{Step}
 use Rattle.step.specs.declared.Step.the-variants as step
@@ -94,7 +94,7 @@ module _ (p : ℕ) (bs ix : List ℕ) (left at : ℕ) (l : List ℕ) (fuel word 
       (ap (λ (x : ℕ). walked p bs ix (left - 1) b l fuel x) first)
 
     -- if goes on as the statement that is chosen
-    pub walk-chosen : (c a b x : ℕ) → st ≡ step.Chooses c a b → x ≡ pick (holds (testAt p bs ix (left - 1) c) (length l)) a b →
+    pub walk-chosen : (c a b x : ℕ) → st ≡ step.Chooses c a b → x ≡ cond (holds (testAt p bs ix (left - 1) c) (length l)) a b →
         walked p bs ix (left - 1) x l fuel word ≡ whole
     walk-chosen c a b x e q =
       let calls = callWordsWithin (programAt p bs ix) fuel in
@@ -102,7 +102,7 @@ module _ (p : ℕ) (bs ix : List ℕ) (left at : ℕ) (l : List ℕ) (fuel word 
         p bs ix left at deep steps e q) ∙ inv
 
     -- qcase reads the bit of the qubit it touches and goes on as zero or one
-    pub walk-taken : (q a b x : ℕ) → st ≡ step.Branches q a b → x ≡ pick (bitOf q word) b a → walked p bs ix (left - 1) x l fuel word ≡ whole
+    pub walk-taken : (q a b x : ℕ) → st ≡ step.Branches q a b → x ≡ cond (bitOf q word) b a → walked p bs ix (left - 1) x l fuel word ≡ whole
     walk-taken q a b x e k =
       let calls = callWordsWithin (programAt p bs ix) fuel in
       let s = at-step p bs ix left at l deep steps e in

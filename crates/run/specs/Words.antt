@@ -1,6 +1,6 @@
 -- A run on words: what the model's `does` and `callDoesWithin` say of states, said of the word that holds their bits.
 use Prim.Native.Nat.{ℕ, zero, suc, _^_}
-use mathlib.Core.Bool.{Bool, true, false}
+use mathlib.Core.Bool.{Bool, true, false, cond}
 use mathlib.Core.List.{List, [], _∷_}
 use lib.Bits.{bitXor}
 use lib.Dec.{ltb}
@@ -10,12 +10,11 @@ use Rattle.model.specs.Syntax.{Statement, skip, NOT, sequence, if, qcase, call,
 use Rattle.model.specs.Lists.{qubits, remaining, touched, holds}
 use Rattle.model.specs.Faults.{enough}
 use Rattle.model.specs.Meaning.{stateOf}
-use Rattle.records.specs.Fields.{pick}
 use Rattle.table.specs.Index.{statementAt, programAt}
 
 -- qubits have the numbers 1 to 32. Any other number stands for none, as 0 does.
 abbrev pub qubitOf : ℕ → ℕ
-qubitOf q = pick (ltb mostQubits q) 0 q
+qubitOf q = cond (ltb mostQubits q) 0 q
 
 -- "In a word, qubit i is bit i − 1": the word with that bit flipped; 0 is no qubit
 unfoldable pub bitFlipped : ℕ → ℕ → ℕ

@@ -1,9 +1,9 @@
 // The run of a word: one walk through the table, along the one path that the word takes.
+ghost use mathlib.Core.Bool.{cond};
 ghost use mathlib.Core.Path.{_≡_};
 ghost use Prim.Native.Nat.{min};
 ghost use Rattle.table.specs.Index.{programAt};
 ghost use Rattle.step.specs.Steps.{qubitsOf};
-ghost use Rattle.records.specs.Fields.{pick};
 ghost use Rattle.run.specs.Words.{flippedWord, bitOf, walked, called, ranWord};
 ghost use Rattle.run.specs.Answers.{answerOf};
 ghost use Rattle.model.specs.Answers as model;
@@ -43,7 +43,7 @@ fn bit(word: u64, q: u8) -> bool
 
 // A qcase goes on as one of its two statements: as `one` where the bit of its qubit is 1, otherwise as `zero`.
 fn taken(word: u64, q: u8, zero: usize, one: usize) -> usize
-    ensures { λ r. ⌜ r ≡ pick (bitOf q word) one zero ⌝ }
+    ensures { λ r. ⌜ r ≡ cond (bitOf q word) one zero ⌝ }
 {
     if bit(word, q) { one } else { zero }
 }

@@ -1,6 +1,6 @@
 -- What a record does on a list of qubits: the one step of check, run and emission.
 use Prim.Native.Nat.{ℕ, _+_}
-use mathlib.Core.Bool.{_&&_}
+use mathlib.Core.Bool.{cond, _&&_}
 use mathlib.Core.List.{List}
 use lib.ListN.{length, take}
 use lib.IntN.{ℤ, pos, _+ℤ_}
@@ -11,7 +11,7 @@ use Rattle.records.specs.declared.Number.{Number}
 use Rattle.records.specs.declared.Number.the-variants as base
 use Rattle.records.specs.declared.Record.{Record}
 use Rattle.records.specs.declared.Record.the-variants as kind
-use Rattle.records.specs.Fields.{pick, recordAt, numberOf, removalsOf}
+use Rattle.records.specs.Fields.{recordAt, numberOf, removalsOf}
 use Rattle.table.specs.Index.{startOf, behindOf}
 use Rattle.step.specs.declared.Qubits.{Qubits}
 use Rattle.step.specs.declared.Step.{Step}
@@ -24,15 +24,15 @@ qubitsOf q = take (q .len) (q .at)
 -- the value of a number. A table's constants have 16 bits: for them a law says that the guard, without which a sum could leave i32, never shuts.
 unfoldable pub valueOf : Number → ℕ → ℤ
 valueOf (base.Constant z) size = z
-valueOf (base.SizePlus z) size = pick (ltZ (pos 32767) z) (pos 0) (z +ℤ pos size)
+valueOf (base.SizePlus z) size = cond (ltZ (pos 32767) z) (pos 0) (z +ℤ pos size)
 
 -- a position in a list of this size: 0 for "a position at or below zero, or past the end"
 unfoldable pub within : ℕ → ℤ → ℕ
-within size z = pick (ltb size (position z)) 0 (position z)
+within size z = cond (ltb size (position z)) 0 (position z)
 
 -- the record behind record i. Past the end of the index all numbers are alike: there i stands for i + 1.
 unfoldable pub nextOf : List ℕ → ℕ → ℕ
-nextOf ix i = pick (ltb i (length ix)) (i + 1) i
+nextOf ix i = cond (ltb i (length ix)) (i + 1) i
 
 -- the qubit that is touched in a whole list, where the removals stand at a place: "the entry at position a of the remaining list"
 abbrev pub touchedBy : List ℕ → ℕ → Number → List ℕ → ℕ

@@ -1,9 +1,10 @@
 // Lists of qubits, and the one step that check, run and emission take from a record.
+ghost use mathlib.Core.Bool.{cond};
 ghost use mathlib.Core.Path.{_≡_};
 ghost use Prim.Native.Nat.{min};
 ghost use lib.ListN.{length, take};
 ghost use Rattle.model.specs.Lists.{qubits, entry, remove, remaining, position, holds};
-ghost use Rattle.records.specs.Fields.{pick, removalsOf};
+ghost use Rattle.records.specs.Fields.{removalsOf};
 ghost use Rattle.table.specs.Index.{startOf, behindOf, testAt};
 ghost use Rattle.step.specs.Steps.{qubitsOf, valueOf, within, touchedBy, nextOf, stepAt};
 use records::{Number, Record, record_at, written_at};
@@ -205,7 +206,7 @@ pub fn step_at(table: &[u8], index: &[u16], p: u8, i: usize, list: Qubits) -> St
 }
 
 // Does the condition at record i hold for its numbers? It is followed `depth` records down; a statement there is no condition and holds.
-pub fn holds(table: &[u8], index: &[u16], p: u8, i: usize, list: Qubits, depth: u8) -> bool
+fn holds(table: &[u8], index: &[u16], p: u8, i: usize, list: Qubits, depth: u8) -> bool
     ensures { λ r. ⌜ r ≡ holds (testAt p (now (table .entry)) (now (index .entry)) depth i) (length (qubitsOf list)) ⌝ }
 {
     if depth == 0 {
@@ -232,7 +233,7 @@ pub fn holds(table: &[u8], index: &[u16], p: u8, i: usize, list: Qubits, depth: 
 
 // An if goes on as one of its two statements: as `yes` where the condition at record c holds, otherwise as `no`.
 pub fn chosen(table: &[u8], index: &[u16], p: u8, c: usize, yes: usize, no: usize, list: Qubits, depth: u8) -> usize
-    ensures { λ r. ⌜ r ≡ pick (holds (testAt p (now (table .entry)) (now (index .entry)) depth c) (length (qubitsOf list))) yes no ⌝ }
+    ensures { λ r. ⌜ r ≡ cond (holds (testAt p (now (table .entry)) (now (index .entry)) depth c) (length (qubitsOf list))) yes no ⌝ }
 {
     if holds(table, index, p, c, list, depth) { yes } else { no }
 }

@@ -2,14 +2,13 @@
 use Prim.Native.Nat.{ℕ, _+_, _≤_, _<_}
 use mathlib.Core.Path.{_≡_, refl, _∙_}
 use mathlib.Core.Logic.{_≢_}
-use mathlib.Core.Bool.{Bool, true, false}
+use mathlib.Core.Bool.{Bool, true, false, cond}
 use mathlib.Core.List.{List}
 use native.Mathlib.Omega.{arith}
 use borrow.Author.Tests.{lt-ltb}
 use lib.Dec.{ltb}
 use lib.ListN.{length, getD, set, length-set}
 use lib.Seq.{getD-set-same, getD-set-other}
-use Rattle.records.specs.Fields.{pick}
 use Rattle.table.specs.Index.{startOf, behindOf, rootOf}
 use Rattle.table.specs.Reading.{noted}
 
@@ -24,7 +23,7 @@ module _ (ix : List ℕ) (slot value : ℕ) where
   unfolding noted
   noted-other s h = by (ltb slot 544) (ltb value 65536)
     where
-      by : (a b : Bool) → getD (pick a (pick b (set ix slot value) ix) ix) s 0 ≡ getD ix s 0
+      by : (a b : Bool) → getD (cond a (cond b (set ix slot value) ix) ix) s 0 ≡ getD ix s 0
       by true true = getD-set-other ix slot s value 0 h
       by true false = refl
       by false b = refl
@@ -34,7 +33,7 @@ module _ (ix : List ℕ) (slot value : ℕ) where
   unfolding noted
   noted-long = by (ltb slot 544) (ltb value 65536)
     where
-      by : (a b : Bool) → length (pick a (pick b (set ix slot value) ix) ix) ≡ length ix
+      by : (a b : Bool) → length (cond a (cond b (set ix slot value) ix) ix) ≡ length ix
       by true true = length-set ix slot value
       by true false = refl
       by false b = refl

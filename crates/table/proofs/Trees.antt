@@ -4,7 +4,7 @@ use Prim.Native.Nat.{ℕ, zero, suc, _+_, _-_, _*_, _≤_, _<_}
 use native.Mathlib.Numerals.{add-one}
 use native.Mathlib.Omega.{arith}
 use mathlib.Core.Path.{_≡_, refl, _∙_, subst}
-use mathlib.Core.Bool.{Bool, true, false}
+use mathlib.Core.Bool.{Bool, true, false, cond}
 use mathlib.Core.List.{List, [], _∷_}
 use mathlib.Core.Option.{Option, none, some}
 use borrow.Author.Tests.{lt-ltb, le-ltb, le-leb, lt-leb, ltb-true, ltb-false}
@@ -17,7 +17,7 @@ use Rattle.model.specs.Reading.{conditionKind, statementKind, conditionOf, cond
 use Rattle.model.proofs.Tests.{byBool, byLt, clash}
 use Rattle.records.specs.declared.Record.{Record}
 use Rattle.records.specs.declared.Record.the-variants as kind
-use Rattle.records.specs.Fields.{pick, byteAt, recordOf, recordAt, fieldsOf}
+use Rattle.records.specs.Fields.{byteAt, recordOf, recordAt, fieldsOf}
 use Rattle.records.proofs.Reader.{inputAt, byte-there, byte-lacks, kindOf, fields-cases, record-again}
 use Rattle.table.specs.declared.Tree.the-variants as tree
 use Rattle.table.specs.Index.{startOf, behindOf, testOf, testAt, statementOf, statementAt}
@@ -251,7 +251,7 @@ module _ {A : Type 0} (p : ℕ) (bs : List ℕ) (at i : ℕ) (ix : List ℕ) (fo
       next ≤ 2 + 30 * (i + 1) →
       Agree bs i ix found (f (fieldsOf bs r) (inputAt bs next (i + 1))) (g next)) →
       Agree bs i ix found (contents p map k (inputAt bs (at + 2) i) f)
-      (pick (ltb i 255) (behindFields (contentsAt p map k bs (at + 2)) ix g) (ran (tree.Refused 7) ix))
+      (cond (ltb i 255) (behindFields (contentsAt p map k bs (at + 2)) ix g) (ran (tree.Refused 7) ix))
   unfolding contents contentsAt provided andThen behindFields refusal
   contents-agree map k f g inside small near go =
       byLt i 255

@@ -1,6 +1,6 @@
 -- Reading trees at a place of the table's bytes, with the index as it fills. A law ties this to the model's reader of the bytes from that place on.
 use Prim.Native.Nat.{ℕ, zero, suc, _+_}
-use mathlib.Core.Bool.{Bool, true, false}
+use mathlib.Core.Bool.{Bool, true, false, cond}
 use mathlib.Core.List.{List, [], _∷_}
 use lib.ListN.{length, getD, set}
 use lib.Dec.{ltb, leb}
@@ -8,7 +8,7 @@ use Rattle.model.specs.Limits.{mostRecords, mostDepth, tableStops, wrongKind, w
 use Rattle.model.specs.Reading.{permitted, stands}
 use Rattle.records.specs.declared.Answer.{Answer}
 use Rattle.records.specs.declared.Answer.the-variants as field
-use Rattle.records.specs.Fields.{pick, byteAt, fieldsAt}
+use Rattle.records.specs.Fields.{byteAt, fieldsAt}
 use Rattle.table.specs.declared.Tree.{Tree}
 use Rattle.table.specs.declared.Tree.the-variants as tree
 
@@ -23,11 +23,11 @@ behindTree (ran (tree.Refused k) ix) f = ran (tree.Refused k) ix
 
 -- the index with a value noted at a slot. A slot outside, or a value past 65535, would be passed over: reading comes to neither.
 unfoldable pub noted : List ℕ → ℕ → ℕ → List ℕ
-noted ix slot value = pick (ltb slot 544) (pick (ltb value 65536) (set ix slot value) ix) ix
+noted ix slot value = cond (ltb slot 544) (cond (ltb value 65536) (set ix slot value) ix) ix
 
 -- is this a kind of condition, or else of statement?
 unfoldable pub wanted : Bool → ℕ → Bool
-wanted true kind = pick (ltb kind 6) false (ltb kind 12)
+wanted true kind = cond (ltb kind 6) false (ltb kind 12)
 wanted false kind = ltb kind 6
 
 -- how many conditions, and how many statements, stand behind a record of each kind
@@ -43,7 +43,7 @@ parts false kind = getD statementParts kind 0
 
 -- what comes behind 7 in a record, whose fields stand at `at`: "5, then each field 1 and 6"
 unfoldable pub contentsAt : ℕ → ℕ → ℕ → List ℕ → ℕ → Answer
-contentsAt p map kind bs at = pick (permitted kind map) (fieldsAt p kind (stands 0 map) bs at) (field.Refused wrongMap)
+contentsAt p map kind bs at = cond (permitted kind map) (fieldsAt p kind (stands 0 map) bs at) (field.Refused wrongMap)
 
 -- n trees, one after the other
 unfoldable pub many : (ℕ → ℕ → List ℕ → Ran) → ℕ → ℕ → ℕ → List ℕ → Ran
@@ -77,9 +77,9 @@ childrenAt one kind at next i ix =
 -- "each record 1 for map and kind, 4": what comes then is given
 abbrev pub opened : Bool → List ℕ → ℕ → List ℕ → Ran → Ran
 opened tests bs at ix x =
-    pick (ltb at (length bs))
-    (pick (leb (at + 2) (length bs))
-    (pick (wanted tests (byteAt bs (at + 1))) x
+    cond (ltb at (length bs))
+    (cond (leb (at + 2) (length bs))
+    (cond (wanted tests (byteAt bs (at + 1))) x
     (ran (tree.Refused wrongKind) ix))
     (ran (tree.Refused tableStops) ix))
     (ran (tree.Refused tableStops) ix)
@@ -87,7 +87,7 @@ opened tests bs at ix x =
 -- what comes then in a record that is not too deep: "7, 5, then each field 1 and 6", and its children
 abbrev pub behindKind : ℕ → List ℕ → (Bool → ℕ → ℕ → List ℕ → Ran) → ℕ → ℕ → List ℕ → Ran
 behindKind p bs one at i ix =
-    pick (ltb i mostRecords)
+    cond (ltb i mostRecords)
     (behindFields (contentsAt p (byteAt bs at) (byteAt bs (at + 1)) bs (at + 2)) ix (λ next.
     childrenAt one (byteAt bs (at + 1)) at next i ix))
     (ran (tree.Refused tooDeep) ix)

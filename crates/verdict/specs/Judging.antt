@@ -1,10 +1,10 @@
 -- What the verdict's answers say, and the refusals of a table that was read, by its index.
 use Prim.Native.Nat.{ℕ, zero, suc}
+use mathlib.Core.Bool.{cond}
 use mathlib.Core.List.{List}
 use Rattle.model.specs.Limits.{noRemoval, tooWide, accessFault, success}
 use Rattle.model.specs.Syntax.{Program}
 use Rattle.model.specs.Answers.{Outcome, gives, refuses}
-use Rattle.records.specs.Fields.{pick}
 use Rattle.table.specs.Index.{programAt}
 use Rattle.reach.specs.Walk.{reachAt, anyLacksIn, anyWideIn}
 use Rattle.faults.specs.Filling.{faultsAt}
@@ -13,9 +13,9 @@ use Rattle.verdict.specs.declared.Judged.{Judged}
 -- "10 over the whole table, then 11, then 12"
 unfoldable pub judgedAt : ℕ → List ℕ → List ℕ → ℕ → ℕ
 judgedAt p bs ix n =
-    pick (anyLacksIn (reachAt p bs ix) p bs ix) noRemoval
-    (pick (anyWideIn (reachAt p bs ix) p bs ix) tooWide
-    (pick (faultsAt p bs ix (reachAt p bs ix) n) accessFault success))
+    cond (anyLacksIn (reachAt p bs ix) p bs ix) noRemoval
+    (cond (anyWideIn (reachAt p bs ix) p bs ix) tooWide
+    (cond (faultsAt p bs ix (reachAt p bs ix) n) accessFault success))
 
 -- number 0 with a program, or a refusal
 unfoldable pub outcomeOf : ℕ → Program → Outcome Program

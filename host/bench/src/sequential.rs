@@ -7,8 +7,13 @@
 //! What a statement decides depends on the length of its list alone, so each
 //! procedure is counted once for each length, however often it is called.
 
-use foq_reference::{Condition, Number, Program, Statement};
+use foq_reference::{holds, remaining, Program, Statement};
 use std::collections::BTreeMap;
+
+/// Some list of this length.
+fn list_of(length: usize) -> Vec<u8> {
+    (0..length).map(|entry| entry as u8).collect()
+}
 
 /// The gates of an accepted program on n qubits.
 pub fn gates(program: &Program, n: usize) -> u128 {
@@ -43,7 +48,7 @@ impl Counter<'_> {
             Statement::Call {
                 removals,
                 procedure,
-            } => match remaining(removals, length) {
+            } => match remaining(&list_of(length), removals).len() {
                 0 => 0,
                 left => 2 + self.body(*procedure, left),
             },
@@ -58,34 +63,6 @@ impl Counter<'_> {
         let gates = self.gates(&self.program.bodies[procedure - 1], length);
         self.counted.insert((procedure, length), gates);
         gates
-    }
-}
-
-fn value(number: Number, length: usize) -> i64 {
-    match number {
-        Number::Constant(constant) => constant.into(),
-        Number::SizePlus(constant) => length as i64 + i64::from(constant),
-    }
-}
-
-/// How long a list of this length is after the removals.
-fn remaining(removals: &[Number], length: usize) -> usize {
-    removals.iter().fold(length, |left, &removal| {
-        match usize::try_from(value(removal, length)) {
-            Ok(position) if (1..=left).contains(&position) => left - 1,
-            _ => 0,
-        }
-    })
-}
-
-fn holds(condition: &Condition, length: usize) -> bool {
-    match condition {
-        Condition::Greater(a, b) => value(*a, length) > value(*b, length),
-        Condition::AtLeast(a, b) => value(*a, length) >= value(*b, length),
-        Condition::Equal(a, b) => value(*a, length) == value(*b, length),
-        Condition::And(first, second) => holds(first, length) && holds(second, length),
-        Condition::Or(first, second) => holds(first, length) || holds(second, length),
-        Condition::Not(inner) => !holds(inner, length),
     }
 }
 

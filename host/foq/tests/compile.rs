@@ -34,7 +34,7 @@ use room::Room;
 use small_stack::on_that_stack;
 use std::time::{Duration, Instant};
 use steps::count_steps;
-use words::{every_word, on_many_qubits, sampled};
+use words::{every_word, on_few_qubits, on_many_qubits, sampled};
 
 /// Rooms longer than any circuit.
 const LONG_ROOMS: [usize; 3] = [65_537, 70_000, 131_072];
@@ -554,9 +554,7 @@ fn run_programs(seed: u64, shape: &Shape, tables: usize, qubits: &[u32]) -> Coun
     let mut both = Both::new();
     let mut random = Random::from_seed(seed);
     let mut counts = Counts::new();
-    for turn in 0..tables {
-        let table = encode(&program(&mut random, shape));
-        let n = qubits[turn % qubits.len()];
+    for (table, n) in on_few_qubits(&mut random, shape, tables, qubits) {
         both.run_circuit(&table, n, every_word(n), &mut counts);
     }
     counts

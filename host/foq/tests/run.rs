@@ -26,7 +26,7 @@ use lent::{Workspace, LENGTHS};
 use refusals::tables_in_order;
 use small_stack::on_that_stack;
 use steps::count_steps;
-use words::{every_word, on_many_qubits, sampled};
+use words::{every_word, on_few_qubits, on_many_qubits, sampled};
 
 /// Asks the product and the second interpreter.
 struct Both {
@@ -92,9 +92,7 @@ fn run_programs(seed: u64, shape: &Shape, tables: usize, qubits: &[u32]) -> Coun
     let mut both = Both::new();
     let mut random = Random::from_seed(seed);
     let mut counts = Counts::new();
-    for turn in 0..tables {
-        let table = encode(&program(&mut random, shape));
-        let n = qubits[turn % qubits.len()];
+    for (table, n) in on_few_qubits(&mut random, shape, tables, qubits) {
         both.run_all(&table, n, every_word(n), &mut counts);
     }
     counts

@@ -57,8 +57,7 @@ impl Calls {
     pub(crate) fn lack_a_removal(&self, program: &Program) -> bool {
         (0..=program.bodies.len()).any(|from| {
             call_records(program.body(from))
-                .iter()
-                .any(|(removals, to)| removals.is_empty() && self.recursive(from, *to))
+                .any(|(removals, to)| removals.is_empty() && self.recursive(from, to))
         })
     }
 
@@ -68,10 +67,11 @@ impl Calls {
     }
 }
 
-/// The call records of a statement in preorder: their removals and procedures.
-fn call_records(statement: &Statement) -> Vec<(&[Number], usize)> {
+/// The records of a statement in preorder.
+fn records(statement: &Statement) -> Vec<&Statement> {
+    let mut all = vec![statement];
     match statement {
-        Statement::Skip | Statement::Not { .. } => Vec::new(),
+        Statement::Skip | Statement::Not { .. } | Statement::Call { .. } => {}
         Statement::Sequence(first, second)
         | Statement::If {
             yes: first,
@@ -82,31 +82,31 @@ fn call_records(statement: &Statement) -> Vec<(&[Number], usize)> {
             zero: first,
             one: second,
             ..
-        } => [call_records(first), call_records(second)].concat(),
-        Statement::Call {
-            removals,
-            procedure,
-        } => vec![(removals.as_slice(), *procedure)],
+        } => {
+            all.extend(records(first));
+            all.extend(records(second));
+        }
     }
+    all
+}
+
+/// The call records of a statement in preorder: their removals and procedures.
+fn call_records(statement: &Statement) -> impl Iterator<Item = (&[Number], usize)> {
+    records(statement)
+        .into_iter()
+        .filter_map(|record| match record {
+            Statement::Call {
+                removals,
+                procedure,
+            } => Some((removals.as_slice(), *procedure)),
+            _ => None,
+        })
 }
 
 /// The number of NOT records of a statement.
 fn not_records(statement: &Statement) -> usize {
-    match statement {
-        Statement::Skip | Statement::Call { .. } => 0,
-        Statement::Not { .. } => 1,
-        Statement::Sequence(first, second)
-        | Statement::If {
-            yes: first,
-            no: second,
-            ..
-        }
-        | Statement::Qcase {
-            zero: first,
-            one: second,
-            ..
-        } => not_records(first) + not_records(second),
-    }
+    let is_not = |record: &&&Statement| matches!(record, Statement::Not { .. });
+    records(statement).iter().filter(is_not).count()
 }
 
 /// "r is the most classes of mutually reaching procedures on one line of
@@ -142,7 +142,7 @@ pub fn gate_bound(program: &Program, n: u32) -> u128 {
     let n = u128::from(n);
     let bodies = || std::iter::once(&program.main).chain(&program.bodies);
     let nots: usize = bodies().map(not_records).sum();
-    let calls: usize = bodies().map(|body| call_records(body).len()).sum();
+    let calls: usize = bodies().map(|body| call_records(body).count()).sum();
     let s = (nots + calls) as u128;
     let c = calls as u128;
     let p = program.bodies.len() as u128;

@@ -26,5 +26,6 @@ pub use circuit::{
 };
 pub use emission::{emission, Emission, Tally};
 pub use listing::listing;
+pub use meaning::{holds, remaining};
 pub use operations::{compile, plain_verdict, run, verdict, SHORTEST_WORKSPACE};
 pub use table::{read_table, Condition, Number, Program, Statement};

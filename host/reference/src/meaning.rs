@@ -25,7 +25,8 @@ fn index(position: i64, length: usize) -> Option<usize> {
 /// "Removals go left to right, each from what the last one left. A position
 /// outside 1 to the length empties the list". `list` is the whole list, whose
 /// size the numbers use throughout.
-pub(crate) fn remaining(list: &[u8], removals: &[Number]) -> Vec<u8> {
+#[must_use]
+pub fn remaining(list: &[u8], removals: &[Number]) -> Vec<u8> {
     let mut left = list.to_vec();
     for &removal in removals {
         match index(value(removal, list.len()), left.len()) {
@@ -46,7 +47,8 @@ pub(crate) fn touched(list: &[u8], removals: &[Number], position: Number) -> Opt
 }
 
 /// Whether a condition "holds for its numbers" with a whole list of this size.
-pub(crate) fn holds(condition: &Condition, size: usize) -> bool {
+#[must_use]
+pub fn holds(condition: &Condition, size: usize) -> bool {
     match condition {
         Condition::Greater(a, b) => value(*a, size) > value(*b, size),
         Condition::AtLeast(a, b) => value(*a, size) >= value(*b, size),

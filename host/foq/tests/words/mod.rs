@@ -1,12 +1,24 @@
 //! Start words of n qubits, and random programs to run from some of them.
 
-use foq_generator::programs::{program, LARGE, MERGING, SMALL};
+use foq_generator::programs::{program, Shape, LARGE, MERGING, SMALL};
 use foq_generator::tree::encode;
 use foq_generator::Random;
 
 /// Every word.
 pub fn every_word(n: u32) -> impl Iterator<Item = u64> {
     0..1 << n
+}
+
+/// Tables of random programs of a shape, each with one of these numbers of
+/// qubits in turn.
+pub fn on_few_qubits<'a>(
+    random: &'a mut Random,
+    shape: &'a Shape,
+    tables: usize,
+    qubits: &'a [u32],
+) -> impl Iterator<Item = (Vec<u8>, u32)> + 'a {
+    let in_turn = qubits.iter().cycle().take(tables);
+    in_turn.map(|&n| (encode(&program(random, shape)), n))
 }
 
 /// The lowest and the highest word, and this many others.
