@@ -9,8 +9,8 @@
 #include <stdlib.h>
 
 /*
- * Reads a number, decimal or with 0x hexadecimal; says whether the text is one
- * and at most `most`.
+ * Reads a number, as C writes them: decimal, with 0x hexadecimal, with a leading
+ * 0 octal. Says whether the text is one and at most `most`.
  */
 static inline int read_number(const char *text, uint64_t most, uint64_t *number)
 {

@@ -3,7 +3,7 @@
  * qubits and a start word:
  *
  *     $ stack pairs.foq 3 0
- *     foq_verdict 23000
+ *     foq_verdict 8900
  *     ..
  *
  * A call is made on a thread that has FOQ_ENOUGH_STACK bytes of stack and not

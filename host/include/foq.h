@@ -77,7 +77,7 @@
 #define FOQ_MANY_PROCEDURES 3u  /* more than FOQ_MOST_PROCEDURES procedures */
 #define FOQ_WRONG_KIND 4u       /* kind unknown, or condition and statement exchanged */
 #define FOQ_WRONG_MAP 5u        /* a map that the record's kind does not permit */
-#define FOQ_WRONG_FIELD 6u      /* a removal count, base or procedure byte */
+#define FOQ_WRONG_FIELD 6u      /* a wrong removal count, base or procedure byte */
 #define FOQ_TOO_DEEP 7u         /* a tree too deep, or too many records */
 #define FOQ_BYTES_LEFT 8u       /* bytes left over behind the last body */
 #define FOQ_WRONG_QUBITS 9u     /* n is not 1 to FOQ_MOST_QUBITS */
@@ -134,6 +134,22 @@
 #define FOQ_KIND_NEGATION 11u /* one condition */
 
 /*
+ * What a table means: main's list is qubits 1 to n, a procedure's list is what
+ * the call hands it. Removals take positions, counted from 1, out of that whole
+ * list, left to right, each from what the last one left; a position outside
+ * empties the list. A call hands on what is left, and does nothing where nothing
+ * is left. NOT and qcase touch the entry at position a of what is left. There a
+ * position outside is an access fault, and so is a closed qubit: a qcase closes
+ * its qubit in its two statements and in what they call. A fault counts in both
+ * statements of a qcase, whichever a run takes, but only in the chosen statement
+ * of an if, and only where calls from main lead.
+ *
+ * A call is recursive if the procedure that is called leads back, by one or more
+ * calls, to the one that calls. Width: skip and NOT 0, a sequence the sum, if
+ * and qcase the larger of their two, a recursive call 1, any other call 0.
+ */
+
+/*
  * A circuit is its edition, n, the ancilla count, the gate count in four bytes,
  * lowest first, then the gates; in all at most FOQ_MOST_CIRCUIT bytes.
  */
@@ -145,9 +161,15 @@
 
 /*
  * A gate is a map, the target wire, then what the map's bits say, in this
- * order: a count of wires and the wires that must hold 1; the same for 0; the
- * second wire of a swap, higher than the target. Without that bit it is a NOT.
- * Wires ascend in each list, and no wire occurs twice in a gate.
+ * order: a count of wires, at least 1, and the wires that must hold 1; the same
+ * for 0; the second wire of a swap, higher than the target. Without that bit it
+ * is a NOT. Wires ascend in each list, and no wire occurs twice in a gate.
+ *
+ * A circuit is well formed if its edition is FOQ_CIRCUIT_EDITION, n is 1 to
+ * FOQ_MOST_QUBITS, n and the ancilla count together are at most FOQ_MOST_WIRES,
+ * its gates are as said here, over wires 1 to that sum and without any other map
+ * bit, the gate count is true, no byte is left, and it has at most
+ * FOQ_MOST_CIRCUIT bytes.
  */
 #define FOQ_GATE_ON_ONE 1u
 #define FOQ_GATE_ON_ZERO 2u
@@ -195,9 +217,17 @@ typedef struct {
 
 /*
  * Says whether a table is accepted for n qubits. Its answer is FOQ_SUCCESS or
- * the first refusal that applies: FOQ_WRONG_QUBITS; then 1 to 8 in the order of
- * the bytes; then, of the whole table, FOQ_NO_REMOVAL, FOQ_TOO_WIDE and
- * FOQ_ACCESS_FAULT; then FOQ_SHORT_WORKSPACE.
+ * the first refusal that applies:
+ *
+ *   - FOQ_WRONG_QUBITS;
+ *   - of the first two bytes FOQ_TABLE_STOPS, FOQ_WRONG_EDITION and
+ *     FOQ_MANY_PROCEDURES;
+ *   - of each record, one after the other: FOQ_TABLE_STOPS for map and kind,
+ *     FOQ_WRONG_KIND, FOQ_TOO_DEEP, FOQ_WRONG_MAP, then FOQ_TABLE_STOPS and
+ *     FOQ_WRONG_FIELD for each byte of a field as it comes;
+ *   - FOQ_BYTES_LEFT;
+ *   - of all bodies FOQ_NO_REMOVAL, then FOQ_TOO_WIDE;
+ *   - FOQ_ACCESS_FAULT, then FOQ_SHORT_WORKSPACE.
  */
 uint32_t foq_verdict(const uint8_t *table, size_t length, uint32_t n,
                      uint8_t *workspace, size_t workspace_length);
@@ -228,14 +258,15 @@ foq_answer foq_run(const uint8_t *table, size_t length, uint32_t n,
  * the emission's steps that does not fit: FOQ_MANY_WIRES for an ancilla,
  * FOQ_NO_ROOM for a gate.
  *
- * On success the bytes are exactly the emission of document 01, and for every
- * start word below 2 to the power n foq_circuit_run gives a block for them whose
- * data wires hold the end word that foq_run gives for the table, and whose every
- * other bit is zero. The ancilla count is the most ancillas in use at one time,
- * and the number of gates is within s * (4 + 2n) * (1 + p * r * (c * n)^r), where
- * s counts the table's NOT and call records, c its call records, p its
- * procedures, and r is the most classes of mutually reaching procedures on one
- * line of calls from main.
+ * On success the bytes are exactly the emission of document 01, "FOQ tables,
+ * their runs and their merged circuits". For every start word below 2 to the
+ * power n foq_circuit_run gives a block for them whose data wires hold the end
+ * word that foq_run gives for the table, and whose every other bit is zero. The
+ * ancilla count is the most ancillas in use at one time, and the number of gates
+ * is within s * (4 + 2n) * (1 + p * r * (c * n)^r), where s counts the table's
+ * NOT and call records, c its call records, p its procedures, and r is the most
+ * classes of mutually reaching procedures on one line of falling calls from main
+ * (a procedure that no cycle holds is a class by itself).
  *
  * The emission of a hostile table could be astronomical, but a call ends at the
  * first step that does not fit. On one machine PAIRS took a twentieth of a

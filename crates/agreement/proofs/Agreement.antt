@@ -23,7 +23,7 @@ use Rattle.agreement.proofs.Clauses.{Low}
 use Rattle.agreement.proofs.World.{Safely, Safe, World, Zero, ranked-up, asked-in-none, below-none}
 use Rattle.agreement.proofs.Frame.{NoFault, safe-of, does-stays, stays-within, outside-within, keeps-within, weakens-within, same-within}
 use Rattle.agreement.proofs.Whole.{whole-fires}
-use Rattle.agreement.proofs.Onion.{chains-served}
+use Rattle.agreement.proofs.NestedBodies.{chains-served}
 
 -- calls with all the fuel that they need: what they do, which of them fault, which are safe
 abbrev pub callRuns : Program → CallDoes

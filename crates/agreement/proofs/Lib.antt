@@ -8,7 +8,7 @@ pub mod Halves
 pub mod Split
 pub mod Track
 pub mod Entry
-pub mod Onion
+pub mod NestedBodies
 pub mod Agreement
 pub mod Depth
 pub mod ChainDepth

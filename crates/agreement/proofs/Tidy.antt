@@ -41,7 +41,7 @@ use Rattle.agreement.proofs.World.{
 }
 use Rattle.agreement.proofs.Invocations.{Mem, mem-left, DistinctAncillas}
 use Rattle.agreement.proofs.Track.{asks-under}
-use Rattle.agreement.proofs.Onion.{Goods, next-above, safe-body, ranked-body, goods-more, distinct-more, start-good, chains-served}
+use Rattle.agreement.proofs.NestedBodies.{Goods, next-above, safe-body, ranked-body, goods-more, distinct-more, start-good, chains-served}
 use Rattle.agreement.proofs.Agreement.{callRuns, callSafe, main-low, world, main-safe}
 use Rattle.agreement.proofs.Fits.{fit-all, fits-length, fits-wires, fits-count}
 use Rattle.agreement.proofs.Peak.{

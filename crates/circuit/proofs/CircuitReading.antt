@@ -11,7 +11,7 @@ use lib.Dec.{eqb, leb}
 use Rattle.model.specs.Limits.{notWellFormed, tableStops}
 use Rattle.model.specs.Reading.{Input, Parsed, parsed, refused, andThen, provided, byte}
 use Rattle.model.specs.Gates.{Gate}
-use Rattle.model.specs.Circuit.{Circuit, readGate, readGates, fourByteNumber, closed, circuitOf, readCircuit}
+use Rattle.model.specs.Circuit.{Circuit, readGate, readGates, fourByteNumber, wholeCircuit, circuitOf, readCircuit}
 use Rattle.model.specs.Answers.{Outcome, gives, refuses, number, wellFormed, circuitRead}
 use Rattle.model.proofs.Tests.{byLt}
 use Rattle.circuit.proofs.Reading.{byte-at, byte-past}
@@ -74,7 +74,7 @@ countIn bs = getD bs 3 0 + 256 * getD bs 4 0 + 65536 * getD bs 5 0 + 16777216 * 
 opened : (bs : List ℕ) → 7 ≤ length bs →
     circuitOf (inputAt bs 0) ≡ provided (eqb (getD bs 0 0) 1) notWellFormed (provided (leb 1 (getD bs 1 0) && leb (getD bs 1 0) 32) notWellFormed
     (provided (leb (getD bs 1 0 + getD bs 2 0) 255) notWellFormed
-    (closed (getD bs 1 0) (getD bs 2 0) (readGates (getD bs 1 0 + getD bs 2 0) (countIn bs) (inputAt bs 7)))))
+    (wholeCircuit (getD bs 1 0) (getD bs 2 0) (readGates (getD bs 1 0 + getD bs 2 0) (countIn bs) (inputAt bs 7)))))
 unfolding circuitOf fourByteNumber andThen
 opened bs h =
     rw (
@@ -171,12 +171,12 @@ read-counts most (suc n) i = each (readGate most i) (λ j. read-counts most n j)
 
 module _ (n ancillas : ℕ) where
   header-good : (count : ℕ) (p : Parsed (List Gate)) → Counts count p → fills p ≡ true →
-      headerOf (wellFormed (closed n ancillas p)) ≡ record { number = 0; qubits = n; ancillas = ancillas; gates = count }
+      headerOf (wellFormed (wholeCircuit n ancillas p)) ≡ record { number = 0; qubits = n; ancillas = ancillas; gates = count }
   unfolding andThen provided fills wellFormed headerOf
   header-good count (parsed gs o) h e = rw (e, h)
   header-good count (refused k) h e = absurd (false≢true e)
 
-  header-bad : (p : Parsed (List Gate)) → fills p ≡ false → headerOf (wellFormed (closed n ancillas p)) ≡ refusedHeader
+  header-bad : (p : Parsed (List Gate)) → fills p ≡ false → headerOf (wellFormed (wholeCircuit n ancillas p)) ≡ refusedHeader
   unfolding andThen provided fills wellFormed headerOf
   header-bad (parsed gs o) e = rw e
   header-bad (refused k) e = refl

@@ -5,7 +5,7 @@ use lib.ListN.{length}
 use Rattle.model.specs.Limits.{success, notWellFormed}
 use Rattle.model.specs.Reading.{Parsed}
 use Rattle.model.specs.Gates.{Gate}
-use Rattle.model.specs.Circuit.{Circuit, readGates, closed}
+use Rattle.model.specs.Circuit.{Circuit, readGates, wholeCircuit}
 use Rattle.model.specs.Answers.{Outcome, gives, refuses, wellFormed}
 use Rattle.circuit.specs.Views.{inputAt}
 use Rattle.circuit.specs.declared.Header.{Header}
@@ -19,7 +19,7 @@ gatesBehind bs h = readGates (h .wires) (h .gates) (inputAt bs 7)
 
 -- the circuit that stands behind a header, if it is well formed
 unfoldable pub circuitBehind : List ℕ → HeaderRead → Outcome Circuit
-circuitBehind bs (Opened h) = wellFormed (closed (h .qubits) (h .ancillas) (gatesBehind bs h))
+circuitBehind bs (Opened h) = wellFormed (wholeCircuit (h .qubits) (h .ancillas) (gatesBehind bs h))
 circuitBehind bs NoHeader = refuses notWellFormed
 
 -- "the circuit reader n, ancillas and gate count"; "A refusal gives its number and otherwise zeros."

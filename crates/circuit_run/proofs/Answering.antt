@@ -10,7 +10,7 @@ use lib.ListN.{length}
 use Rattle.model.specs.Reading.{Parsed, parsed, refused, andThen, provided}
 use Rattle.model.specs.Meaning.{stateOf}
 use Rattle.model.specs.Gates.{Gate}
-use Rattle.model.specs.Circuit.{closed, circuitBlock}
+use Rattle.model.specs.Circuit.{wholeCircuit, circuitBlock}
 use Rattle.model.specs.Answers.{after, require, wellFormed, circuitRead, circuitRun}
 use Rattle.model.proofs.Tests.{byBool}
 use Rattle.wires.specs.States.{wiresOf}
@@ -49,7 +49,7 @@ module _ (bs : List ℕ) (word : ℕ) (found : HeaderRead) (read : circuitBehind
   run-refused e x is = rw (is, ← read, e)
 
   -- the answer to wires that ended is the answer of the circuit run
-  ending : (n ancillas : ℕ) (p : Parsed (List Gate)) → word < 2 ^ 64 → circuitRead bs ≡ wellFormed (closed n ancillas p) →
+  ending : (n ancillas : ℕ) (p : Parsed (List Gate)) → word < 2 ^ 64 → circuitRead bs ≡ wellFormed (wholeCircuit n ancillas p) →
       endAnswer word (ranOf (wiresOf n ancillas (stateOf word)) p) ≡ blockAnswer (circuitRun bs word)
   unfolding andThen provided wellFormed after require circuitRun circuitBlock ranOf endAnswer blockAnswer
   ending n ancillas (parsed gs o) h e = rw e (byBool (eqb (length (o .bytes)) 0)

@@ -18,7 +18,7 @@ use Rattle.verdict.specs.Judging.{judgedAs}
 use Rattle.verdict.proofs.Ways.{refused-judged, accepted-judged}
 use Rattle.compile.specs.declared.Compiled.{Compiled}
 use Rattle.compile.specs.Passes.{Compiles, walks-twice, emissionAnswer, compiledOf}
-use Rattle.compile.specs.Compiling.{Answered, answered, answerOf}
+use Rattle.compile.specs.Compiling.{Answered, answered, answeredOf}
 
 -- the two halves of an answer, the number and length and the room, are those of the outcome
 abbrev answerIn : Answered → Compiled
@@ -27,7 +27,7 @@ answerIn (answered r room) = r
 abbrev roomIn : Answered → List ℕ
 roomIn (answered r room) = room
 
-pub answer-halves : (o : Outcome (List ℕ)) (room : List ℕ) {r : Compiled} {room₁ : List ℕ} → answered r room₁ ≡ answerOf o room →
+pub answer-halves : (o : Outcome (List ℕ)) (room : List ℕ) {r : Compiled} {room₁ : List ℕ} → answered r room₁ ≡ answeredOf o room →
     (r ≡ compiledOf o) × (room₁ ≡ roomAfter o room)
 answer-halves o room is = (ap answerIn is, ap roomIn is)
 
@@ -41,7 +41,7 @@ module _ (bs ix : List ℕ) (n : ℕ) (room ws : List ℕ) (j : Judged) (is : ju
   P = programAt (j .procedures) bs ix
 
   abbrev said : Answered
-  said = answerOf (compile bs n (length room) (length ws)) room
+  said = answeredOf (compile bs n (length room) (length ws)) room
 
   pub compile-refused : (j .number ≡ 0 → ⊥) → answered (record { number = j .number; length = 0 }) room ≡ said
   unfolding compile after number valueOr roomAfter

@@ -10,5 +10,5 @@ pub data Answered : Type 0 where
   answered : Compiled → List ℕ → Answered
 
 -- "The room is written only on success, its rest unchanged."
-abbrev pub answerOf : Outcome (List ℕ) → List ℕ → Answered
-answerOf o room = answered (compiledOf o) (roomAfter o room)
+abbrev pub answeredOf : Outcome (List ℕ) → List ℕ → Answered
+answeredOf o room = answered (compiledOf o) (roomAfter o room)

@@ -6,7 +6,7 @@ ghost use Rattle.model.specs.Answers as model;
 ghost use Rattle.reach.specs.Walk.{reachAt};
 ghost use Rattle.events.specs.Scan.{wireOf};
 ghost use Rattle.compile.specs.Passes.{Writes, Compiles};
-ghost use Rattle.compile.specs.Compiling.{answered, answerOf};
+ghost use Rattle.compile.specs.Compiling.{answered, answeredOf};
 use circuit::write::put_header;
 use events::{Emit, wire};
 use emit::emit_main;
@@ -87,7 +87,7 @@ fn compile_judged(table: &[u8], index: &[u16; 544], p: u8, n: u8, room: &mut [u8
 // or gate that does not fit."
 pub fn compile(table: &[u8], n: u32, room: &mut [u8], workspace: &mut [u8]) -> Compiled
     ensures { λ r. ⌜ answered r (now (room .exit)) ≡
-        answerOf (model.compile (now (table .entry)) n (length (now (room .entry))) (length (now (workspace .entry)))) (now (room .entry)) ⌝ }
+        answeredOf (model.compile (now (table .entry)) n (length (now (room .entry))) (length (now (workspace .entry)))) (now (room .entry)) ⌝ }
 {
     let mut index = [0u16; 544];
     let judged = judge(table, n, &mut index);

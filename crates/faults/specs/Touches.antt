@@ -25,7 +25,7 @@ anyUpTo (suc k) test = anyUpTo k test || test (suc k)
 abbrev pub touchesNone : Touched
 touchesNone = λ t. false
 
--- "touching nothing" comes as position 0, and is a fault
+-- what "touches nothing" comes as position 0, and is a fault
 abbrev pub touchesOne : ℕ → Touched
 touchesOne q = λ t. eqb t q
 

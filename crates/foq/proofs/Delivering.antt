@@ -13,8 +13,7 @@ use Rattle.run.specs.declared.Answer.{Answer}
 use Rattle.run.specs.Answers.{answerOf}
 use Rattle.compile.specs.declared.Compiled.{Compiled}
 use Rattle.compile.specs.Passes.{compiledOf}
-use Rattle.compile.specs.Compiling.{answered}
-use Rattle.compile.specs.Compiling as compiling
+use Rattle.compile.specs.Compiling.{answered, answeredOf}
 use Rattle.compile.proofs.Ways.{answer-halves}
 use Rattle.compile.proofs.Numbered.{Refusal, compile-numbered}
 use Rattle.foq.specs.Compiling.{lengthAnswer, Delivered}
@@ -42,7 +41,7 @@ delivers table n space workspace room (refuses k) e zero-is =
     let number : Refusal k = rw e at (compile-numbered table n space workspace) in let some = number .0 in absurd (omega arith)
 
 module _ (table room : List ℕ) (n workspace : ℕ) (r : Compiled) (room₁ : List ℕ)
-    (is : answered r room₁ ≡ compiling.answerOf (compile table n (length room) workspace) room) where
+    (is : answered r room₁ ≡ answeredOf (compile table n (length room) workspace) room) where
   abbrev o : Outcome (List ℕ)
   o = compile table n (length room) workspace
 

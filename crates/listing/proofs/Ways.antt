@@ -10,7 +10,7 @@ use Rattle.model.specs.Answers.{Outcome, gives, refuses, after, number, valueOr
 use Rattle.model.specs.Listing.{listed, listingOf, listing}
 use Rattle.compile.specs.declared.Compiled.{Compiled}
 use Rattle.compile.specs.Passes.{compiledOf}
-use Rattle.compile.specs.Compiling.{answered, answerOf}
+use Rattle.compile.specs.Compiling.{answered, answeredOf}
 use Rattle.compile.proofs.Ways.{answer-halves}
 use Rattle.compile.proofs.Numbered.{Numbered, compile-numbered}
 use Rattle.io.specs.Counts.{Counts}
@@ -30,13 +30,13 @@ front-is bytes rest room k e f = rw (e, f) (take-append-seam bytes rest)
 
 -- the ways out of `list_table`, by what compile answered
 module _ (bs room ws : List ℕ) (n : ℕ) (r : Compiled) (room₁ : List ℕ)
-    (is : answered r room₁ ≡ answerOf (compile bs n (length room) (length ws)) room)
+    (is : answered r room₁ ≡ answeredOf (compile bs n (length room) (length ws)) room)
     (long : length room ≡ 65536) (enough : length ws ≡ 32768) where
   abbrev o : Outcome (List ℕ)
   o = compile bs n 65536 32768
 
   answer : (r ≡ compiledOf o) × (room₁ ≡ roomAfter o room)
-  answer = let e : answered r room₁ ≡ answerOf o room = rw (long, enough) at is in answer-halves o room e
+  answer = let e : answered r room₁ ≡ answeredOf o room = rw (long, enough) at is in answer-halves o room e
 
   module _ (text end : List ℕ) (last : ℕ) where
     pub table-refused : (r .number ≡ 0 → ⊥) → written end last ≡ puts (listed (refuses (r .number))) text 0 →

@@ -103,6 +103,7 @@ wellFormed (refused k) = refuses notWellFormed
 abbrev pub circuitRead : List ℕ → Outcome Circuit
 circuitRead bytes = wellFormed (readCircuit bytes)
 
+-- "The wires of a running circuit are one block of 32 bytes beside n and the ancilla count."
 pub record Block : Type 0 where
   pub dataWires : ℕ
   pub ancillas : ℕ

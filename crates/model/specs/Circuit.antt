@@ -113,8 +113,8 @@ fourByteNumber i =
     parsed (a + 256 * b + 65536 * c + 16777216 * d) m))))
 
 -- "no byte is left": the circuit of the gates that were read
-abbrev pub closed : ℕ → ℕ → Parsed (List Gate) → Parsed Circuit
-closed n ancillas p =
+abbrev pub wholeCircuit : ℕ → ℕ → Parsed (List Gate) → Parsed Circuit
+wholeCircuit n ancillas p =
     andThen p (λ gs i. provided (eqb (length (i .bytes)) 0) notWellFormed (parsed (record { dataWires = n; ancillas = ancillas; gates = gs }) i))
 
 -- "A circuit is well formed if this holds, n is 1 to 32, .. that sum is at most 255, the count is true"
@@ -123,7 +123,7 @@ circuitOf i =
     andThen (byte i) (λ edition j. provided (eqb edition circuitEdition) notWellFormed
     (andThen (byte j) (λ n k. provided (leb 1 n && leb n mostQubits) notWellFormed
     (andThen (byte k) (λ ancillas l. provided (leb (n + ancillas) mostWires) notWellFormed
-    (andThen (fourByteNumber l) (λ count m. closed n ancillas (readGates (n + ancillas) count m))))))))
+    (andThen (fourByteNumber l) (λ count m. wholeCircuit n ancillas (readGates (n + ancillas) count m))))))))
 
 -- ".. and it is at most 65,536 long"
 unfoldable pub readCircuit : List ℕ → Parsed Circuit

@@ -38,7 +38,8 @@ whole chains (qcase rs a s t) l cs next =
     whole chains s l (asking (touched rs a l) false cs) next ++ whole chains t l (asking (touched rs a l) true cs) next
 whole chains (call rs f) l cs next = startChain chains f (remaining rs l) cs next
 
--- one call into a chain that names a pair: the call that starts it, or a recursive one, with the ancilla that it took
+-- one call into a chain that names a pair: the call that starts it, or a recursive one, with the ancilla that it took. "A recursive call met
+-- first for its pair takes the body's ancilla"; "A later call to that pair takes an entry ancilla and flips that instead."
 pub record Invocation : Type 0 where
   pub procedure : ℕ
   pub list : List ℕ

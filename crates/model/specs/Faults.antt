@@ -15,11 +15,11 @@ unfoldable pub callFaults : CallFaults → ℕ → List ℕ → List ℕ → Boo
 callFaults o f [] closed = false
 callFaults o f (q ∷ l) closed = o f (q ∷ l) closed
 
--- touching nothing is a fault, and "touching a closed qubit is a fault"
+-- what "touches nothing" comes as qubit 0 "and is an access fault"; "touching a closed qubit is a fault"
 abbrev pub touchFaults : ℕ → List ℕ → Bool
 touchFaults q closed = member q (0 ∷ closed)
 
--- "Inside its two branches a qcase closes its qubit, through calls too." "A fault counts in either branch of a qcase, taken or not, but only in
+-- "Inside its two branches a qcase closes its qubit, through calls too"; "A fault counts in either branch of a qcase, taken or not, but only in
 -- the chosen branch of an if, and only where calls from main lead."
 unfoldable pub faults : CallFaults → Statement → List ℕ → List ℕ → Bool
 faults o skip l closed = false

@@ -40,7 +40,7 @@ mostCircuit = 65536
 abbrev pub blockLength : ℕ
 blockLength = 32
 
--- "21 workspace shorter than 32,768 bytes"
+-- the shortest workspace that is long enough: "shorter than 32,768 bytes" is refused
 abbrev pub leastWorkspace : ℕ
 leastWorkspace = 32768
 
@@ -49,54 +49,73 @@ abbrev pub success : ℕ
 success = 0
 
 -- "Refusals from the input"
+
+-- "1 the table stops too soon"
 abbrev pub tableStops : ℕ
 tableStops = 1
 
+-- "2 edition"
 abbrev pub wrongEdition : ℕ
 wrongEdition = 2
 
+-- "3 p over 16"
 abbrev pub manyProcedures : ℕ
 manyProcedures = 3
 
+-- "4 kind unknown, or condition and statement exchanged"
 abbrev pub wrongKind : ℕ
 wrongKind = 4
 
+-- "5 map"
 abbrev pub wrongMap : ℕ
 wrongMap = 5
 
+-- "6 removal count, base or procedure byte"
 abbrev pub wrongField : ℕ
 wrongField = 6
 
+-- "7 too deep, or a 256th record"
 abbrev pub tooDeep : ℕ
 tooDeep = 7
 
+-- "8 bytes left over"
 abbrev pub bytesLeft : ℕ
 bytesLeft = 8
 
+-- "9 n not 1 to 32"
 abbrev pub wrongQubits : ℕ
 wrongQubits = 9
 
+-- "10 recursive call without removal"
 abbrev pub noRemoval : ℕ
 noRemoval = 10
 
+-- "11 width over 1"
 abbrev pub tooWide : ℕ
 tooWide = 11
 
+-- "12 access fault"
 abbrev pub accessFault : ℕ
 accessFault = 12
 
+-- "13 a start word with a bit at n or above"
 abbrev pub highBit : ℕ
 highBit = 13
 
+-- "14 circuit not well formed"
 abbrev pub notWellFormed : ℕ
 notWellFormed = 14
 
 -- "Refusals from the state"
+
+-- "21 workspace shorter than 32,768 bytes"
 abbrev pub shortWorkspace : ℕ
 shortWorkspace = 21
 
+-- "22 a wire number above 255 would be taken"
 abbrev pub manyWires : ℕ
 manyWires = 22
 
+-- "23 header or next gate would pass the room's end"
 abbrev pub noRoom : ℕ
 noRoom = 23

@@ -172,7 +172,7 @@ unfoldable pub statements : ℕ → ℕ → Input → Parsed (List Statement)
 statements p zero i = parsed [] i
 statements p (suc n) i = andThen (statement p mostDepth i) (λ s j. andThen (statements p n j) (λ ss k. parsed (s ∷ ss) k))
 
--- "Then come the main statement and the bodies of procedures 1 to p, each a tree in preorder." "The table ends with the last body."
+-- "Then come the main statement and the bodies of procedures 1 to p, each a tree in preorder"; "The table ends with the last body."
 unfoldable pub trees : ℕ → Input → Parsed Program
 trees p i =
     andThen (statement p mostDepth i) (λ main j. andThen (statements p p j) (λ bodies k.

@@ -26,7 +26,7 @@ unfoldable pub valueOf : Number → ℕ → ℤ
 valueOf (base.Constant z) size = z
 valueOf (base.SizePlus z) size = cond (ltZ (pos 32767) z) (pos 0) (z +ℤ pos size)
 
--- a position in a list of this size: 0 for "a position at or below zero, or past the end"
+-- a position in a list of this size: 0 for one "at or below zero, or past the end"
 unfoldable pub within : ℕ → ℤ → ℕ
 within size z = cond (ltb size (position z)) 0 (position z)
 

@@ -7,7 +7,7 @@ use Rattle.model.specs.Meaning.{State, bit}
 use Rattle.model.specs.Circuit.{blockOf}
 use Rattle.wires.specs.declared.Wires.{Wires}
 
--- "Wire w is bit (w − 1) mod 8 of byte (w − 1) div 8, counted from 0 and from the lowest bit." Wire 0 and every wire past the bytes hold 0.
+-- "Wire w is bit (w − 1) mod 8 of byte (w − 1) div 8, counted from 0 and from the lowest bit"; wire 0 and every wire past the bytes hold 0.
 unfoldable pub stateIn : List ℕ → State
 stateIn bytes = λ w. elim w [ zero ↦ false | suc k ↦ bit (getD bytes (k / 8) 0) (k % 8) ]
 

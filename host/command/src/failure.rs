@@ -16,15 +16,15 @@ pub enum Failure {
     File(PathBuf, io::Error),
     /// A file holds no good text.
     Text(PathBuf, text::Error),
-    /// The program is refused.
-    Refused(Refusal),
+    /// What a file holds is refused.
+    Refused(PathBuf, Refusal),
 }
 
 impl Failure {
     /// The exit status: 1 for a refusal, 2 for all else.
     pub fn status(&self) -> ExitCode {
         match self {
-            Failure::Refused(_) => ExitCode::from(1),
+            Failure::Refused(..) => ExitCode::from(1),
             _ => ExitCode::from(2),
         }
     }
@@ -36,13 +36,7 @@ impl Display for Failure {
             Failure::Usage(words) => write!(formatter, "{words}; `foq --help` says more"),
             Failure::File(file, error) => write!(formatter, "{}: {error}", file.display()),
             Failure::Text(file, error) => write!(formatter, "{}: {error}", file.display()),
-            Failure::Refused(refusal) => write!(formatter, "{refusal}"),
+            Failure::Refused(file, refusal) => write!(formatter, "{}: {refusal}", file.display()),
         }
-    }
-}
-
-impl From<Refusal> for Failure {
-    fn from(refusal: Refusal) -> Failure {
-        Failure::Refused(refusal)
     }
 }

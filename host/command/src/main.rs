@@ -1,8 +1,9 @@
 //! `foq`: verdict, run and circuit of a FOQ program, for people at a shell.
 //!
-//! Verdict, run and compile are the proved functions of `libfoq.a`. This
-//! program stands outside of what is proved: it reads files, turns texts into
-//! tables and circuits into listings, and says refusals in words.
+//! Verdict, run, compile and the circuit run are the proved functions of
+//! `libfoq.a`. This program stands outside of what is proved: it reads files,
+//! turns texts into tables and circuits into listings, and says refusals in
+//! words.
 
 #![deny(clippy::unwrap_used, clippy::expect_used, clippy::panic)]
 
@@ -11,12 +12,12 @@ mod source;
 mod word;
 
 use failure::Failure;
-use foq::{Refusal, LEAST_WORKSPACE, MOST_CIRCUIT};
+use foq::{Refusal, LEAST_WORKSPACE};
 use foq_command::circuit::{self, Circuit};
 use foq_command::listing::listing;
 use foq_command::qasm::qasm;
 use foq_command::{bytes, text};
-use source::Source;
+use source::{contents, Source};
 use std::env;
 use std::ffi::{OsStr, OsString};
 use std::fs;
@@ -28,19 +29,25 @@ use word::{word, Form};
 const HELP: &str = "\
 foq: verdict, run and circuit of a FOQ program
 
-    foq verdict FILE N          whether the program is accepted on N qubits
-    foq run FILE N WORD         the word that a run from WORD ends with
-    foq compile FILE N [OUT]    the circuit, into OUT or to standard output
-    foq list FILE N             the circuit as a listing
-    foq qasm FILE N             the circuit in OpenQASM 3
-    foq assemble FILE OUT       the table of a text, into OUT
-    foq disassemble FILE        the text of a table
+    foq verdict FILE N           whether the program is accepted on N qubits
+    foq run FILE N WORD          the word that a run from WORD ends with
+    foq compile FILE N [OUT]     the circuit, into OUT or to standard output
+    foq list FILE N              the circuit as a listing
+    foq qasm FILE N              the circuit in OpenQASM 3
+    foq assemble FILE OUT        the table of a text, into OUT
+    foq disassemble FILE         the text of a table
+    foq circuit run FILE WORD    the word that a kept circuit ends with
+    foq circuit list FILE        a kept circuit as a listing
+    foq circuit qasm FILE        a kept circuit in OpenQASM 3
+    foq --help                   this text
 
-FILE is a table or a text; docs/TEXT.md says how a text is written. WORD is
-decimal, or behind 0x or 0b; its lowest bit is qubit 1. A refusal ends with
-status 1, wrong arguments or a wrong text with status 2.
+FILE is a table or a text, behind `circuit` what `foq compile` wrote;
+docs/TEXT.md says how a text is written. WORD is decimal, or behind 0x or 0b;
+its lowest bit is qubit 1. A refusal ends with status 1; wrong arguments, a
+wrong text or a file that cannot be read or written with status 2.
 
-Verdict, run and compile are proved. Texts, listings and OpenQASM are not.
+Verdict, run, compile and the run of a circuit are proved. Texts, OpenQASM and
+the listings of this command are not; the listing program is.
 ";
 
 fn main() -> ExitCode {
@@ -65,23 +72,38 @@ fn command(arguments: &[&OsStr]) -> Result<(), Failure> {
         (Some("run"), &[file, n, word]) => run(file, n, word),
         (Some("compile"), &[file, n]) => say(&compiled(file, n)?),
         (Some("compile"), &[file, n, out]) => write(out, &compiled(file, n)?),
-        (Some("list"), &[file, n]) => say(listing(&gates(file, n)?).as_bytes()),
-        (Some("qasm"), &[file, n]) => say(qasm(&gates(file, n)?).as_bytes()),
+        (Some("list"), &[file, n]) => list(file, &compiled(file, n)?),
+        (Some("qasm"), &[file, n]) => print_qasm(file, &compiled(file, n)?),
         (Some("assemble"), &[file, out]) => assemble(file, out),
         (Some("disassemble"), &[file]) => disassemble(file),
+        (Some("circuit"), &[what, file]) if what == "list" => list(file, &contents(file)?),
+        (Some("circuit"), &[what, file]) if what == "qasm" => print_qasm(file, &contents(file)?),
+        (Some("circuit"), &[what, file, word]) if what == "run" => run_circuit(file, word),
         (Some("--help"), &[]) => say(HELP.as_bytes()),
-        _ => {
-            let count = arguments.len();
-            let words = format!("is no command, or none with {count} arguments");
-            Err(usage(command, &words))
-        }
+        _ => Err(usage(command, &misuse(command))),
+    }
+}
+
+/// What is wrong with a command that does not take its arguments: the help's
+/// lines on it say which it takes.
+fn misuse(command: &OsStr) -> String {
+    let beginning = format!("foq {} ", command.display());
+    let lines = HELP.lines().map(str::trim_start);
+    let takes: Vec<&str> = lines
+        .filter(|line| line.starts_with(&beginning))
+        .filter_map(|line| line.split("  ").next())
+        .collect();
+    match takes.is_empty() {
+        true => "is no command".to_string(),
+        false => format!("takes other arguments: {}", takes.join(", ")),
     }
 }
 
 /// `foq verdict FILE N`.
 fn verdict(file: &OsStr, n: &OsStr) -> Result<(), Failure> {
     let n = qubits(n)?;
-    foq::verdict(&Source::read(file)?.table(), n, &mut workspace())?;
+    let table = Source::read(file)?.table();
+    foq::verdict(&table, n, &mut workspace()).map_err(refused(file))?;
     say(b"accepted\n")
 }
 
@@ -89,23 +111,45 @@ fn verdict(file: &OsStr, n: &OsStr) -> Result<(), Failure> {
 fn run(file: &OsStr, n: &OsStr, start: &OsStr) -> Result<(), Failure> {
     let n = qubits(n)?;
     let (start, form) = start_word(start)?;
-    let end = foq::run(&Source::read(file)?.table(), n, start, &mut workspace())?;
+    let table = Source::read(file)?.table();
+    let end = foq::run(&table, n, start, &mut workspace()).map_err(refused(file))?;
     say(format!("{}\n", form.show(end, n)).as_bytes())
 }
 
 /// The bytes of a program's circuit.
 fn compiled(file: &OsStr, n: &OsStr) -> Result<Vec<u8>, Failure> {
     let n = qubits(n)?;
-    let table = Source::read(file)?.table();
-    let mut room = vec![0; MOST_CIRCUIT];
-    let circuit = foq::compile(&table, n, &mut room, &mut workspace())?;
-    Ok(circuit.to_vec())
+    foq::compile_to_vec(&Source::read(file)?.table(), n).map_err(refused(file))
 }
 
-/// The gates of a program's circuit, which compile gives well formed.
-fn gates(file: &OsStr, n: &OsStr) -> Result<Circuit, Failure> {
-    let circuit = circuit::read(&compiled(file, n)?);
-    circuit.ok_or(Failure::Refused(Refusal::NOT_WELL_FORMED))
+/// The gates of a circuit, if it is well formed.
+fn gates(file: &OsStr, circuit: &[u8]) -> Result<Circuit, Failure> {
+    let read = foq::circuit_read(circuit).map(|_| circuit::read(circuit));
+    let gates = read.and_then(|gates| gates.ok_or(Refusal::NOT_WELL_FORMED));
+    gates.map_err(refused(file))
+}
+
+/// `foq list FILE N` and `foq circuit list FILE`, with the circuit's bytes.
+fn list(file: &OsStr, circuit: &[u8]) -> Result<(), Failure> {
+    say(listing(&gates(file, circuit)?).as_bytes())
+}
+
+/// `foq qasm FILE N` and `foq circuit qasm FILE`, with the circuit's bytes.
+fn print_qasm(file: &OsStr, circuit: &[u8]) -> Result<(), Failure> {
+    say(qasm(&gates(file, circuit)?).as_bytes())
+}
+
+/// `foq circuit run FILE WORD`: the data wires, written as WORD is. The ancillas
+/// of a circuit that was compiled end at 0; where one does not, it is named.
+fn run_circuit(file: &OsStr, start: &OsStr) -> Result<(), Failure> {
+    let (start, form) = start_word(start)?;
+    let block = foq::circuit_run(&contents(file)?, start).map_err(refused(file))?;
+    let mut said = format!("{}\n", form.show(block.word(), block.data.into()));
+    let wires = block.data + 1..=block.data + block.ancillas;
+    for ancilla in wires.filter(|&wire| block.holds(wire)) {
+        said += &format!("ancilla {ancilla} ends at 1\n");
+    }
+    say(said.as_bytes())
 }
 
 /// `foq assemble FILE OUT`.
@@ -123,15 +167,15 @@ fn disassemble(file: &OsStr) -> Result<(), Failure> {
     };
     match bytes::decode(&table) {
         Some(program) => say(text::print(&program).as_bytes()),
-        None => Err(unreadable(&table)),
+        None => Err(refused(file)(unreadable(&table))),
     }
 }
 
 /// Why a table does not read: one of the refusals 1 to 8, which the verdict
 /// gives on every number of qubits.
-fn unreadable(table: &[u8]) -> Failure {
+fn unreadable(table: &[u8]) -> Refusal {
     let refused = foq::verdict(table, 1, &mut workspace()).err();
-    Failure::Refused(refused.unwrap_or(Refusal::TABLE_STOPS))
+    refused.unwrap_or(Refusal::TABLE_STOPS)
 }
 
 /// A workspace that is long enough.
@@ -149,6 +193,11 @@ fn qubits(written: &OsStr) -> Result<u32, Failure> {
 fn start_word(written: &OsStr) -> Result<(u64, Form), Failure> {
     let word = written.to_str().and_then(word);
     word.ok_or_else(|| usage(written, "is no word of at most 64 bits"))
+}
+
+/// A refusal of what a file holds.
+fn refused(file: &OsStr) -> impl Fn(Refusal) -> Failure + '_ {
+    move |refusal| Failure::Refused(PathBuf::from(file), refusal)
 }
 
 /// Wrong use of an argument.

@@ -20,11 +20,7 @@ impl Source {
     /// Reads a file. It is a text where it starts with a printable character or
     /// white space, which no table does.
     pub fn read(file: &OsStr) -> Result<Source, Failure> {
-        let path = PathBuf::from(file);
-        let contents = match fs::read(&path) {
-            Ok(contents) => contents,
-            Err(error) => return Err(Failure::File(path, error)),
-        };
+        let contents = contents(file)?;
         let is_text = |first: &u8| !first.is_ascii_control() || first.is_ascii_whitespace();
         if !contents.first().is_some_and(is_text) {
             return Ok(Source::Table(contents));
@@ -32,7 +28,7 @@ impl Source {
         let program = utf8(&contents).and_then(parse);
         program
             .map(Source::Text)
-            .map_err(|error| Failure::Text(path, error))
+            .map_err(|error| Failure::Text(PathBuf::from(file), error))
     }
 
     /// The table: the file's, or the text's.
@@ -42,6 +38,11 @@ impl Source {
             Source::Text(program) => encode(&program),
         }
     }
+}
+
+/// The bytes of a file.
+pub fn contents(file: &OsStr) -> Result<Vec<u8>, Failure> {
+    fs::read(file).map_err(|error| Failure::File(PathBuf::from(file), error))
 }
 
 /// The characters of a text.

@@ -82,6 +82,25 @@ fn circuits_go_to_a_file_or_to_standard_output() {
 }
 
 #[test]
+fn kept_circuits_are_listed_and_run_without_their_table() {
+    let out = fresh("kept.circuit");
+    let kept = out.to_str().unwrap();
+    prints(&["compile", &example("pairs.foq"), "3", kept], b"");
+    let listing = fs::read(example("pairs.listing")).unwrap();
+    prints(&["circuit", "list", kept], &listing);
+    let qasm = fs::read(example("pairs.qasm")).unwrap();
+    prints(&["circuit", "qasm", kept], &qasm);
+    prints(&["circuit", "run", kept, "0"], b"4\n");
+    prints(&["circuit", "run", kept, "0b011"], b"0b111\n");
+    // One qubit and two ancillas; a NOT of the second ancilla.
+    let dirty = &file("dirty.circuit", &[1, 1, 2, 1, 0, 0, 0, 0, 3]);
+    prints(
+        &["circuit", "run", dirty, "0x1"],
+        b"0x1\nancilla 3 ends at 1\n",
+    );
+}
+
+#[test]
 fn texts_and_tables_are_turned_into_each_other() {
     let out = fresh("assembled.foq");
     prints(
@@ -140,13 +159,20 @@ fn refusals_end_with_status_1_in_words() {
     refused(&["qasm", wide, "3"], "refusal 11: ");
     let long = &example("chained_substring.foq");
     refused(&["compile", long, "32"], "refusal 23: ");
+    for what in ["list", "qasm"] {
+        let words = "pairs.foq: refusal 14: the circuit is not well formed";
+        refused(&["circuit", what, pairs], words);
+    }
+    refused(&["circuit", "run", pairs, "0"], "pairs.foq: refusal 14: ");
+    let one = &file("one_qubit.circuit", &[1, 1, 0, 0, 0, 0, 0]);
+    refused(&["circuit", "run", one, "2"], "refusal 13: a start word");
 }
 
 #[test]
 fn a_refused_compile_writes_no_file() {
     let fault = &file("fault.txt", b":: q[4] *= NOT;");
     let out = fresh("not_written");
-    let words = "refusal 12: a position outside the list";
+    let words = "fault.txt: refusal 12: a NOT or qcase on a position outside its list";
     refused(&["compile", fault, "3", out.to_str().unwrap()], words);
     assert!(!out.exists());
 }
@@ -160,9 +186,17 @@ fn misused(arguments: &[&str], words: &str) {
 fn wrong_arguments_end_with_status_2() {
     let pairs = &example("pairs.foq");
     misused(&[], "a command is missing; `foq --help` says more");
-    misused(&["draw", pairs, "3"], "draw is no command, or none with 2");
-    misused(&["verdict", pairs], "or none with 1 arguments");
-    misused(&["--help", pairs], "or none with 1 arguments");
+    misused(&["draw", pairs, "3"], "draw is no command; `foq --help`");
+    misused(&["", pairs, "3"], " is no command; ");
+    misused(
+        &["run", pairs, "3"],
+        "run takes other arguments: foq run FILE N WORD; ",
+    );
+    misused(
+        &["circuit", pairs],
+        "circuit takes other arguments: foq circuit run FILE WORD, foq circuit list FILE, foq circuit qasm FILE; ",
+    );
+    misused(&["--help", pairs], "takes other arguments: foq --help; ");
     misused(&["verdict", pairs, "three"], "three is no number of qubits");
     for word in ["", "0x", "0b2", "-1", "+1", "0x+1", "18446744073709551616"] {
         misused(&["run", pairs, "3", word], "is no word of at most 64 bits");

@@ -33,18 +33,18 @@ refusals! {
     MANY_PROCEDURES = 3, "more than 16 procedures";
     WRONG_KIND = 4, "kind unknown, or condition and statement exchanged";
     WRONG_MAP = 5, "a map that the record's kind does not permit";
-    WRONG_FIELD = 6, "a removal count, base or procedure byte";
-    TOO_DEEP = 7, "a tree too deep, or a 256th record";
+    WRONG_FIELD = 6, "a removal count that is not 1 to 8, a base that is not 0 or 1, or a procedure that the table does not have";
+    TOO_DEEP = 7, "a tree more than 32 records deep, or a 256th record";
     BYTES_LEFT = 8, "bytes left over behind the last body";
     WRONG_QUBITS = 9, "n is not 1 to 32";
     NO_REMOVAL = 10, "a recursive call without removal";
-    TOO_WIDE = 11, "a body of width over 1";
-    ACCESS_FAULT = 12, "a position outside the list, or a closed qubit touched";
+    TOO_WIDE = 11, "a body of width over 1: two recursive calls can follow one another in it";
+    ACCESS_FAULT = 12, "a NOT or qcase on a position outside its list, or on a qubit that a qcase around it has closed";
     HIGH_BIT = 13, "a start word with a bit at n or above";
     NOT_WELL_FORMED = 14, "the circuit is not well formed";
     SHORT_WORKSPACE = 21, "a workspace shorter than 32,768 bytes";
     MANY_WIRES = 22, "a wire number above 255 would be taken";
-    NO_ROOM = 23, "the header or the next gate would pass the room's end";
+    NO_ROOM = 23, "the header or the next gate would pass the end of the room, or of 65,536 bytes";
 }
 
 impl Refusal {

@@ -82,8 +82,8 @@ impl Plain<'_> {
     }
 }
 
-/// The qubit touched, or none for a fault: "a position at or below zero, or
-/// past the end, touches nothing and is an access fault", "touching a closed
+/// The qubit touched, or none for a fault: "A position at or below zero, or
+/// past the end, touches nothing and is an access fault"; "touching a closed
 /// qubit is a fault".
 fn open_qubit(list: &[u8], removals: &[Number], position: Number, closed: &[u8]) -> Option<u8> {
     touched(list, removals, position).filter(|qubit| !closed.contains(qubit))

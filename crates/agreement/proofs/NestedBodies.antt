@@ -1,4 +1,4 @@
--- The onion: a chain does what the procedure of its one active invocation does with its list, and nothing where none is active.
+-- The bodies of a chain lie around one another: the chain does what the procedure of its one active invocation does with its list, and nothing where none is active.
 -- An invocation is active where its ancilla is 1.
 use mathlib.Core.Path.{_≡_, refl, sym, ap, _∙_, subst}
 use mathlib.Core.Logic.{_≢_, _⊎_, inl, inr}
