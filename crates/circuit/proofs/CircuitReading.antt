@@ -14,7 +14,7 @@ use Rattle.model.specs.Gates.{Gate}
 use Rattle.model.specs.Circuit.{Circuit, readGate, readGates, fourByteNumber, wholeCircuit, circuitOf, readCircuit}
 use Rattle.model.specs.Answers.{Outcome, gives, refuses, number, wellFormed, circuitRead}
 use Rattle.model.proofs.Tests.{byLt}
-use Rattle.circuit.proofs.Reading.{byte-at, byte-past}
+use Rattle.model.proofs.Places.{byte-there, byte-past}
 use Rattle.circuit.specs.Views.{inputAt, fills}
 use Rattle.circuit.specs.Header.{gatesBehind, circuitBehind, headerOf, refusedHeader}
 use Rattle.circuit.specs.declared.CircuitHeader.{CircuitHeader}
@@ -33,7 +33,7 @@ byte-lacks : (bs : List ℕ) (at : ℕ) (f : ℕ → Input → Parsed Circuit) �
     (at < length bs → wellFormed (f (getD bs at 0) (inputAt bs (at + 1))) ≡ refuses notWellFormed) →
     wellFormed (andThen (byte (inputAt bs at)) f) ≡ refuses notWellFormed
 unfolding andThen wellFormed
-byte-lacks bs at f h = byLt at (length bs) (λ l. rw (byte-at bs at l) (h l)) (λ l. rw (byte-past bs at l))
+byte-lacks bs at f h = byLt at (length bs) (λ l. rw (byte-there bs at 0 l) (h l)) (λ l. rw (byte-past bs at 0 l))
 
 provided-lacks : (b : Bool) (p : Parsed Circuit) → wellFormed p ≡ refuses notWellFormed →
     wellFormed (provided b notWellFormed p) ≡ refuses notWellFormed
@@ -50,7 +50,7 @@ refused-lacks p f e = rw e
 byte-stops : {A : Type 0} (bs : List ℕ) (at : ℕ) (f : ℕ → Input → Parsed A) →
     (at < length bs → f (getD bs at 0) (inputAt bs (at + 1)) ≡ refused tableStops) → andThen (byte (inputAt bs at)) f ≡ refused tableStops
 unfolding andThen
-byte-stops bs at f h = byLt at (length bs) (λ l. rw (byte-at bs at l) (h l)) (λ l. rw (byte-past bs at l))
+byte-stops bs at f h = byLt at (length bs) (λ l. rw (byte-there bs at 0 l) (h l)) (λ l. rw (byte-past bs at 0 l))
 
 count-stops : (bs : List ℕ) → length bs < 7 → fourByteNumber (inputAt bs 3) ≡ refused tableStops
 unfolding fourByteNumber
@@ -78,13 +78,13 @@ opened : (bs : List ℕ) → 7 ≤ length bs →
 unfolding circuitOf fourByteNumber andThen
 opened bs h =
     rw (
-      byte-at bs 0 (omega arith),
-      byte-at bs 1 (omega arith),
-      byte-at bs 2 (omega arith),
-      byte-at bs 3 (omega arith),
-      byte-at bs 4 (omega arith),
-      byte-at bs 5 (omega arith),
-      byte-at bs 6 (omega arith),
+      byte-there bs 0 0 (omega arith),
+      byte-there bs 1 0 (omega arith),
+      byte-there bs 2 0 (omega arith),
+      byte-there bs 3 0 (omega arith),
+      byte-there bs 4 0 (omega arith),
+      byte-there bs 5 0 (omega arith),
+      byte-there bs 6 0 (omega arith),
     )
 
 -- the ways out of `read_header`

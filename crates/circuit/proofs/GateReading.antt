@@ -15,7 +15,7 @@ use Rattle.model.specs.Reading.{Input, Parsed, parsed, refused, andThen, provid
 use Rattle.model.specs.Gates.{Gate}
 use Rattle.model.specs.Circuit.{wireList, gateOf, gateIsWellFormed, readGate, readGates}
 use Rattle.model.proofs.Tests.{byBool, byLt}
-use Rattle.circuit.proofs.Reading.{byte-at, byte-past}
+use Rattle.model.proofs.Places.{byte-there, byte-past}
 use Rattle.circuit.specs.Views.{inputAt, settled, fills, listIn, listSeen, gateIn, gateSeen, judged, gateEnd}
 use Rattle.circuit.specs.declared.WireList.{WireList}
 use Rattle.circuit.specs.declared.ListRead.{ListRead}
@@ -68,12 +68,12 @@ module _ (bs : List ℕ) (most target : ℕ) (ones zeros : WireList) (swaps : Bo
   pub end-swap : swaps ≡ true → zeros .next < length bs →
       Judged (record { target = target; ones = ones; zeros = zeros; swaps = true; second = getD bs (zeros .next) 0; next = zeros .next + 1 }) → Ends
   unfolding andThen gateOf
-  end-swap e h s = rw (e, byte-at bs (zeros .next) h, s) (sym (settled-judged most _ _))
+  end-swap e h s = rw (e, byte-there bs (zeros .next) 0 h, s) (sym (settled-judged most _ _))
 
 pub end-short : (bs : List ℕ) (most target : ℕ) (ones zeros : WireList) (swaps : Bool) → swaps ≡ true → length bs ≤ zeros .next →
     gateSeen bs NoGate ≡ settled (gateEnd most swaps (listIn bs ones) (listIn bs zeros) target (inputAt bs (zeros .next)))
 unfolding gateSeen settled andThen gateOf
-end-short bs most target ones zeros swaps e h = rw (e, byte-past bs (zeros .next) h)
+end-short bs most target ones zeros swaps e h = rw (e, byte-past bs (zeros .next) 0 h)
 
 pub ruleset ends = (needs, not-true, not-false, end-flip, end-swap, end-short)
 
@@ -87,8 +87,8 @@ module _ (bs : List ℕ) (at most : ℕ) where
   gate-lacks : length bs < at + 2 → gateSeen bs NoGate ≡ settled (readGate most (inputAt bs at))
   unfolding gateSeen settled readGate andThen
   gate-lacks h = byLt at (length bs)
-      (λ l. rw (byte-at bs at l, byte-past bs (at + 1) (omega arith)))
-      (λ l. rw (byte-past bs at l))
+      (λ l. rw (byte-there bs at 0 l, byte-past bs (at + 1) 0 (omega arith)))
+      (λ l. rw (byte-past bs at 0 l))
 
   pub gate-none : length bs < 2 → gateSeen bs NoGate ≡ settled (readGate most (inputAt bs at))
   gate-none h = gate-lacks (omega arith)
@@ -104,7 +104,7 @@ module _ (bs : List ℕ) (at most : ℕ) where
       unfolding readGate andThen
       opened =
           let e : (at + 1) + 1 ≡ at + 2 = omega arith in
-          rw (byte-at bs at (omega arith), byte-at bs (at + 1) (omega arith), e, div-one (getD bs at 0))
+          rw (byte-there bs at 0 (omega arith), byte-there bs (at + 1) 0 (omega arith), e, div-one (getD bs at 0))
 
       pub gate-map : 7 < getD bs at 0 → gateSeen bs NoGate ≡ settled (readGate most (inputAt bs at))
       unfolding gateSeen settled provided

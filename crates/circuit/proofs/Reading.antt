@@ -3,29 +3,20 @@ use mathlib.Core.Path.{_≡_}
 use mathlib.Core.Bool.{Bool, true, false}
 use mathlib.Core.List.{List, []}
 use Prim.Native.Nat.{ℕ, zero, suc, _+_, _-_, _≤_, _<_}
-use native.Mathlib.Numerals.{add-one, sub-one}
+use native.Mathlib.Numerals.{sub-one}
 use native.Mathlib.Nat.{add-zero}
 use native.Mathlib.Omega.{arith}
 use borrow.Author.Needs.{needs}
 use borrow.Author.Tests.{le-leb, not-true, not-false}
-use lib.ListN.{length, getD, drop-of-length-le}
-use lib.Seq.{drop-cons}
+use lib.ListN.{length, getD}
 use Rattle.model.specs.Limits.{tableStops}
-use Rattle.model.specs.Reading.{parsed, refused, andThen, provided, byteOf, byte, optional}
+use Rattle.model.specs.Reading.{parsed, refused, andThen, provided, byte, optional}
 use Rattle.model.specs.Circuit.{bytes, wireList}
 use Rattle.model.proofs.Tests.{byLt}
+use Rattle.model.proofs.Places.{byte-there, byte-past}
 use Rattle.circuit.proofs.Parts.{part-step}
 use Rattle.circuit.specs.Views.{part, inputAt, settled, listSeen}
 use Rattle.circuit.specs.declared.ListRead.the-variants.{Wires, NoWires}
-
--- the byte at a place, or none behind the end
-pub byte-at : (bs : List ℕ) (at : ℕ) → at < length bs → byte (inputAt bs at) ≡ parsed (getD bs at 0) (inputAt bs (at + 1))
-unfolding byteOf
-byte-at bs at h = rw (drop-cons bs at 0 h, add-one)
-
-pub byte-past : (bs : List ℕ) (at : ℕ) → length bs ≤ at → byte (inputAt bs at) ≡ refused tableStops
-unfolding byteOf
-byte-past bs at h = rw (drop-of-length-le bs h)
 
 -- n bytes from a place on, where they are there
 pub bytes-at : (bs : List ℕ) (n at : ℕ) → at + n ≤ length bs → bytes n (inputAt bs at) ≡ parsed (part bs at n) (inputAt bs (at + n))
@@ -35,7 +26,7 @@ bytes-at bs (suc n) at h =
     let l : at < length bs = omega arith in
     let m : (at + 1) + n ≤ length bs = omega arith in
     let e : (at + 1) + n ≡ at + suc n = omega arith in
-    rw (byte-at bs at l, bytes-at bs n (at + 1) m, e, part-step bs at (suc n) (omega arith) l, sub-one)
+    rw (byte-there bs at 0 l, bytes-at bs n (at + 1) m, e, part-step bs at (suc n) (omega arith) l, sub-one)
 
 -- n bytes of which some are missing
 pub bytes-past : (bs : List ℕ) (n at : ℕ) → at ≤ length bs → length bs < at + n → bytes n (inputAt bs at) ≡ refused tableStops
@@ -45,8 +36,8 @@ bytes-past bs (suc n) at h l =
     byLt at (length bs)
     (λ k. let m : length bs < (at + 1) + n = omega arith in
     let i : at + 1 ≤ length bs = omega arith in
-    rw (byte-at bs at k, bytes-past bs n (at + 1) i m))
-    (λ k. rw (byte-past bs at k))
+    rw (byte-there bs at 0 k, bytes-past bs n (at + 1) i m))
+    (λ k. rw (byte-past bs at 0 k))
 
 -- the ways out of `read_list`
 module _ (bs : List ℕ) (at : ℕ) (stands : Bool) where
@@ -58,25 +49,25 @@ module _ (bs : List ℕ) (at : ℕ) (stands : Bool) where
   module _ (e : stands ≡ true) where
     pub list-past : length bs ≤ at → listSeen bs NoWires ≡ settled (optional stands wireList [] (inputAt bs at))
     unfolding listSeen settled optional wireList andThen
-    list-past h = rw (e, byte-past bs at h)
+    list-past h = rw (e, byte-past bs at 0 h)
 
     module _ (h : at < length bs) (n : ℕ) (is : n ≡ getD bs at 0) where
       pub list-zero : n ≡ 0 → listSeen bs NoWires ≡ settled (optional stands wireList [] (inputAt bs at))
       unfolding listSeen settled optional wireList andThen provided
-      list-zero z = rw (e, byte-at bs at h, ← is, z)
+      list-zero z = rw (e, byte-there bs at 0 h, ← is, z)
 
       module _ (f : n ≡ 0 → ⊥) where
         pub list-short : length bs - at ≤ n → listSeen bs NoWires ≡ settled (optional stands wireList [] (inputAt bs at))
         unfolding listSeen settled optional wireList andThen provided
         list-short l =
             let k : length bs < (at + 1) + n = omega arith in
-            rw (e, byte-at bs at h, ← is, le-leb 1 n (omega arith), bytes-past bs n (at + 1) (omega arith) k)
+            rw (e, byte-there bs at 0 h, ← is, le-leb 1 n (omega arith), bytes-past bs n (at + 1) (omega arith) k)
 
         pub list-whole : n < length bs - at →
             listSeen bs (Wires (record { from = at + 1; count = n; next = at + 1 + n })) ≡ settled (optional stands wireList [] (inputAt bs at))
         unfolding listSeen settled optional wireList andThen provided
         list-whole l =
             let k : (at + 1) + n ≤ length bs = omega arith in
-            rw (e, byte-at bs at h, ← is, le-leb 1 n (omega arith), bytes-at bs n (at + 1) k)
+            rw (e, byte-there bs at 0 h, ← is, le-leb 1 n (omega arith), bytes-at bs n (at + 1) k)
 
 pub ruleset lists = (needs, not-true, not-false, list-absent, list-past, list-zero, list-short, list-whole)

@@ -6,6 +6,7 @@ use lib.ListN.{length, take, drop}
 use lib.Dec.{eqb}
 use Rattle.model.specs.Limits.{notWellFormed}
 use Rattle.model.specs.Reading.{Input, Parsed, parsed, refused, andThen, provided}
+use Rattle.model.specs.Reading as reading
 use Rattle.model.specs.Gates.{Controls, Gate, flip, swap}
 use Rattle.model.specs.Circuit.{gateOf, gateIsWellFormed}
 use Rattle.circuit.specs.declared.WireList.{WireList}
@@ -17,7 +18,7 @@ use Rattle.circuit.specs.declared.GateRead.the-variants.{Found, NoGate}
 
 -- what is still to be read at a place
 abbrev pub inputAt : List ℕ → ℕ → Input
-inputAt bs at = record { bytes = drop at bs; records = 0 }
+inputAt bs at = reading.inputAt bs at 0
 
 -- `count` bytes from a place on
 abbrev pub part : List ℕ → ℕ → ℕ → List ℕ

@@ -3,6 +3,7 @@ ghost use mathlib.Core.Path.{_≡_};
 ghost use Prim.Native.Nat.{_-_};
 ghost use lib.ListN.{length};
 ghost use Rattle.model.specs.Answers as model;
+ghost use Rattle.model.specs.Answers.{workspaceAfter};
 ghost use Rattle.reach.specs.Walk.{reachAt};
 ghost use Rattle.events.specs.Scan.{wireOf};
 ghost use Rattle.compile.specs.Passes.{Writes, Compiles};
@@ -85,7 +86,7 @@ fn compile_judged(table: &[u8], index: &[u16; 544], p: u8, n: u8, room: &mut [u8
 
 // "9; header 1 .., 2, 3; each record ..; 8; 10 over the whole table, then 11, then 12; .. 21. Then 23 for the header, then 22 or 23 at the first ancilla
 // or gate that does not fit."
-pub fn compile(table: &[u8], n: u32, room: &mut [u8], workspace: &mut [u8]) -> Compiled
+fn translate(table: &[u8], n: u32, room: &mut [u8], workspace: &mut [u8]) -> Compiled
     ensures { λ r. ⌜ answered r (now (room .exit)) ≡
         answeredOf (model.compile (now (table .entry)) n (length (now (room .entry))) (length (now (workspace .entry)))) (now (room .entry)) ⌝ }
 {
@@ -103,4 +104,26 @@ pub fn compile(table: &[u8], n: u32, room: &mut [u8], workspace: &mut [u8]) -> C
         return Compiled { number: 9, length: 0 };
     }
     compile_judged(table, &index, judged.procedures, n as u8, room, workspace)
+}
+
+// "all of it is zero afterwards, at any length"
+pub fn wipe(workspace: &mut [u8])
+    ensures { λ r. ⌜ now (workspace .exit) ≡ workspaceAfter (now (workspace .entry)) ⌝ }
+{
+    let mut i = 0;
+    while i < workspace.len() {
+        workspace[i] = 0;
+        i += 1;
+    }
+}
+
+// The circuit's bytes into the room and its length, or the number that refuses; the workspace is zero afterwards.
+pub fn compile(table: &[u8], n: u32, room: &mut [u8], workspace: &mut [u8]) -> Compiled
+    ensures { λ r. ⌜ answered r (now (room .exit)) ≡
+        answeredOf (model.compile (now (table .entry)) n (length (now (room .entry))) (length (now (workspace .entry)))) (now (room .entry)) ⌝ }
+    ensures { λ r. ⌜ now (workspace .exit) ≡ workspaceAfter (now (workspace .entry)) ⌝ }
+{
+    let compiled = translate(table, n, room, workspace);
+    wipe(workspace);
+    compiled
 }

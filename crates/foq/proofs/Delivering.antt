@@ -6,7 +6,7 @@ use native.Mathlib.Omega.{arith}
 use borrow.Author.Needs.{needs}
 use lib.ListN.{length, take, drop}
 use lib.Seq.{take-append-seam}
-use Rattle.model.specs.Answers.{Outcome, gives, refuses, after, number, valueOr, compile, roomAfter, workspaceAfter}
+use Rattle.model.specs.Answers.{Outcome, gives, refuses, after, number, valueOr, compile, roomAfter}
 use Rattle.model.specs.Demand.{Demand3}
 use Rattle.agreement.proofs.Promise.{compile-promises}
 use Rattle.run.specs.declared.Answer.{Answer}
@@ -57,8 +57,4 @@ module _ (table room : List ℕ) (n workspace : ℕ) (r : Compiled) (room₁ : L
   pub answer-delivers : Delivered table n (exported r) room₁
   answer-delivers = rw (answer-same, room-is) (delivers table n (length room) workspace room o refl)
 
--- a workspace that compile left as long as it was, wiped
-pub wiped : (workspace left zeros : List ℕ) → length left ≡ length workspace → zeros ≡ workspaceAfter left → zeros ≡ workspaceAfter workspace
-wiped workspace left zeros same is = rw (is, same)
-
-pub ruleset delivering = (needs, room-is, answer-is, answer-delivers, wiped)
+pub ruleset delivering = (needs, room-is, answer-is, answer-delivers)

@@ -9,18 +9,8 @@ ghost use Rattle.run.specs.Answers.{answerOf};
 ghost use Rattle.foq.specs.Compiling.{lengthAnswer, Delivered};
 use circuit::CircuitHeader;
 use circuit_run::CircuitBlock;
+use compile::wipe;
 use run::Answer;
-
-// "all of it is zero afterwards, at any length"
-fn wipe(workspace: &mut [u8])
-    ensures { λ r. ⌜ now (workspace .exit) ≡ workspaceAfter (now (workspace .entry)) ⌝ }
-{
-    let mut i = 0;
-    while i < workspace.len() {
-        workspace[i] = 0;
-        i += 1;
-    }
-}
 
 // The verdict: 0 for an accepted table, otherwise the refusal's number.
 #[no_mangle]
@@ -55,7 +45,6 @@ pub extern "C" fn foq_compile(table: &[u8], n: u32, room: &mut [u8], workspace: 
     ensures { λ r. ⌜ Delivered (now (table .entry)) n r (now (room .exit)) ⌝ }
 {
     let compiled = compile::compile(table, n, room, workspace);
-    wipe(workspace);
     Answer { number: compiled.number as u32, value: compiled.length as u64 }
 }
 

@@ -2,6 +2,7 @@ pub mod Tests
 pub mod Outcomes
 pub mod ListLaws
 pub mod WireLists
+pub mod Places
 pub mod GateLaws
 pub mod Words
 pub mod Calls

@@ -3,7 +3,7 @@ use Prim.Native.Nat.{ℕ, zero, suc, _+_, _*_, _-_, _/_, _%_, _^_}
 use mathlib.Core.Bool.{Bool, true, false, _&&_, _||_, cond}
 use mathlib.Core.List.{List, [], _∷_}
 use mathlib.Core.Option.{Option, none, some}
-use lib.ListN.{length, getD, getElem?}
+use lib.ListN.{length, getD, getElem?, drop}
 use lib.Dec.{eqb, ltb, leb}
 use lib.IntN.{ℤ, pos, negsuc}
 use Rattle.model.specs.Limits.{
@@ -17,6 +17,10 @@ use Rattle.model.specs.Syntax.{Statement, skip, NOT, sequence, if, qcase
 pub record Input : Type 0 where
   pub bytes : List ℕ
   pub records : ℕ
+
+-- what is still to be read at a place of some bytes, so many records before it
+abbrev pub inputAt : List ℕ → ℕ → ℕ → Input
+inputAt bs at records = record { bytes = drop at bs; records = records }
 
 -- what was read and what is left, or a refusal's number
 pub data Parsed (A : Type 0) : Type 0 where

@@ -2,20 +2,20 @@
 use Prim.Native.Nat.{ℕ, zero, suc, _+_, _*_, _≤_, _<_}
 use native.Mathlib.Numerals.{add-one}
 use native.Mathlib.Omega.{arith}
-use mathlib.Core.Path.{_≡_, refl}
+use mathlib.Core.Path.{_≡_, refl, sym}
 use mathlib.Core.Bool.{Bool, true, false, _||_}
 use mathlib.Core.List.{List, [], _∷_}
 use borrow.Author.Tests.{lt-ltb, le-ltb, le-leb, lt-leb, ne-eqb, eqb-true}
-use lib.ListN.{length, drop, drop-of-length-le}
-use lib.Seq.{drop-cons}
+use lib.ListN.{length}
 use lib.Dec.{eqb}
 use lib.IntN.{ℤ}
 use Rattle.model.specs.Syntax as syntax
 use Rattle.model.specs.Limits.{tableStops, wrongField, mostRemovals}
 use Rattle.model.specs.Reading as model
-use Rattle.model.specs.Reading.{Input, Parsed, parsed, refused, andThen, provided, byteOf, byte, number, numbers, removals, procedure}
+use Rattle.model.specs.Reading.{Input, inputAt, Parsed, parsed, refused, andThen, provided, byte, number, numbers, removals, procedure}
 use Rattle.model.specs.Reading.{permitted, stands, Fields, optional, fields}
 use Rattle.model.proofs.Tests.{byEq, byLt, or-cases}
+use Rattle.model.proofs.Places.{byte-there, byte-past}
 use Rattle.records.specs.declared.Number.{Number}
 use Rattle.records.specs.declared.Record.{Record}
 use Rattle.records.specs.declared.Record.the-variants as kind
@@ -25,20 +25,8 @@ use Rattle.records.specs.Fields.{byteAt, behindPlace, behindNumber, behi
 use Rattle.records.specs.Fields.{maybeRemovalsAt, placeOf, behindRemovals, plain, touching, comparing, calling, withNumber, withNumbers, withProcedure}
 use Rattle.records.specs.Fields.{
   fieldsAt, recordOf, recordAt, numberOf, numbersFrom, removalsOf, noFields, touchedFields, comparedFields, calledFields, fieldsOf,
+  fieldsParsed, SaysFields,
 }
-
--- the bytes from a place on, and how many records came before them
-abbrev pub inputAt : List ℕ → ℕ → ℕ → Input
-inputAt bs at k = record { bytes = drop at bs; records = k }
-
--- a byte that is there, and one that is not
-pub byte-there : (bs : List ℕ) (at k : ℕ) → at < length bs → byte (inputAt bs at k) ≡ parsed (byteAt bs at) (inputAt bs (at + 1) k)
-unfolding byteOf
-byte-there bs at k h = rw (drop-cons bs at 0 h, add-one)
-
-pub byte-lacks : (bs : List ℕ) (at k : ℕ) → length bs ≤ at → byte (inputAt bs at k) ≡ refused tableStops
-unfolding byteOf
-byte-lacks bs at k h = rw (drop-of-length-le bs h)
 
 byte-next :
     (bs : List ℕ) (at next k : ℕ) → at < length bs → next ≡ at + 1 → byte (inputAt bs at k) ≡ parsed (byteAt bs at) (inputAt bs next k)
@@ -106,9 +94,9 @@ number-agrees bs at k =
     (λ l. rw (byte-next bs (at + 1) (at + 2) k l (omega arith))
     (byLt (at + 2) (length bs)
     (λ e. rw (byte-next bs (at + 2) (at + 3) k e (omega arith), le-leb (at + 3) (length bs) (omega arith), based-number) (reads (omega arith)))
-    (λ e. rw (byte-lacks bs (at + 2) k e, lt-leb (at + 3) (length bs) (omega arith)) (refuses tableStops))))
-    (λ l. rw (byte-lacks bs (at + 1) k l, lt-leb (at + 3) (length bs) (omega arith)) (refuses tableStops)))))
-    (λ h. rw (byte-lacks bs at k h, le-ltb at (length bs) h) (refuses tableStops))
+    (λ e. rw (byte-past bs (at + 2) k e, lt-leb (at + 3) (length bs) (omega arith)) (refuses tableStops))))
+    (λ l. rw (byte-past bs (at + 1) k l, lt-leb (at + 3) (length bs) (omega arith)) (refuses tableStops)))))
+    (λ h. rw (byte-past bs at k h, le-ltb at (length bs) h) (refuses tableStops))
 
 -- so many numbers are three times as many
 numbers-agree :
@@ -147,7 +135,7 @@ removals-agree bs (suc at) k z =
     (λ m. rw (le-ltb mostRemovals (byteAt bs (suc at)) m, le-leb (byteAt bs (suc at)) mostRemovals m, add-one)
     (knowing (λ q. record { low = omega arith; high = omega arith; inside = q })
     (numbers-agree (byteAt bs (suc at)) bs (suc (suc at)) k h)))))))
-    (λ h. rw (byte-lacks bs (suc at) k h, le-ltb (suc at) (length bs) h) (refuses tableStops))
+    (λ h. rw (byte-past bs (suc at) k h, le-ltb (suc at) (length bs) h) (refuses tableStops))
 
 -- removals, if any
 behind-agrees :
@@ -174,7 +162,7 @@ procedure-agrees p bs at k =
     (byLt p (byteAt bs at)
     (λ m. rw (lt-ltb p (byteAt bs at) m, lt-leb (byteAt bs at) p m) (refuses wrongField))
     (λ m. rw (le-ltb p (byteAt bs at) m, le-leb (byteAt bs at) p m) (reads (omega arith, m, omega arith)))))))
-    (λ h. rw (byte-lacks bs at k h, le-ltb at (length bs) h) (refuses tableStops))
+    (λ h. rw (byte-past bs at k h, le-ltb at (length bs) h) (refuses tableStops))
 
 -- the kind of a record
 unfoldable pub kindOf : Record → ℕ
@@ -307,32 +295,6 @@ by-kinds C c0 c1 c2 c3 c4 c5 c6 c7 c8 c9 c10 c11 j l =
     last : (j : ℕ) → j < 12 → 11 ≤ j → j ≡ 11
     last j l m = omega arith
 
--- what the model's reader gives where a reader at a place answers by a number, and by a record; no other answer comes from these
-unfoldable pub numberParsed : List ℕ → ℕ → Answer → Parsed syntax.Number
-numberParsed bs k (answer.Number a next) = parsed (numberOf a) (inputAt bs next k)
-numberParsed bs k (answer.Refused m) = refused m
-numberParsed bs k (answer.Place next) = refused tableStops
-numberParsed bs k (answer.Procedure f next) = refused tableStops
-numberParsed bs k (answer.Record r next) = refused tableStops
-
-unfoldable pub fieldsParsed : List ℕ → ℕ → Answer → Parsed Fields
-fieldsParsed bs k (answer.Record r next) = parsed (fieldsOf bs r) (inputAt bs next k)
-fieldsParsed bs k (answer.Refused m) = refused m
-fieldsParsed bs k (answer.Place next) = refused tableStops
-fieldsParsed bs k (answer.Number a next) = refused tableStops
-fieldsParsed bs k (answer.Procedure f next) = refused tableStops
-
--- a number is read at a place as the model reads it from the bytes from there on
-pub number-read : (bs : List ℕ) (at k : ℕ) → number (inputAt bs at k) ≡ numberParsed bs k (numberAt bs at)
-unfolding numberParsed
-number-read bs at k = go (number-agrees bs at k)
-  where
-    go :
-        {Q : Type 0} {S : Parsed syntax.Number} {x : Answer} →
-        Agree Q (parsed (numberOf (writtenAt bs at)) (inputAt bs (at + 3) k)) (answer.Number (writtenAt bs at) (at + 3)) S x → S ≡ numberParsed bs k x
-    go (reads q) = refl
-    go (refuses m) = refl
-
 module _ (p j map : ℕ) (bs : List ℕ) (at k : ℕ) (z : 0 < at) (s : at < 65536) (h : at ≤ length bs) (l : j < 12) (t : permitted j map ≡ true) where
   -- the fields of a record are read at a place as the model reads them from the bytes from there on, where the map is permitted
   fields-agree : RecordAgree bs at k j (recordOf p j (stands 0 map) bs at) (fields p map (inputAt bs at k)) (fieldsAt p j (stands 0 map) bs at)
@@ -373,6 +335,11 @@ module _ (p j map : ℕ) (bs : List ℕ) (at k : ℕ) (z : 0 < at) (s : at < 655
       go : {S : Parsed Fields} {x : Answer} → RecordAgree bs at k j (recordOf p j (stands 0 map) bs at) S x → C S x
       go (reads next e w) = give _ next refl e w
       go (refuses m) = refuse m
+
+-- the reader's answer says what the model reads
+pub fields-said : (p kind : ℕ) (removes : Bool) (bs : List ℕ) (at : ℕ) (r : Answer) → r ≡ fieldsAt p kind removes bs at → SaysFields p kind removes bs at r
+unfolding SaysFields
+fields-said p kind removes bs at r e map k t m l z s h = rw (e, ← m) (sym (fields-read p kind map bs at k z s h l t))
 
 -- a record whose fields were read is found again from the place of its map
 pub record-again :

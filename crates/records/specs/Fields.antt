@@ -1,6 +1,7 @@
 -- The fields of a record, read at a place of the table's bytes, and the record as it is written there. A law ties each to the model's reader of the bytes
 -- from that place on.
-use Prim.Native.Nat.{ℕ, zero, suc, _+_, _*_}
+use Prim.Native.Nat.{ℕ, zero, suc, _+_, _*_, _≤_, _<_}
+use mathlib.Core.Path.{_≡_}
 use mathlib.Core.Bool.{Bool, true, false, cond}
 use mathlib.Core.List.{List, [], _∷_}
 use lib.ListN.{length, getD}
@@ -8,7 +9,7 @@ use lib.Dec.{ltb, leb, eqb}
 use lib.IntN.{ℤ, pos}
 use Rattle.model.specs.Limits.{mostRemovals, tableStops, wrongField}
 use Rattle.model.specs.Syntax as syntax
-use Rattle.model.specs.Reading.{signed16, requiredMap, stands, Fields}
+use Rattle.model.specs.Reading.{inputAt, Parsed, parsed, refused, signed16, requiredMap, permitted, stands, Fields, fields}
 use Rattle.records.specs.declared.Number.{Number}
 use Rattle.records.specs.declared.Number.the-variants.{Constant, SizePlus}
 use Rattle.records.specs.declared.Record.{Record}
@@ -211,3 +212,18 @@ fieldsOf bs (kind.Equal a b) = comparedFields (numberOf a) (numberOf b)
 fieldsOf bs kind.And = noFields
 fieldsOf bs kind.Or = noFields
 fieldsOf bs kind.Negation = noFields
+
+-- what the model's reader of fields gives where the reader at a place answers so: a record or a refusal; no other answer comes
+unfoldable pub fieldsParsed : List ℕ → ℕ → Answer → Parsed Fields
+fieldsParsed bs k (answer.Record r next) = parsed (fieldsOf bs r) (inputAt bs next k)
+fieldsParsed bs k (answer.Refused m) = refused m
+fieldsParsed bs k (answer.Place next) = refused tableStops
+fieldsParsed bs k (answer.Number a next) = refused tableStops
+fieldsParsed bs k (answer.Procedure f next) = refused tableStops
+
+-- where the map is permitted, the answer is the model's reading of the bytes from that place on, however many records came before. At place 0
+-- no record stands, and reading comes to no place past 16 bits.
+unfoldable pub SaysFields : ℕ → ℕ → Bool → List ℕ → ℕ → Answer → Type 0
+SaysFields p kind removes bs at r =
+    (map k : ℕ) → permitted kind map ≡ true → stands 0 map ≡ removes → kind < 12 → 0 < at → at < 65536 → at ≤ length bs →
+    fieldsParsed bs k r ≡ fields p map (inputAt bs at k)

@@ -5,7 +5,7 @@ ghost use lib.ListN.{length};
 ghost use Rattle.model.specs.Reading.{signed16, requiredMap, stands};
 ghost use Rattle.model.specs.Reading as model;
 ghost use Rattle.records.specs.Fields.{byteAt, writtenAt, numberAt, numbersAt, removalsAt, maybeRemovalsAt, placeOf, behindRemovals, procedureAt};
-ghost use Rattle.records.specs.Fields.{plain, touching, comparing, calling, withNumber, withNumbers, withProcedure, fieldsAt, recordAt};
+ghost use Rattle.records.specs.Fields.{plain, touching, comparing, calling, withNumber, withNumbers, withProcedure, fieldsAt, recordAt, SaysFields};
 
 // "1 the table stops too soon"; "6 removal count, base or procedure byte"
 const TABLE_STOPS: u8 = 1;
@@ -83,7 +83,7 @@ pub fn written_at(table: &[u8], at: usize) -> Number
 }
 
 // "A number is a base byte and a signed 16-bit constant"; a base byte is tested as it comes.
-pub fn read_number(table: &[u8], at: usize) -> Answer
+fn read_number(table: &[u8], at: usize) -> Answer
     ensures { λ r. ⌜ r ≡ numberAt (now (table .entry)) at ⌝ }
 {
     if table.len() <= at {
@@ -99,7 +99,7 @@ pub fn read_number(table: &[u8], at: usize) -> Answer
 }
 
 // So many numbers, one after the other: the place behind them.
-pub fn read_numbers(table: &[u8], at: usize, count: u8) -> Answer
+fn read_numbers(table: &[u8], at: usize, count: u8) -> Answer
     ensures { λ r. ⌜ r ≡ numbersAt count (now (table .entry)) at ⌝ }
 {
     if count == 0 {
@@ -275,6 +275,7 @@ fn required(kind: u8) -> u8
 // "then only the fields whose bit stands in the map, lowest bit first": the record of this kind, whose map has bit 0 or not.
 pub fn read_fields(table: &[u8], at: usize, kind: u8, removes: bool, p: u8) -> Answer
     ensures { λ r. ⌜ r ≡ fieldsAt p kind removes (now (table .entry)) at ⌝ }
+    ensures { λ r. ⌜ SaysFields p kind removes (now (table .entry)) at r ⌝ }
 {
     match required(kind) {
         2 => with_number(table, at, kind, removes),

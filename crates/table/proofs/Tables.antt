@@ -11,10 +11,9 @@ use lib.ListN.{length, getD, length-drop}
 use Rattle.model.specs.Limits.{bytesLeft}
 use Rattle.model.specs.Syntax.{Statement, Program}
 use Rattle.model.specs.Reading as model
-use Rattle.model.specs.Reading.{Input, Parsed, parsed, refused, andThen, provided, statement, statements, readTable}
+use Rattle.model.specs.Reading.{Input, inputAt, Parsed, parsed, refused, andThen, provided, statement, statements, readTable}
 use Rattle.model.specs.Lists.{range}
 use Rattle.model.specs.Answers.{outcome}
-use Rattle.records.proofs.Reader.{inputAt}
 use Rattle.table.specs.declared.Tree.{Tree}
 use Rattle.table.specs.declared.Tree.the-variants as tree
 use Rattle.table.specs.declared.Table.the-variants as answer

@@ -12,13 +12,14 @@ use lib.Dec.{ltb}
 use lib.ListN.{length, getElem?}
 use Rattle.model.specs.Syntax.{Condition, conjunction, disjunction, Statement, sequence, if, qcase}
 use Rattle.model.specs.Reading as model
-use Rattle.model.specs.Reading.{Input, Parsed, parsed, refused, andThen, provided, Fields, known, opening, contents, permitted, stands, two}
+use Rattle.model.specs.Reading.{Input, inputAt, Parsed, parsed, refused, andThen, provided, Fields, known, opening, contents, permitted, stands, two}
 use Rattle.model.specs.Reading.{conditionKind, statementKind, conditionOf, condition, statement}
 use Rattle.model.proofs.Tests.{byBool, byLt, clash}
+use Rattle.model.proofs.Places.{byte-there, byte-past}
 use Rattle.records.specs.declared.Record.{Record}
 use Rattle.records.specs.declared.Record.the-variants as kind
 use Rattle.records.specs.Fields.{byteAt, recordOf, recordAt, fieldsOf}
-use Rattle.records.proofs.Reader.{inputAt, byte-there, byte-lacks, kindOf, fields-cases, record-again}
+use Rattle.records.proofs.Reader.{kindOf, fields-cases, record-again}
 use Rattle.table.specs.declared.Tree.the-variants as tree
 use Rattle.table.specs.Index.{startOf, behindOf, testOf, testAt, statementOf, statementAt}
 use Rattle.table.specs.Reading.{Ran, ran, behindTree, noted, wanted, parts, contentsAt, many, refusal, behindFields}
@@ -281,8 +282,8 @@ module _ {A : Type 0} (p : ℕ) (bs : List ℕ) (at i : ℕ) (ix : List ℕ) (fo
       (byBool (wanted tests (byteAt bs (at + 1)))
       (λ w. rw w (by (sort (byteAt bs (at + 1))) refl l w))
       (λ w. rw (w, sorted (byteAt bs (at + 1)) .lacks w) (refuses 4 ix))))
-      (λ l. rw (lt-leb (at + 2) (length bs) (omega arith), byte-lacks bs (at + 1) i l) (refuses 1 ix))))
-      (λ h. rw (le-ltb at (length bs) h, byte-lacks bs at i h) (refuses 1 ix))
+      (λ l. rw (lt-leb (at + 2) (length bs) (omega arith), byte-past bs (at + 1) i l) (refuses 1 ix))))
+      (λ h. rw (le-ltb at (length bs) h, byte-past bs at i h) (refuses 1 ix))
     where
       byte-next : at + 1 < length bs → model.byte (inputAt bs (at + 1) i) ≡ parsed (byteAt bs (at + 1)) (inputAt bs (at + 2) i)
       byte-next l = let e : at + 1 + 1 ≡ at + 2 = omega arith in rw (← e) (byte-there bs (at + 1) i l)

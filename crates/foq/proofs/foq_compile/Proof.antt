@@ -7,7 +7,6 @@ use Rattle.foq.proofs.foq_compile.Tie as tie
 pub foq-compile-spec : {M : Type 1} → statement M
 foq-compile-spec = tie.close (tie.spec
     (λ c κs. search needs)
-    (λ c κs. search needs)
     (λ c. search needs)
     (λ c. search needs)
     (λ c. search needs)

@@ -5,8 +5,8 @@ use Prim.Native.Nat.{ℕ, _-_, _≤_}
 use lib.ListN.{length, set, drop, replicate, length-set, drop-of-length-le}
 use borrow.Author.Fill.{fill-more}
 use native.Mathlib.Omega.{arith}
-use Rattle.foq.proofs.wipe.Statement.{statement}
-use Rattle.foq.proofs.wipe.Tie as tie
+use Rattle.compile.proofs.wipe.Statement.{statement}
+use Rattle.compile.proofs.wipe.Tie as tie
 
 abbrev Inv-loop : tie.InvT-loop
 Inv-loop w₀ i₀ w i = (i ≤ length w₀) × (w ≡ replicate i 0 ++ drop i w₀) × (length w ≡ length w₀)
