@@ -5,7 +5,7 @@
 -- 4. A non-recursive call adds the chain that it starts, which has one class less: with c calls and n lengths that is at most a factor c × n.
 -- 5. There are r classes on a line from main, so the chains come to at most s × (4 + 2n) × r × (c × n)^r, and main's own records to s × (4 + 2n).
 use mathlib.Core.Path.{_≡_, refl, sym, ap, _∙_}
-use mathlib.Core.Bool.{Bool, true, false, not, _&&_}
+use mathlib.Core.Bool.{Bool, true, false, not}
 use mathlib.Core.List.{List, [], _∷_, _++_, map, reverse, reverse-cons}
 use Prim.Native.Nat.{ℕ, zero, suc, _+_, _*_, _^_, _≤_, _<_, zero-le, suc-le-suc}
 use native.Mathlib.Nat.{not-suc-le-zero, mul-le-mul-right, mul-le-mul-left, pow-suc, pow-zero}
@@ -18,7 +18,7 @@ use Rattle.model.specs.Lists.{qubits, remaining, touched, holds, member}
 use Rattle.model.specs.Reach.{calls, recursive, width, anyLacksRemoval, anyTooWide}
 use Rattle.model.specs.Gates.{Controls, noControls, asking, exchange}
 use Rattle.model.specs.Emission.{Event, takes, places, frees, Chains, startChain, whole, Invocation, invocation, invoked, isWide, invocations}
-use Rattle.model.specs.Emission.{invokes, returns, left, right, under, swaps, entryGates, samePair, allEntryGates, Emitted, bodyInvocations, around}
+use Rattle.model.specs.Emission.{invokes, returns, left, right, under, swaps, entryGates, samePair, allEntryGates, isFirst, Emitted, bodyInvocations, around}
 use Rattle.model.specs.Emission.{bodies, bodiesFrom, chainsWithin, emission, gates}
 use Rattle.model.specs.Bound.{notRecords, callRecords, sumBodies, sOf, cOf, rOf, gateBound}
 use Rattle.model.proofs.Tests.{byBool, byEq, eqb-same, not-true-false, and-left, and-right, and-both, and-false-right}
@@ -285,10 +285,7 @@ module _ (p : ℕ) (rank : ℕ → ℕ) (n u j T : ℕ) (chains : Chains) (CB : 
     (λ e. rw (left-other chains r l cs next rs f e, right-other chains r l cs next rs f top e, invocations-other r l next rs f e)
       (let x = startChain-size f (remaining rs l) cs next i (q .1 e) (let z = remaining-no-longer rs l in omega arith) in omega arith))
 
--- an invocation whose body is next to come, among those of length m; and one that comes later, in bodies of shorter lists
-abbrev isNext : ℕ → List ℕ → Invocation → Bool
-isNext m seen d = eqb (length (d .list)) m && not (member (d .procedure) seen)
-
+-- an invocation whose body comes later than those of length m, since its list is shorter
 abbrev isShorter : ℕ → Invocation → Bool
 isShorter m d = ltb (length (d .list)) m
 
@@ -328,8 +325,8 @@ module _ (P : Program) (rank : ℕ → ℕ) (n u : ℕ) (enough : 2 + 2 * n ≤ 
 
     -- the calls that enter d's body, and those whose bodies are still to come, were to come before
     entering-split : (d : Invocation) (m : ℕ) (seen : List ℕ) (ds : List Invocation) → length (d .list) ≡ m → member (d .procedure) seen ≡ false →
-        passing (samePair d) ds + passing (isNext m (d .procedure ∷ seen)) ds ≤ passing (isNext m seen) ds
-    entering-split d m seen ds l new = passing-split (samePair d) (isNext m (d .procedure ∷ seen)) (isNext m seen)
+        passing (samePair d) ds + passing (isFirst m (d .procedure ∷ seen)) ds ≤ passing (isFirst m seen) ds
+    entering-split d m seen ds l new = passing-split (samePair d) (isFirst m (d .procedure ∷ seen)) (isFirst m seen)
       (λ x h. let f = same-procedure d x h in
         (and-both (eqb (length (x .list)) m) (not (member (x .procedure) seen)) (rw (same-length d x h ∙ l) (eqb-same m)) (rw (f, new)),
          and-false-right (eqb (length (x .list)) m) (not (member (x .procedure) (d .procedure ∷ seen))) (rw (f, member-head (d .procedure) seen))))
@@ -363,10 +360,10 @@ module _ (P : Program) (rank : ℕ → ℕ) (n u : ℕ) (enough : 2 + 2 * n ≤ 
       -- the bodies of length m: u for each invocation that is still to come, and the charge of every procedure not yet seen
       bodies-size : (seen : List ℕ) (ds all : List Invocation) (next : ℕ) → Fit ds → Fit all →
           size (bodies P chains m shorter seen ds all next .events)
-            ≤ u * (passing (isNext m seen) ds + passing (isShorter m) all) + total B seen (count P) + R
+            ≤ u * (passing (isFirst m seen) ds + passing (isShorter m) all) + total B seen (count P) + R
       unfolding bodies passing
       bodies-size seen [] all next fd fa = let h = SB all next fa in omega arith
-      bodies-size seen (d ∷ ds) all next fd fa = byBool (isNext m seen d)
+      bodies-size seen (d ∷ ds) all next fd fa = byBool (isFirst m seen d)
         (λ e.
           let l : length (d .list) ≡ m =
                 eqb-true (length (d .list)) m (and-left (eqb (length (d .list)) m) (not (member (d .procedure) seen)) e) in
@@ -378,14 +375,14 @@ module _ (P : Program) (rank : ℕ → ℕ) (n u : ℕ) (enough : 2 + 2 * n ≤ 
                 (all-append (count P) rank n j all own fa (body-fit d next (fd .0))) in
           let entries : 2 * size (allEntryGates d ds) ≤ u * passing (samePair d) ds =
                 twice (size (allEntryGates d ds)) (length (d .list)) (passing (samePair d) ds) (allEntryGates-size d ds) (fd .0 .3) in
-          rw (passing-yes (isNext m seen) d ds e) (rw (e, bodies) (rw (around-size d ds next inner)
+          rw (passing-yes (isFirst m seen) d ds e) (rw (e, bodies) (rw (around-size d ds next inner)
             (sums (size (allEntryGates d ds)) (size (leftOf d next)) (size (rightOf d next (inner .next))) (size (inner .events))
-              (passing (samePair d) ds) (passing (isNext m seen) ds) (passing (isNext m (d .procedure ∷ seen)) ds)
+              (passing (samePair d) ds) (passing (isFirst m seen) ds) (passing (isFirst m (d .procedure ∷ seen)) ds)
               (passing (isShorter m) all) (passing (isShorter m) (all ++ own)) (length own) (B (d .procedure))
               (total B (d .procedure ∷ seen) (count P)) (total B seen (count P))
               entries (entering-split d m seen ds l new) (passing-append (isShorter m) all own) (body-size d next (inner .next) (fd .0))
               (total-take B seen (d .procedure) (count P) (fd .0 .0) (fd .0 .1) new) ih))))
-        (λ e. rw (passing-no (isNext m seen) d ds e) (rw (e, bodies) (bodies-size seen ds all next (fd .1) fa)))
+        (λ e. rw (passing-no (isFirst m seen) d ds e) (rw (e, bodies) (bodies-size seen ds all next (fd .1) fa)))
 
     -- the bodies of lists of length m and less
     bodiesFrom-size : (m : ℕ) (all : List Invocation) (next : ℕ) → Fit all →
@@ -395,11 +392,11 @@ module _ (P : Program) (rank : ℕ → ℕ) (n u : ℕ) (enough : 2 + 2 * n ≤ 
     bodiesFrom-size (suc m) all next f =
       let S = total B [] (count P) in
       let a = bodies-size (suc m) (m * S) (bodiesFrom P chains m) (λ ds next′ fit. bodiesFrom-size m ds next′ fit) [] all all next f f in
-      let b = passing-split (isNext (suc m) []) (isShorter (suc m)) (isShorter (suc (suc m))) longest shorter all in
+      let b = passing-split (isFirst (suc m) []) (isShorter (suc m)) (isShorter (suc (suc m))) longest shorter all in
       let c = mul-le-mul-left u b in
       omega arith
       where
-        longest : (x : Invocation) → isNext (suc m) [] x ≡ true → (isShorter (suc (suc m)) x ≡ true) × (isShorter (suc m) x ≡ false)
+        longest : (x : Invocation) → isFirst (suc m) [] x ≡ true → (isShorter (suc (suc m)) x ≡ true) × (isShorter (suc m) x ≡ false)
         longest x h =
           let l : length (x .list) ≡ suc m =
                 eqb-true (length (x .list)) (suc m) (and-left (eqb (length (x .list)) (suc m)) (not (member (x .procedure) [])) h) in

@@ -11,14 +11,14 @@ use Rattle.model.specs.Syntax.{Statement, skip, NOT, sequence, if, qcase, call,
 use Rattle.model.specs.Lists.{qubits, remaining, touched, holds}
 use Rattle.model.specs.Reach.{recursive, width, anyTooWide}
 use Rattle.model.specs.Gates.{Controls, noControls, asking}
-use Rattle.model.specs.Emission.{Chains, startChain, whole, Invocation, invocation, invoked, isWide, invocations, left, right, under}
+use Rattle.model.specs.Emission.{Chains, startChain, whole, Invocation, invocation, invoked, isWide, invocations, left, right, under, isFirst}
 use Rattle.model.specs.Emission.{Emitted, bodyInvocations, around, bodies, bodiesFrom, chainsWithin, emission}
 use Rattle.model.proofs.Tests.{byBool, not-zero}
 use Rattle.model.proofs.Calls.{Named, reach-call, rank, rank-positive, rank-most, rank-reach, rank-falls, all-narrow}
 use Rattle.agreement.proofs.Clauses.{whole-yes, whole-no, invocations-wide, invocations-thin, invocations-yes, invocations-no}
 use Rattle.agreement.proofs.Clauses.{invocations-recursive, invocations-other, left-wide, left-thin, left-yes, left-no, left-recursive}
 use Rattle.agreement.proofs.Clauses.{left-other, right-wide, right-thin, right-yes, right-no, width-sequence}
-use Rattle.agreement.proofs.Clauses.{width-if, width-qcase, thin-width, wide-width, opens, bodies-here, bodies-past}
+use Rattle.agreement.proofs.Clauses.{width-if, width-qcase, thin-width, wide-width, bodies-here, bodies-past}
 use Rattle.agreement.proofs.Depth.{Each, each-call}
 
 -- two accounts of chains agree on the procedures of which Q holds
@@ -161,7 +161,7 @@ module _ (P : Program) (narrow : (f : ℕ) → width (recursive P f) (body P f) 
       bodies P chains m shorter seen calls all next ≡ bodies P chains′ m shorter′ seen calls all next
   unfolding bodies
   bodies-agree m shorter shorter′ S seen [] all next c a = S all next a
-  bodies-agree m shorter shorter′ S seen (d ∷ calls) all next c a = byBool (opens m seen d)
+  bodies-agree m shorter shorter′ S seen (d ∷ calls) all next c a = byBool (isFirst m seen d)
     (λ e.
       let new = bodyInvocations P chains d next in
       let more = members-append Own all new a (invocations-members Own (recursive P (d .procedure)) (body P (d .procedure)) (d .list) next

@@ -1,5 +1,5 @@
--- The bodies of a chain lie around one another: the chain does what the procedure of its one active invocation does with its list, and nothing where none is active.
--- An invocation is active where its ancilla is 1.
+-- The bodies of a chain lie around one another: the chain does what the procedure of its one active invocation does with its list, and nothing
+-- where none is active. An invocation is active where its ancilla is 1.
 use mathlib.Core.Path.{_≡_, refl, sym, ap, _∙_, subst}
 use mathlib.Core.Logic.{_≢_, _⊎_, inl, inr}
 use mathlib.Core.Bool.{Bool, true, false, not}
@@ -14,7 +14,7 @@ use Rattle.model.specs.Lists.{member}
 use Rattle.model.specs.Meaning.{State, flipped, CallDoes, does}
 use Rattle.model.specs.Reach.{recursive}
 use Rattle.model.specs.Gates.{renamed}
-use Rattle.model.specs.Emission.{Event, Chains, Invocation, invocation, left, right, under, samePair, allEntryGates, Emitted, bodyInvocations, around}
+use Rattle.model.specs.Emission.{Event, Chains, Invocation, invocation, left, right, under, samePair, allEntryGates, Emitted, bodyInvocations, around, isFirst}
 use Rattle.model.specs.Emission.{bodies, bodiesFrom, chainsWithin}
 use Rattle.model.proofs.Tests.{byBool, byEq, eqb-same, clash, not-true-false, not-not, and-left, and-right, and-both}
 use Rattle.model.proofs.ListLaws.{Data, data-off, member-cases, member-skip, member-nil, not-head, not-tail}
@@ -25,7 +25,7 @@ use Rattle.agreement.proofs.World.{Safely, Safe, World, Zero, zero-up, 
 use Rattle.agreement.proofs.Invocations.{Mem, mem-left, mem-right, onMem, invocations-range, DistinctAncillas, distinct-append}
 use Rattle.agreement.proofs.Invocations.{invocations-distinct, New, invocations-new}
 use Rattle.agreement.proofs.Frame.{safe-weaken}
-use Rattle.agreement.proofs.Clauses.{opens, bodies-here, bodies-past}
+use Rattle.agreement.proofs.Clauses.{bodies-here, bodies-past}
 use Rattle.agreement.proofs.Whole.{zero-call}
 use Rattle.agreement.proofs.Halves.{left-rests, right-rests}
 use Rattle.agreement.proofs.Split.{Split, split}
@@ -459,7 +459,7 @@ module _ (P : Program) (rank : ℕ → ℕ) (E : CallDoes) (G : Safely) (n : ℕ
         only : (x : Invocation) → Unserved m seen [] D x → Shorter m D x
         only x (inl h) = h
         only x (inr h) = absurd (h .0)
-    bodies-serve RO seen (d ∷ T) D next g dd dt sub = byBool (opens m seen d)
+    bodies-serve RO seen (d ∷ T) D next g dd dt sub = byBool (isFirst m seen d)
       (λ e.
         let md = sub d (inl refl) in
         let l : length (d .list) ≡ m = eqb-true (length (d .list)) m (and-left (eqb (length (d .list)) m) (not (member (d .procedure) seen)) e) in
@@ -478,15 +478,15 @@ module _ (P : Program) (rank : ℕ → ℕ) (E : CallDoes) (G : Safely) (n : ℕ
         widen : (x : Invocation) → Unserved m seen T D x → Unserved m seen (d ∷ T) D x
         widen x (inl h) = inl h
         widen x (inr h) = inr (inr (h .0), h .1, h .2)
-        passed : opens m seen d ≡ false → (x : Invocation) → x ≡ d → length (x .list) ≡ m → member (x .procedure) seen ≡ false → ⊥
+        passed : isFirst m seen d ≡ false → (x : Invocation) → x ≡ d → length (x .list) ≡ m → member (x .procedure) seen ≡ false → ⊥
         passed e x q l u = clash (and-both (eqb (length (d .list)) m) (not (member (d .procedure) seen))
           (subst (λ (y : Invocation). eqb (length (y .list)) m ≡ true) q (rw l (eqb-same m)))
           (ap not (subst (λ (y : Invocation). member (y .procedure) seen ≡ false) q u))) e
-        drop : opens m seen d ≡ false → (x : Invocation) → Mem x (d ∷ T) → length (x .list) ≡ m → member (x .procedure) seen ≡ false →
+        drop : isFirst m seen d ≡ false → (x : Invocation) → Mem x (d ∷ T) → length (x .list) ≡ m → member (x .procedure) seen ≡ false →
             Unserved m seen T D x
         drop e x (inl q) l u = absurd (passed e x q l u)
         drop e x (inr mx) l u = inr (mx, l, u)
-        shrink : opens m seen d ≡ false → (x : Invocation) → Unserved m seen (d ∷ T) D x → Unserved m seen T D x
+        shrink : isFirst m seen d ≡ false → (x : Invocation) → Unserved m seen (d ∷ T) D x → Unserved m seen T D x
         shrink e x (inl h) = inl h
         shrink e x (inr h) = drop e x (h .0) (h .1) (h .2)
 

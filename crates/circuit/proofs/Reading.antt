@@ -10,7 +10,7 @@ use borrow.Author.Needs.{needs}
 use borrow.Author.Tests.{le-leb, not-true, not-false}
 use lib.ListN.{length, getD}
 use Rattle.model.specs.Limits.{tableStops}
-use Rattle.model.specs.Reading.{parsed, refused, andThen, provided, byte, optional}
+use Rattle.model.specs.Reading.{parsed, refused, andThen, provided, optional}
 use Rattle.model.specs.Circuit.{bytes, wireList}
 use Rattle.model.proofs.Tests.{byLt}
 use Rattle.model.proofs.Places.{byte-there, byte-past}

@@ -9,9 +9,9 @@ use lib.ListN.{length}
 use lib.Dec.{eqb}
 use Rattle.model.specs.Syntax.{Program}
 use Rattle.model.specs.Lists.{member}
-use Rattle.model.specs.Emission.{Chains, Invocation, Emitted, bodyInvocations, around, bodies}
+use Rattle.model.specs.Emission.{Chains, Invocation, Emitted, bodyInvocations, around, bodies, isFirst}
 use Rattle.model.proofs.Tests.{byBool, byEq, clash}
-use Rattle.agreement.proofs.Clauses.{opens, bodies-here, bodies-past}
+use Rattle.agreement.proofs.Clauses.{bodies-here, bodies-past}
 use Rattle.records.proofs.Laws.{and-cond}
 use Rattle.events.specs.Scan.{slotLength, slotProcedure, slotOf, heldIn}
 use Rattle.events.specs.Slots.{pairAt, appears, opensAt, seekOf}
@@ -53,7 +53,7 @@ module _ (ws : List ℕ) (base m j : ℕ) (le : base ≤ j) where
 
   module _ (known : List ℕ) (S : SeenIn ws base m j known) where
     -- the definitions' test of slot j is the code's
-    opens-is : opens m known (slotOf ws j) ≡ opensAt ws base m j
+    opens-is : isFirst m known (slotOf ws j) ≡ opensAt ws base m j
     unfolding slotOf opensAt
     opens-is = rw (bytes-length ws (34 * j + 2) (slotLength ws j), S (slotProcedure ws j))
       (and-cond (eqb (slotLength ws j) m) (not (appears ws base (j - base) (slotProcedure ws j) m)))

@@ -12,10 +12,11 @@ use lib.Pow.{pow-lt}
 use lib.ListN.{length}
 use lib.Dec.{eqb}
 use Rattle.model.specs.Lists.{entry}
+use Rattle.model.specs.Reach.{anyBelow}
 use Rattle.model.specs.Meaning.{bit, digit, wordFrom}
 use Rattle.model.proofs.Tests.{byBool, byEq, byLt}
 use Rattle.model.proofs.Words.{flip-same, flip-other, zero-bit, past-bit, word-bit, word-below, word-is}
-use Rattle.faults.specs.Touches.{Touched, touchesNone, touchesOne, joined, closes, anyUpTo, carried, callTouches}
+use Rattle.faults.specs.Touches.{Touched, touchesNone, touchesOne, joined, closes, callTouches}
 use Rattle.faults.specs.Rows.{rowOf, rowIs, marked, closedRow, knownTouches, carriedOn}
 
 -- a bit of two words joined
@@ -106,16 +107,6 @@ closed-row q x out = rw (says, marked-row x q) (byBool (x q)
     says : rowIs (rowOf x) q ≡ x q
     says = byLt q 64 (λ l. row-at x q l) (λ ge. row-past x q ge ∙ sym (out ge))
 
--- does a number below k pass the test?
-unfoldable pub anyBelow : ℕ → (ℕ → Bool) → Bool
-anyBelow zero test = false
-anyBelow (suc k) test = anyBelow k test || test k
-
-any-below : (k : ℕ) (test : ℕ → Bool) → anyBelow (suc k) test ≡ anyUpTo k test
-unfolding anyBelow anyUpTo
-any-below zero test = refl
-any-below (suc k) test = rw (any-below k test)
-
 -- the positions below u of the callee's list l, carried to the caller
 abbrev pub carriedBelow : ℕ → List ℕ → Touched → Touched
 carriedBelow u l b = λ t. anyBelow u (λ v. b v && eqb (entry l v) t)
@@ -145,9 +136,4 @@ pub carried-all : (known : List ℕ) (f : ℕ) (l : List ℕ) → (length l ≡ 
     rowOf (carriedBelow (suc (length l)) l (knownTouches known f (length l))) ≡ rowOf (callTouches (knownTouches known) f l)
 unfolding callTouches
 carried-all known f [] some = absurd (some refl)
-carried-all known f (x ∷ l) some =
-    same-row (carriedBelow (suc (length (x ∷ l))) (x ∷ l) b) (carried (x ∷ l) b)
-      (λ t h. any-below (length (x ∷ l)) (λ v. b v && eqb (entry (x ∷ l) v) t))
-  where
-    b : Touched
-    b = knownTouches known f (length (x ∷ l))
+carried-all known f (x ∷ l) some = refl

@@ -11,48 +11,28 @@ use lib.Dec.{eqb}
 use Rattle.model.specs.Syntax.{Number, Condition, Statement, skip, NOT, sequence, if, qcase, call, Program, count, body}
 use Rattle.model.specs.Lists.{range, qubits, remaining, entry, touched, holds, member}
 use Rattle.model.specs.Faults.{CallFaults, callFaults, faults, callFaultsWithin, enough, programFaults}
-use Rattle.model.specs.Reach.{calls, recursive, anyLacksRemoval}
-use Rattle.model.proofs.Tests.{byBool, byEq, eqb-same, clash, same-test, not-true-false, and-left, and-right, and-both, or-left, or-right, or-cases, or-false}
+use Rattle.model.specs.Reach.{calls, recursive, anyBelow, anyLacksRemoval}
+use Rattle.model.proofs.Tests.{byBool, byEq, eqb-same, clash, same-test, not-true-false, any-here, any-cases, any-same}
+use Rattle.model.proofs.Tests.{and-left, and-right, and-both, or-left, or-right, or-cases, or-false}
 use Rattle.model.proofs.ListLaws.{member-head, member-tail, not-in-nil, member-cases, Distinct, subset-out, range-distinct, range-length}
 use Rattle.model.proofs.ListLaws.{remaining-map, remaining-subset, remaining-distinct, remaining-no-longer, touched-map}
 use Rattle.model.proofs.ListLaws.{Data, data-zero, data-remaining, data-touched, qubits-data}
 use Rattle.model.proofs.Calls.{Named, Ranked, rank, rank-all, all-ranked}
 use Rattle.model.proofs.Fuel.{faults-yes, faults-no, call-falls}
-use Rattle.faults.specs.Touches.{Touched, CallTouches, anyUpTo, joined, closes, carried, callTouches, touches, touchesWithin}
+use Rattle.faults.specs.Touches.{Touched, CallTouches, joined, closes, carried, callTouches, touches, touchesWithin}
 use Rattle.faults.specs.Lengths.{removalCounts}
 use Rattle.faults.proofs.LengthLaws.{remaining-length}
 
--- a search from 0 to k: what passes is found, and what is found passes
-any-here : (k : ℕ) (test : ℕ → Bool) (t : ℕ) → t ≤ k → test t ≡ true → anyUpTo k test ≡ true
-unfolding anyUpTo
-any-here zero test zero le h = h
-any-here zero test (suc t) le h = absurd (not-suc-le-zero le)
-any-here (suc k) test t le h = byEq t (suc k)
-    (λ e. or-right (anyUpTo k test) (test (suc k)) (subst (λ (v : ℕ). test v ≡ true) e h))
-    (λ ne. or-left (anyUpTo k test) (test (suc k)) (any-here k test t (omega arith) h))
-
-any-cases {ℓ} : {A : Type ℓ} (k : ℕ) (test : ℕ → Bool) → anyUpTo k test ≡ true → ((t : ℕ) → t ≤ k → test t ≡ true → A) → A
-unfolding anyUpTo
-any-cases zero test h f = f 0 zero-le h
-any-cases (suc k) test h f = or-cases (anyUpTo k test) (test (suc k)) h
-    (λ i. any-cases k test i (λ t le e. f t (omega arith) e))
-    (λ e. f (suc k) (omega arith) e)
-
-any-same : (k : ℕ) (a b : ℕ → Bool) → ((t : ℕ) → t ≤ k → a t ≡ b t) → anyUpTo k a ≡ anyUpTo k b
-unfolding anyUpTo
-any-same zero a b h = h 0 zero-le
-any-same (suc k) a b h = rw (any-same k a b (λ t le. h t (omega arith)), h (suc k) (omega arith))
-
 -- is one of the positions touched among those that c tells?
 abbrev meets : ℕ → Touched → (ℕ → Bool) → Bool
-meets k b c = anyUpTo k (λ t. b t && c t)
+meets k b c = anyBelow (suc k) (λ t. b t && c t)
 
 module _ (k : ℕ) (c : ℕ → Bool) where
   meets-here : (b : Touched) (t : ℕ) → t ≤ k → b t ≡ true → c t ≡ true → meets k b c ≡ true
-  meets-here b t le x y = any-here k (λ t. b t && c t) t le (and-both (b t) (c t) x y)
+  meets-here b t le x y = any-here (suc k) (λ t. b t && c t) t (suc-le-suc le) (and-both (b t) (c t) x y)
 
   meets-cases {ℓ} : {A : Type ℓ} (b : Touched) → meets k b c ≡ true → ((t : ℕ) → t ≤ k → b t ≡ true → c t ≡ true → A) → A
-  meets-cases b h f = any-cases k (λ t. b t && c t) h (λ t le e. f t le (and-left (b t) (c t) e) (and-right (b t) (c t) e))
+  meets-cases b h f = any-cases (suc k) (λ t. b t && c t) h (λ t lt e. f t (le-of-suc-le-suc lt) (and-left (b t) (c t) e) (and-right (b t) (c t) e))
 
   meets-none : meets k (λ t. false) c ≡ false
   meets-none = not-true-false (meets k (λ t. false) c) (λ h. meets-cases (λ t. false) h (λ t le x y. false≢true x))
@@ -75,13 +55,13 @@ module _ (k : ℕ) (c : ℕ → Bool) where
   meets-carried : (l : List ℕ) (b : Touched) → ((u : ℕ) → u ≤ length l → entry l u ≤ k) →
       meets k (carried l b) c ≡ meets (length l) b (λ u. c (entry l u))
   meets-carried l b into = same-test (meets k (carried l b) c) (meets (length l) b (λ u. c (entry l u)))
-    (λ h. meets-cases (carried l b) h (λ t le x y. any-cases (length l) (λ u. b u && eqb (entry l u) t) x
-      (λ u lu e. any-here (length l) (λ u. b u && c (entry l u)) u lu
+    (λ h. meets-cases (carried l b) h (λ t le x y. any-cases (suc (length l)) (λ u. b u && eqb (entry l u) t) x
+      (λ u lu e. any-here (suc (length l)) (λ u. b u && c (entry l u)) u lu
         (and-both (b u) (c (entry l u)) (and-left (b u) (eqb (entry l u) t) e)
           (subst (λ (v : ℕ). c v ≡ true) (sym (eqb-true (entry l u) t (and-right (b u) (eqb (entry l u) t) e))) y)))))
-    (λ h. any-cases (length l) (λ u. b u && c (entry l u)) h (λ u lu e.
-      meets-here (carried l b) (entry l u) (into u lu)
-        (any-here (length l) (λ v. b v && eqb (entry l v) (entry l u)) u lu
+    (λ h. any-cases (suc (length l)) (λ u. b u && c (entry l u)) h (λ u lu e.
+      meets-here (carried l b) (entry l u) (into u (le-of-suc-le-suc lu))
+        (any-here (suc (length l)) (λ v. b v && eqb (entry l v) (entry l u)) u lu
           (and-both (b u) (eqb (entry l u) (entry l u)) (and-left (b u) (c (entry l u)) e) (eqb-same (entry l u))))
         (and-right (b u) (c (entry l u)) e)))
 
@@ -157,9 +137,9 @@ callTouches-inside : (o : CallTouches) (f : ℕ) (l : List ℕ) (m t : ℕ) → 
 unfolding callTouches
 callTouches-inside o f [] m t D h = refl
 callTouches-inside o f (x ∷ l) m t D h =
-    not-true-false (callTouches o f (x ∷ l) t) (λ e. any-cases (length (x ∷ l)) (λ u. o f (length (x ∷ l)) u && eqb (entry (x ∷ l) u) t) e
+    not-true-false (callTouches o f (x ∷ l) t) (λ e. any-cases (suc (length (x ∷ l))) (λ u. o f (length (x ∷ l)) u && eqb (entry (x ∷ l) u) t) e
       (λ u lu i. above (entry (x ∷ l) u)
-        (eqb-true (entry (x ∷ l) u) t (and-right (o f (length (x ∷ l)) u) (eqb (entry (x ∷ l) u) t) i)) (entry-data m (x ∷ l) D u lu)))
+        (eqb-true (entry (x ∷ l) u) t (and-right (o f (length (x ∷ l)) u) (eqb (entry (x ∷ l) u) t) i)) (entry-data m (x ∷ l) D u (le-of-suc-le-suc lu))))
   where
     above : (w : ℕ) → w ≡ t → w ≤ m → ⊥
     above w e le = omega arith
@@ -183,7 +163,7 @@ closedAt l closed t = member (entry l t) (0 ∷ closed)
 
 -- does it fault to touch these positions of a list, where some qubits are closed?
 abbrev pub positionFaults : Touched → List ℕ → List ℕ → Bool
-positionFaults b l closed = anyUpTo (length l) (λ t. b t && closedAt l closed t)
+positionFaults b l closed = anyBelow (suc (length l)) (λ t. b t && closedAt l closed t)
 
 -- calls fault as the positions that they touch say, on lists of qubits without repetition
 abbrev Tells : CallTouches → CallFaults → Type 0
@@ -242,7 +222,7 @@ module _ (v : CallTouches) (o : CallFaults) (T : Tells v o) (l : List ℕ) (d : 
   call-faults f (x ∷ k) closed D e =
     T f (map (entry l) (x ∷ k)) closed e ∙
     ap (λ (n : ℕ). meets n (v f n) (closedAt (map (entry l) (x ∷ k)) closed)) (length-map (x ∷ k) (entry l)) ∙
-    any-same (length (x ∷ k)) (λ u. v f (length (x ∷ k)) u && closedAt (map (entry l) (x ∷ k)) closed u)
+    any-same (suc (length (x ∷ k))) (λ u. v f (length (x ∷ k)) u && closedAt (map (entry l) (x ∷ k)) closed u)
       (λ u. v f (length (x ∷ k)) u && closedAt l closed (entry (x ∷ k) u))
       (λ u lu. ap (λ (w : ℕ). v f (length (x ∷ k)) u && member w (0 ∷ closed)) (List·getD-map (entry l) (0 ∷ x ∷ k) u 0)) ∙
     sym (meets-carried (length l) (closedAt l closed) (x ∷ k) (v f (length (x ∷ k))) (entry-data (length l) (x ∷ k) D))
@@ -304,8 +284,8 @@ callTouches-agree : (o v : CallTouches) (f : ℕ) (l : List ℕ) → (0 < length
 unfolding callTouches
 callTouches-agree o v f [] A t = refl
 callTouches-agree o v f (x ∷ l) A t =
-    any-same (length (x ∷ l)) (λ u. o f (length (x ∷ l)) u && eqb (entry (x ∷ l) u) t) (λ u. v f (length (x ∷ l)) u && eqb (entry (x ∷ l) u) t)
-      (λ u lu. ap (λ (w : Bool). w && eqb (entry (x ∷ l) u) t) (A (suc-le-suc zero-le) u lu))
+    any-same (suc (length (x ∷ l))) (λ u. o f (length (x ∷ l)) u && eqb (entry (x ∷ l) u) t) (λ u. v f (length (x ∷ l)) u && eqb (entry (x ∷ l) u) t)
+      (λ u lu. ap (λ (w : Bool). w && eqb (entry (x ∷ l) u) t) (A (suc-le-suc zero-le) u (le-of-suc-le-suc lu)))
 
 -- a procedure of rank k on m qubits calls g on m′: on no more qubits and of no higher rank, and not both the same
 abbrev Falls : (ℕ → ℕ) → ℕ → ℕ → ℕ → ℕ → Type 0

@@ -7,6 +7,7 @@ use lib.ListN.{length}
 use lib.Dec.{eqb}
 use Rattle.model.specs.Syntax.{Statement, skip, NOT, sequence, if, qcase, call, Program, body}
 use Rattle.model.specs.Lists.{qubits, remaining, entry, touched, holds}
+use Rattle.model.specs.Reach.{anyBelow}
 
 -- the positions touched, counted from 1; 0 stands for a fault inside
 abbrev pub Touched : Type 0
@@ -15,11 +16,6 @@ Touched = ℕ → Bool
 -- what calls touch: by procedure and length of the list
 abbrev pub CallTouches : Type 0
 CallTouches = ℕ → ℕ → Touched
-
--- does a number from 0 to k pass the test?
-unfoldable pub anyUpTo : ℕ → (ℕ → Bool) → Bool
-anyUpTo zero test = test 0
-anyUpTo (suc k) test = anyUpTo k test || test (suc k)
 
 -- skip
 abbrev pub touchesNone : Touched
@@ -39,7 +35,7 @@ closes q b = λ t. (eqb t q || b t) || (eqb t 0 && b q)
 
 -- positions of the callee's list l as positions of the caller's, which are the entries of l; a fault stays one, as entry l 0 is 0
 abbrev pub carried : List ℕ → Touched → Touched
-carried l b = λ t. anyUpTo (length l) (λ u. b u && eqb (entry l u) t)
+carried l b = λ t. anyBelow (suc (length l)) (λ u. b u && eqb (entry l u) t)
 
 -- "A call with an empty list does nothing."
 unfoldable pub callTouches : CallTouches → ℕ → List ℕ → Touched

@@ -12,11 +12,11 @@ use lib.ListN.{List·getD-eq-default}
 use lib.Dec.{eqb, ltb}
 use Rattle.model.specs.Syntax.{Number, Statement, skip, NOT, sequence, if, qcase, call, Program, count, body}
 use Rattle.model.specs.Reach.{
-  calls, Reaches, direct, onward, reachesBelow, reaches, recursive, isEmpty, lacksRemoval, width, anyBody, anyLacksRemoval, anyTooWide,
+  calls, Reaches, direct, onward, reachesBelow, reaches, recursive, isEmpty, lacksRemoval, width, anyLacksRemoval, anyTooWide,
 }
 use Rattle.model.proofs.Tests.{
   byBool, byEq, byLt, eqb-same, clash, not-true-false, and-left, and-right, and-both, or-cases, or-left, or-right, or-false, or-false-left,
-  or-false-right,
+  or-false-right, any-false,
 }
 use Rattle.model.proofs.ListLaws.{Carries}
 
@@ -243,20 +243,12 @@ module _ (P : Program) (N : Named P) (f : ℕ) (lf : f ≤ count P) where
       removal-there : recursive P f g ≡ true → isEmpty rs ≡ false
       removal-there e = not-true-false (isEmpty rs) (λ m. clash (and-both (recursive P f g) (isEmpty rs) e m) c)
 
--- a test over all bodies, seen at each
-anyBody-false : (bad : ℕ → Bool) (k f : ℕ) → f < k → anyBody bad k ≡ false → bad f ≡ false
-unfolding anyBody
-anyBody-false bad zero f lt h = absurd (not-suc-le-zero lt)
-anyBody-false bad (suc k) f lt h = byEq f k
-    (λ e. rw e (or-false-right (anyBody bad k) (bad k) h))
-    (λ ne. anyBody-false bad k f (omega arith) (or-false-left (anyBody bad k) (bad k) h))
-
 -- refusal 10 passed: every body's calls are ranked
 pub all-ranked : (P : Program) → Named P → anyLacksRemoval P ≡ false → (f : ℕ) → Ranked (rank P) (recursive P f) (rank P f) (body P f)
 unfolding anyLacksRemoval
 all-ranked P N h f = byLt f (suc (count P))
     (λ lt. ranked-part P N f (omega arith) (body P f) (λ g e. e)
-      (anyBody-false (λ x. lacksRemoval (recursive P x) (body P x)) (suc (count P)) f lt h))
+      (any-false (suc (count P)) (λ x. lacksRemoval (recursive P x) (body P x)) h f lt))
     (λ ge. subst (λ (s : Statement). Ranked (rank P) (recursive P f) (rank P f) s) (sym (body-out P f ge)) tt)
 
 -- refusal 11 passed: every body has width at most 1
@@ -264,5 +256,5 @@ pub all-narrow : (P : Program) → anyTooWide P ≡ false → (f : ℕ) → widt
 unfolding anyTooWide width
 all-narrow P h f = byLt f (suc (count P))
     (λ lt. ltb-false 1 (width (recursive P f) (body P f))
-      (anyBody-false (λ x. ltb 1 (width (recursive P x) (body P x))) (suc (count P)) f lt h))
+      (any-false (suc (count P)) (λ x. ltb 1 (width (recursive P x) (body P x))) h f lt))
     (λ ge. rw (body-out P f ge) zero-le)

@@ -1,11 +1,12 @@
 -- Splitting on computed tests, and the few facts of Bool that the proofs need beside those of borrow.Author.Tests.
-use Prim.Native.Nat.{ℕ, suc, _≤_, _<_}
-use native.Mathlib.Nat.{lt-irrefl, lt-of-lt-of-le}
+use Prim.Native.Nat.{ℕ, zero, suc, _≤_, _<_}
+use native.Mathlib.Nat.{lt-irrefl, lt-of-lt-of-le, not-suc-le-zero}
 use native.Mathlib.Omega.{arith}
 use mathlib.Core.Path.{_≡_, refl, sym}
 use mathlib.Core.Logic.{_≢_}
 use mathlib.Core.Bool.{Bool, true, false, not, _&&_, _||_, true≢false, false≢true}
 use lib.Dec.{eqb, ltb}
+use Rattle.model.specs.Reach.{anyBelow}
 use borrow.Author.Tests.{eqb-true, eqb-false, eq-eqb, ltb-true, ltb-false}
 
 -- split on a test, and keep what it says
@@ -98,3 +99,26 @@ or-false-right false b e = e
 pub not-not : (a : Bool) → not (not a) ≡ a
 not-not true = refl
 not-not false = refl
+
+-- a search below k: what passes is found, what is found passes, where nothing is found nothing passes, and tests that agree find alike
+pub any-here : (k : ℕ) (test : ℕ → Bool) (t : ℕ) → t < k → test t ≡ true → anyBelow k test ≡ true
+unfolding anyBelow
+any-here zero test t lt h = absurd (not-suc-le-zero lt)
+any-here (suc k) test t lt h = byEq t k
+    (λ e. or-right (anyBelow k test) (test k) (rw e at h))
+    (λ ne. or-left (anyBelow k test) (test k) (any-here k test t (omega arith) h))
+
+pub any-cases {ℓ} : {A : Type ℓ} (k : ℕ) (test : ℕ → Bool) → anyBelow k test ≡ true → ((t : ℕ) → t < k → test t ≡ true → A) → A
+unfolding anyBelow
+any-cases zero test h f = absurd (false≢true h)
+any-cases (suc k) test h f = or-cases (anyBelow k test) (test k) h
+    (λ i. any-cases k test i (λ t lt e. f t (omega arith) e))
+    (λ e. f k (omega arith) e)
+
+pub any-false : (k : ℕ) (test : ℕ → Bool) → anyBelow k test ≡ false → (t : ℕ) → t < k → test t ≡ false
+any-false k test h t lt = not-true-false (test t) (λ e. clash (any-here k test t lt e) h)
+
+pub any-same : (k : ℕ) (a b : ℕ → Bool) → ((t : ℕ) → t < k → a t ≡ b t) → anyBelow k a ≡ anyBelow k b
+unfolding anyBelow
+any-same zero a b h = refl
+any-same (suc k) a b h = rw (any-same k a b (λ t lt. h t (omega arith)), h k (omega arith))

@@ -128,6 +128,10 @@ unfoldable pub allEntryGates : Invocation → List Invocation → List Event
 allEntryGates d [] = []
 allEntryGates d (e ∷ later) = elim (samePair d e) [ true ↦ entryGates d e ++ allEntryGates d later | false ↦ allEntryGates d later ]
 
+-- is d the first of its pair, with a list of length m? `seen` are the procedures whose body of this length has come
+abbrev pub isFirst : ℕ → List ℕ → Invocation → Bool
+isFirst m seen d = eqb (length (d .list)) m && not (member (d .procedure) seen)
+
 -- what is emitted, and the next wire behind it
 pub record Emitted : Type 0 where
   pub events : List Event
@@ -152,7 +156,7 @@ module _ (P : Program) (chains : Chains) where
   -- `all` the chain's invocations so far, and `shorter` emits the bodies of shorter lists
   unfoldable pub bodies : ℕ → (List Invocation → ℕ → Emitted) → List ℕ → List Invocation → List Invocation → ℕ → Emitted
   bodies m shorter seen [] all next = shorter all next
-  bodies m shorter seen (d ∷ calls) all next = elim (eqb (length (d .list)) m && not (member (d .procedure) seen)) [
+  bodies m shorter seen (d ∷ calls) all next = elim (isFirst m seen d) [
       true ↦ around d calls next
         (bodies m shorter (d .procedure ∷ seen) calls (all ++ bodyInvocations d next) (next + length (bodyInvocations d next)))
     | false ↦ bodies m shorter seen calls all next ]

@@ -54,14 +54,14 @@ width r (if c s t) = max (width r s) (width r t)
 width r (qcase rs a s t) = max (width r s) (width r t)
 width r (call rs f) = elim (r f) [ true ↦ 1 | false ↦ 0 ]
 
--- does one of the bodies below k, main at 0 among them, fail a test?
-unfoldable pub anyBody : (ℕ → Bool) → ℕ → Bool
-anyBody bad zero = false
-anyBody bad (suc k) = anyBody bad k || bad k
+-- does a number below k pass the test?
+unfoldable pub anyBelow : ℕ → (ℕ → Bool) → Bool
+anyBelow zero test = false
+anyBelow (suc k) test = anyBelow k test || test k
 
--- refusal 10 "over the whole table, then 11"
+-- refusal 10 "over the whole table, then 11": in one of the bodies, main at 0 among them
 unfoldable pub anyLacksRemoval : Program → Bool
-anyLacksRemoval P = anyBody (λ f. lacksRemoval (recursive P f) (body P f)) (suc (count P))
+anyLacksRemoval P = anyBelow (suc (count P)) (λ f. lacksRemoval (recursive P f) (body P f))
 
 unfoldable pub anyTooWide : Program → Bool
-anyTooWide P = anyBody (λ f. ltb 1 (width (recursive P f) (body P f))) (suc (count P))
+anyTooWide P = anyBelow (suc (count P)) (λ f. ltb 1 (width (recursive P f) (body P f)))

@@ -1,15 +1,14 @@
 -- The matrix that `fill_reach` leaves, and what is read off it: the model's reach, recursive calls, and refusals 10 and 11.
-use mathlib.Core.Path.{_≡_, refl, sym, ap, _∙_, fun-ext}
+use mathlib.Core.Path.{_≡_, sym, ap, _∙_, fun-ext}
 use mathlib.Core.Bool.{Bool, true, false}
 use mathlib.Core.List.{List}
-use Prim.Native.Nat.{ℕ, zero, suc, _≤_, _<_}
+use Prim.Native.Nat.{ℕ, suc, _≤_}
 use native.Mathlib.Nat.{le-trans, le-of-suc-le-suc, lt-irrefl, lt-of-le-of-lt}
-use native.Mathlib.Omega.{arith}
 use borrow.Author.Tests.{lt-ltb, le-ltb}
 use lib.Dec.{ltb}
 use Rattle.model.specs.Syntax.{Program, Statement, count, body}
-use Rattle.model.specs.Reach.{calls, Reaches, direct, onward, reaches, recursive, lacksRemoval, width, anyBody, anyLacksRemoval, anyTooWide}
-use Rattle.model.proofs.Tests.{byLt, clash, not-true-false}
+use Rattle.model.specs.Reach.{calls, Reaches, direct, onward, reaches, recursive, lacksRemoval, width, anyBelow, anyLacksRemoval, anyTooWide}
+use Rattle.model.proofs.Tests.{byLt, clash, not-true-false, any-same}
 use Rattle.model.proofs.Calls.{body-out, reach-sound, reached-named}
 use Rattle.table.specs.Index.{bodyAt, programAt}
 use Rattle.reach.specs.Matrix.{entry, recursiveIn, digitsOf, reachTable}
@@ -26,12 +25,6 @@ from-body P f g c = byLt (count P) f (λ o. clash c (rw (body-out P f o))) (λ l
 reaches-low : (P : Program) {f g : ℕ} → Reaches P f g → f ≤ count P
 reaches-low P (direct {f = f} {g = g} c) = from-body P f g c
 reaches-low P (onward {f = f} {h = h} c r) = from-body P f h c
-
--- a test over bodies that is the same for each
-any-same : (bad worse : ℕ → Bool) (k : ℕ) → ((f : ℕ) → f < k → bad f ≡ worse f) → anyBody bad k ≡ anyBody worse k
-unfolding anyBody
-any-same bad worse zero h = refl
-any-same bad worse (suc k) h = rw (any-same bad worse k (λ f l. h f (omega arith)), h k (omega arith))
 
 module _ (p : ℕ) (bs ix : List ℕ) (l : p ≤ 16) where
   abbrev P : Program
@@ -64,13 +57,13 @@ module _ (p : ℕ) (bs ix : List ℕ) (l : p ≤ 16) where
 
   -- a test of bodies by the matrix is the test by the program's reach
   any-read : (test : (ℕ → Bool) → Statement → Bool) →
-      anyBody (λ f. test (recursiveIn (reachAt p bs ix) f) (bodyAt p bs ix f)) (suc p)
-      ≡ anyBody (λ f. test (recursive P f) (body P f)) (suc (count P))
+      anyBelow (suc p) (λ f. test (recursiveIn (reachAt p bs ix) f) (bodyAt p bs ix f))
+      ≡ anyBelow (suc (count P)) (λ f. test (recursive P f) (body P f))
   any-read test =
-    any-same (λ f. test (recursiveIn (reachAt p bs ix) f) (bodyAt p bs ix f)) (λ f. test (recursive P f) (body P f)) (suc p)
+    any-same (suc p) (λ f. test (recursiveIn (reachAt p bs ix) f) (bodyAt p bs ix f)) (λ f. test (recursive P f) (body P f))
       (λ f h. ap (λ (r : ℕ → Bool). test r (bodyAt p bs ix f)) (recursive-entry f)
         ∙ ap (test (recursive P f)) (sym (body-at p bs ix f (le-of-suc-le-suc h))))
-    ∙ ap (λ (n : ℕ). anyBody (λ f. test (recursive P f) (body P f)) (suc n)) (sym (count-at p bs ix))
+    ∙ ap (λ (n : ℕ). anyBelow (suc n) (λ f. test (recursive P f) (body P f))) (sym (count-at p bs ix))
 
   -- refusal 10 of the program, by the matrix
   pub refusal-ten : anyLacksIn (reachAt p bs ix) p bs ix ≡ anyLacksRemoval P

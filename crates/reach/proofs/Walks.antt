@@ -12,8 +12,8 @@ use lib.ListN.{length}
 use lib.Dec.{ltb}
 use Rattle.model.specs.Meaning.{digit}
 use Rattle.model.specs.Syntax.{Number, Statement}
-use Rattle.model.specs.Reach.{isEmpty, lacksRemoval, width, anyBody}
-use Rattle.model.proofs.Tests.{byEq, byLt, or-left, or-right, or-false}
+use Rattle.model.specs.Reach.{isEmpty, lacksRemoval, width, anyBelow}
+use Rattle.model.proofs.Tests.{byLt, or-false, any-here}
 use Rattle.records.specs.Fields.{byteAt, numbersFrom, removalsOf}
 use Rattle.table.specs.Index.{rootOf, statementAt, bodyAt}
 use Rattle.step.specs.declared.Step.{Step}
@@ -233,29 +233,22 @@ unfolding markedBelow
 bodies-start body m = refl
 
 module _ (bad : ℕ → Bool) where
-  any-found : (f n : ℕ) → f < n → bad f ≡ true → anyBody bad n ≡ true
-  unfolding anyBody
-  any-found f zero l e = absurd (not-suc-le-zero l)
-  any-found f (suc n) l e = byEq f n
-    (λ q. or-right (anyBody bad n) (bad n) (rw q at e))
-    (λ ne. or-left (anyBody bad n) (bad n) (any-found f n (omega arith) e))
-
-  pub any-start : anyBody bad 0 ≡ false
-  unfolding anyBody
+  pub any-start : anyBelow 0 bad ≡ false
+  unfolding anyBelow
   any-start = refl
 
   module _ (f p : ℕ) (l : f ≤ p) (t : Bool) (q : t ≡ bad f) where
-    pub any-yes : t ≡ true → true ≡ anyBody bad (suc p)
-    any-yes y = sym (any-found f (suc p) (omega arith) (sym q ∙ y))
+    pub any-yes : t ≡ true → true ≡ anyBelow (suc p) bad
+    any-yes y = sym (any-here (suc p) bad f (omega arith) (sym q ∙ y))
 
-    module _ (before : anyBody bad f ≡ false) (y : t ≡ false) where
-      pub any-more : anyBody bad (f + 1) ≡ false
-      unfolding anyBody
-      any-more = rw (add-one f) (or-false (anyBody bad f) (bad f) before (sym q ∙ y))
+    module _ (before : anyBelow f bad ≡ false) (y : t ≡ false) where
+      pub any-more : anyBelow (f + 1) bad ≡ false
+      unfolding anyBelow
+      any-more = rw (add-one f) (or-false (anyBelow f bad) (bad f) before (sym q ∙ y))
 
-      pub any-none : p ≤ f → false ≡ anyBody bad (suc p)
-      unfolding anyBody
-      any-none h = let same : p ≡ f = omega arith in rw same (sym (or-false (anyBody bad f) (bad f) before (sym q ∙ y)))
+      pub any-none : p ≤ f → false ≡ anyBelow (suc p) bad
+      unfolding anyBelow
+      any-none h = let same : p ≡ f = omega arith in rw same (sym (or-false (anyBelow f bad) (bad f) before (sym q ∙ y)))
 
 -- the matrix filled
 module _ (p : ℕ) (bs ix : List ℕ) where

@@ -5,7 +5,7 @@ use mathlib.Core.List.{List, []}
 use lib.Dec.{ltb}
 use Rattle.model.specs.Limits.{mostProcedures}
 use Rattle.model.specs.Syntax.{Statement, skip, NOT, sequence, if, qcase, call}
-use Rattle.model.specs.Reach.{lacksRemoval, width, anyBody}
+use Rattle.model.specs.Reach.{lacksRemoval, width, anyBelow}
 use Rattle.table.specs.Index.{bodyAt, programAt}
 use Rattle.step.specs.declared.Step.{Step}
 use Rattle.step.specs.declared.Step.the-variants as step
@@ -58,7 +58,7 @@ wideIn m p bs ix f = ltb 1 (width (recursiveIn m f) (bodyAt p bs ix f))
 
 -- does one of the bodies 0 to p?
 abbrev pub anyLacksIn : List ℕ → ℕ → List ℕ → List ℕ → Bool
-anyLacksIn m p bs ix = anyBody (lacksIn m p bs ix) (suc p)
+anyLacksIn m p bs ix = anyBelow (suc p) (lacksIn m p bs ix)
 
 abbrev pub anyWideIn : List ℕ → ℕ → List ℕ → List ℕ → Bool
-anyWideIn m p bs ix = anyBody (wideIn m p bs ix) (suc p)
+anyWideIn m p bs ix = anyBelow (suc p) (wideIn m p bs ix)
