@@ -107,7 +107,7 @@ pub fn ascending(bytes: &[u8], from: usize, count: usize, floor: u8, most: u8) -
 
 // Do the wires of each list ascend from 1 to `most`, with no wire in both?
 // Both lists are walked at once, the lower of their next wires first: each must be above the one before.
-pub fn are_tidy(bytes: &[u8], ones: WireList, zeros: WireList, most: u8) -> bool
+fn are_tidy(bytes: &[u8], ones: WireList, zeros: WireList, most: u8) -> bool
     ensures { λ r. ⌜ r ≡ tidy 0 most (listIn (now (bytes .entry)) ones) (listIn (now (bytes .entry)) zeros) ⌝ }
 {
     let mut low = 0;
@@ -147,7 +147,7 @@ pub fn are_tidy(bytes: &[u8], ones: WireList, zeros: WireList, most: u8) -> bool
 }
 
 // Is the wire 1 to `most`, and in neither list?
-pub fn is_free(bytes: &[u8], ones: WireList, zeros: WireList, most: u8, wire: u8) -> bool
+fn is_free(bytes: &[u8], ones: WireList, zeros: WireList, most: u8, wire: u8) -> bool
     ensures { λ r. ⌜ r ≡ free most (listIn (now (bytes .entry)) ones) (listIn (now (bytes .entry)) zeros) wire ⌝ }
 {
     if wire == 0 {
@@ -163,7 +163,7 @@ pub fn is_free(bytes: &[u8], ones: WireList, zeros: WireList, most: u8, wire: u8
 }
 
 // "Counts are at least 1, wires ascend, no wire occurs twice in a gate, a swap's target is its lower wire."
-pub fn well_formed(bytes: &[u8], gate: GateAt, most: u8) -> bool
+fn well_formed(bytes: &[u8], gate: GateAt, most: u8) -> bool
     ensures { λ r. ⌜ r ≡ gateIsWellFormed most (gateIn (now (bytes .entry)) gate) ⌝ }
 {
     let ones = gate.ones;
@@ -184,7 +184,7 @@ pub fn well_formed(bytes: &[u8], gate: GateAt, most: u8) -> bool
 }
 
 // "count and wires", where the list's bit stands in the map; otherwise no wire.
-pub fn read_list(bytes: &[u8], at: usize, stands: bool) -> ListRead
+fn read_list(bytes: &[u8], at: usize, stands: bool) -> ListRead
     ensures { λ r. ⌜ listSeen (now (bytes .entry)) r ≡ settled (optional stands wireList [] (inputAt (now (bytes .entry)) at)) ⌝ }
 {
     if !stands {
@@ -224,7 +224,7 @@ pub fn judge(bytes: &[u8], gate: GateAt, most: u8) -> GateRead
 }
 
 // A gate behind its controls: "bit 2, the second wire of a swap", then the verdict.
-pub fn end_gate(
+fn end_gate(
     bytes: &[u8],
     target: u8,
     ones: WireList,
@@ -288,7 +288,7 @@ pub fn read_gate(bytes: &[u8], at: usize, most: u8) -> GateRead
 }
 
 // Do `count` gates from a place on fill the bytes?
-pub fn gates_fill(bytes: &[u8], from: usize, most: u8, count: u32) -> bool
+fn gates_fill(bytes: &[u8], from: usize, most: u8, count: u32) -> bool
     ensures { λ r. ⌜ r ≡ fills (readGates most count (inputAt (now (bytes .entry)) from)) ⌝ }
 {
     let mut at = from;

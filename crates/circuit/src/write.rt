@@ -28,14 +28,14 @@ pub struct NewGate {
 }
 
 // How many wires are in the list?
-pub fn held(list: ControlList) -> u8
+fn held(list: ControlList) -> u8
     ensures { λ r. ⌜ r ≡ length (wiresOf list) ⌝ }
 {
     if 33 < list.count { 33 } else { list.count }
 }
 
 // How many wires of the list come before a wire that is put among them?
-pub fn place_for(list: ControlList, wire: u8) -> usize
+fn place_for(list: ControlList, wire: u8) -> usize
     ensures { λ r. ⌜ r ≡ placeFor wire (wiresOf list) ⌝ }
 {
     let wires = list.wires;
@@ -51,7 +51,7 @@ pub fn place_for(list: ControlList, wire: u8) -> usize
 }
 
 // The wire put among those of the list, where there is room for it.
-pub fn insert(list: ControlList, wire: u8) -> ControlList
+fn insert(list: ControlList, wire: u8) -> ControlList
     ensures { λ r. ⌜ wiresOf r ≡ insertWithin wire (wiresOf list) ⌝ }
 {
     let count = held(list) as usize;
@@ -141,7 +141,7 @@ pub fn swap_of(controls: ControlLists, first: u8, second: u8) -> NewGate
 
 // The lengths below have types in which no sum of theirs wraps.
 // How many bytes does the list take: none without a wire, otherwise its count and its wires?
-pub fn list_length(list: ControlList) -> u16
+fn list_length(list: ControlList) -> u16
     ensures { λ r. ⌜ r ≡ length (listBytes (wiresOf list)) ⌝ }
 {
     let count = held(list) as u16;
@@ -149,14 +149,14 @@ pub fn list_length(list: ControlList) -> u16
 }
 
 // The list's bit in the map: it stands where the list has a wire.
-pub fn list_bit(list: ControlList, value: u8) -> u8
+fn list_bit(list: ControlList, value: u8) -> u8
     ensures { λ r. ⌜ r ≡ listBit value (wiresOf list) ⌝ }
 {
     if held(list) == 0 { 0 } else { value }
 }
 
 // The gate's map byte.
-pub fn map_of(gate: NewGate) -> u8
+fn map_of(gate: NewGate) -> u8
     ensures { λ r. ⌜ r ≡ mapOf (gate .swaps) (controlsFrom (gate .controls)) ⌝ }
 {
     let controls = gate.controls;
@@ -170,7 +170,7 @@ pub fn map_of(gate: NewGate) -> u8
 }
 
 // How many bytes do both lists take?
-pub fn controls_length(controls: ControlLists) -> u32
+fn controls_length(controls: ControlLists) -> u32
     ensures { λ r. ⌜ r ≡ length (controlBytes (controlsFrom controls)) ⌝ }
 {
     list_length(controls.ones) as u32 + list_length(controls.zeros) as u32
@@ -209,7 +209,7 @@ pub fn put_pair(room: &mut [u8], at: usize, first: u8, second: u8)
 }
 
 // Wires from a place on, as far as the room reaches.
-pub fn put_wires(room: &mut [u8], at: usize, list: ControlList)
+fn put_wires(room: &mut [u8], at: usize, list: ControlList)
     ensures { λ r. ⌜ now (room .exit) ≡ sets (now (room .entry)) at (wiresOf list) ⌝ }
 {
     let wires = list.wires;
@@ -227,7 +227,7 @@ pub fn put_wires(room: &mut [u8], at: usize, list: ControlList)
 }
 
 // A list's bytes from a place on, as far as the room reaches.
-pub fn put_list(room: &mut [u8], at: usize, list: ControlList)
+fn put_list(room: &mut [u8], at: usize, list: ControlList)
     ensures { λ r. ⌜ now (room .exit) ≡ sets (now (room .entry)) at (listBytes (wiresOf list)) ⌝ }
 {
     let count = held(list);
@@ -272,7 +272,7 @@ pub fn put_gate(room: &mut [u8], at: usize, gate: NewGate)
 }
 
 // "4 bytes little-endian" from a place on, as far as the room reaches.
-pub fn put_number(room: &mut [u8], at: usize, number: u32)
+fn put_number(room: &mut [u8], at: usize, number: u32)
     ensures { λ r. ⌜ now (room .exit) ≡ sets (now (room .entry)) at (fourBytes number) ⌝ }
 {
     if room.len() <= at {

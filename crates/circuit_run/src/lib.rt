@@ -27,7 +27,7 @@ pub struct CircuitBlock {
 }
 
 // Does each of `count` wires from a place on hold the bit asked for?
-pub fn all_hold(bytes: &[u8], from: usize, count: usize, asked: bool, wires: Wires) -> bool
+fn all_hold(bytes: &[u8], from: usize, count: usize, asked: bool, wires: Wires) -> bool
     ensures { λ r. ⌜ r ≡ allHold asked (part (now (bytes .entry)) from count) (stateIn (wires .bits)) ⌝ }
 {
     let mut at = from;
@@ -46,7 +46,7 @@ pub fn all_hold(bytes: &[u8], from: usize, count: usize, asked: bool, wires: Wir
 }
 
 // "every controlled wire holds the bit asked for"
-pub fn fires(bytes: &[u8], gate: GateAt, wires: Wires) -> bool
+fn fires(bytes: &[u8], gate: GateAt, wires: Wires) -> bool
     ensures { λ r. ⌜ r ≡ fires (controlsIn (now (bytes .entry)) gate) (stateIn (wires .bits)) ⌝ }
 {
     let ones = gate.ones;
@@ -58,7 +58,7 @@ pub fn fires(bytes: &[u8], gate: GateAt, wires: Wires) -> bool
 }
 
 // "a NOT flips its target and a swap exchanges its two wires; otherwise the gate changes nothing"
-pub fn act(bytes: &[u8], gate: GateAt, wires: Wires) -> Wires
+fn act(bytes: &[u8], gate: GateAt, wires: Wires) -> Wires
     ensures { λ r. ⌜ r ≡ inState (act (gateIn (now (bytes .entry)) gate) (stateIn (wires .bits))) wires ⌝ }
 {
     if !fires(bytes, gate, wires) {
@@ -71,7 +71,7 @@ pub fn act(bytes: &[u8], gate: GateAt, wires: Wires) -> Wires
 }
 
 // Each gate is read, judged and let act, then the next: the run ends where the gates fill the bytes.
-pub fn run_gates(bytes: &[u8], from: usize, most: u8, count: u32, wires: Wires) -> Ran
+fn run_gates(bytes: &[u8], from: usize, most: u8, count: u32, wires: Wires) -> Ran
     ensures { λ r. ⌜ seen r ≡ ranOf wires (readGates most count (inputAt (now (bytes .entry)) from)) ⌝ }
 {
     let mut current = wires;

@@ -25,7 +25,7 @@ pub fn put(text: &mut [u8], at: usize, byte: u8) -> usize
 }
 
 // The decimal digits of a number, the highest first.
-pub fn put_decimal(text: &mut [u8], at: usize, number: u64) -> usize
+fn put_decimal(text: &mut [u8], at: usize, number: u64) -> usize
     ensures { λ r. ⌜ written (now (text .exit)) r ≡ puts (decimal number) (now (text .entry)) at ⌝ }
 {
     if number < 10 {
@@ -36,7 +36,7 @@ pub fn put_decimal(text: &mut [u8], at: usize, number: u64) -> usize
 }
 
 // A space and a number.
-pub fn put_spaced(text: &mut [u8], at: usize, number: u64) -> usize
+fn put_spaced(text: &mut [u8], at: usize, number: u64) -> usize
     ensures { λ r. ⌜ written (now (text .exit)) r ≡ puts (space ∷ decimal number) (now (text .entry)) at ⌝ }
 {
     let next = put(text, at, b' ');
@@ -44,7 +44,7 @@ pub fn put_spaced(text: &mut [u8], at: usize, number: u64) -> usize
 }
 
 // A control: a space, its sign and its wire.
-pub fn put_control(text: &mut [u8], at: usize, sign: u8, wire: u8) -> usize
+fn put_control(text: &mut [u8], at: usize, sign: u8, wire: u8) -> usize
     ensures { λ r. ⌜ written (now (text .exit)) r ≡ puts (signed sign wire) (now (text .entry)) at ⌝ }
 {
     let space_end = put(text, at, b' ');
@@ -53,7 +53,7 @@ pub fn put_control(text: &mut [u8], at: usize, sign: u8, wire: u8) -> usize
 }
 
 // The controls on 0 at `count` places of the circuit: each a hyphen and its wire.
-pub fn put_hyphens(text: &mut [u8], at: usize, circuit: &[u8], from: usize, count: usize) -> usize
+fn put_hyphens(text: &mut [u8], at: usize, circuit: &[u8], from: usize, count: usize) -> usize
     ensures { λ r. ⌜ written (now (text .exit)) r ≡ puts (hyphens (part (now (circuit .entry)) from count)) (now (text .entry)) at ⌝ }
 {
     let mut place = at;
@@ -71,7 +71,7 @@ pub fn put_hyphens(text: &mut [u8], at: usize, circuit: &[u8], from: usize, coun
 }
 
 // How many of `count` wires come before the first that is not below `wire`?
-pub fn count_below(circuit: &[u8], from: usize, count: usize, wire: u8) -> usize
+fn count_below(circuit: &[u8], from: usize, count: usize, wire: u8) -> usize
     ensures { λ r. ⌜ r ≡ lower wire (part (now (circuit .entry)) from count) ⌝ }
 {
     let mut next = from;
@@ -92,7 +92,7 @@ pub fn count_below(circuit: &[u8], from: usize, count: usize, wire: u8) -> usize
 }
 
 // A control on 1 behind `count` controls on 0.
-pub fn put_placed(
+fn put_placed(
     text: &mut [u8],
     at: usize,
     circuit: &[u8],
@@ -139,7 +139,7 @@ pub fn put_controls(
 }
 
 // "X or S, target (for a swap both, lower first)"
-pub fn put_action(text: &mut [u8], at: usize, swaps: bool, target: u8, second: u8) -> usize
+fn put_action(text: &mut [u8], at: usize, swaps: bool, target: u8, second: u8) -> usize
     ensures { λ r. ⌜ written (now (text .exit)) r ≡ puts (actionWith swaps target second) (now (text .entry)) at ⌝ }
 {
     if !swaps {
@@ -152,7 +152,7 @@ pub fn put_action(text: &mut [u8], at: usize, swaps: bool, target: u8, second: u
 }
 
 // "gate number, X or S, target .., controls": the line of a gate that stands in the circuit.
-pub fn gate_line(text: &mut [u8], at: usize, circuit: &[u8], gate: GateAt, number: u64) -> usize
+fn gate_line(text: &mut [u8], at: usize, circuit: &[u8], gate: GateAt, number: u64) -> usize
     ensures { λ r. ⌜ written (now (text .exit)) r ≡ puts (gateLine number (gateIn (now (circuit .entry)) gate)) (now (text .entry)) at ⌝ }
 {
     let number_end = put_decimal(text, at, number);
@@ -163,7 +163,7 @@ pub fn gate_line(text: &mut [u8], at: usize, circuit: &[u8], gate: GateAt, numbe
 }
 
 // "the first line is n, ancillas, size"
-pub fn first_line(text: &mut [u8], at: usize, n: u32, ancillas: u32, size: u32) -> usize
+fn first_line(text: &mut [u8], at: usize, n: u32, ancillas: u32, size: u32) -> usize
     ensures { λ r. ⌜ written (now (text .exit)) r ≡ puts (firstLine n ancillas size) (now (text .entry)) at ⌝ }
 {
     let n_end = put_decimal(text, at, n as u64);
@@ -181,7 +181,7 @@ pub fn refusal_line(text: &mut [u8], at: usize, number: u32) -> usize
 }
 
 // The lines of `count` gates from a place of the circuit on, numbered from 1, as far as they are gates over wires 1 to `most`.
-pub fn gate_lines(
+fn gate_lines(
     text: &mut [u8],
     at: usize,
     circuit: &[u8],

@@ -212,7 +212,7 @@ pub fn fill_reach(table: &[u8], index: &[u16], p: u8, matrix: &mut [u8; 289])
 }
 
 // Does a recursive call in the statement at record i, in the body of f, lack a removal?
-pub fn lacks_removal(table: &[u8], index: &[u16], p: u8, i: usize, depth: u8, f: u8, matrix: &[u8; 289]) -> bool
+fn lacks_removal(table: &[u8], index: &[u16], p: u8, i: usize, depth: u8, f: u8, matrix: &[u8; 289]) -> bool
     ensures { λ r. ⌜ r ≡ lacksRemoval (recursiveIn (now (matrix .entry)) f) (statementAt p (now (table .entry)) (now (index .entry)) depth i) ⌝ }
 {
     if depth == 0 {

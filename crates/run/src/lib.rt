@@ -96,7 +96,7 @@ fn call(table: &[u8], index: &[u16], p: u8, f: u8, list: Qubits, fuel: u16, word
 }
 
 // What main makes of a word on n qubits; past 32 there are no more.
-pub fn end_word(table: &[u8], index: &[u16; 544], p: u8, n: u8, word: u64) -> u64
+fn end_word(table: &[u8], index: &[u16; 544], p: u8, n: u8, word: u64) -> u64
     ensures { λ r. ⌜ r ≡ ranWord (programAt p (now (table .entry)) (now (index .entry))) (min n 32) word ⌝ }
 {
     let list = all(n);
