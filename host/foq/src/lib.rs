@@ -117,8 +117,8 @@ impl Block {
 ///
 /// # Errors
 /// [`Refusal::WRONG_QUBITS`]; then 1 to 8, record by record, in the order that
-/// `foq.h` gives; then [`Refusal::NO_REMOVAL`], [`Refusal::TOO_WIDE`], [`Refusal::ACCESS_FAULT`] and
-/// [`Refusal::SHORT_WORKSPACE`].
+/// `foq.h` gives; then [`Refusal::NO_REMOVAL`], [`Refusal::TOO_WIDE`],
+/// [`Refusal::ACCESS_FAULT`] and [`Refusal::SHORT_WORKSPACE`].
 pub fn verdict(table: &[u8], n: u32, workspace: &mut [u8]) -> Result<(), Refusal> {
     Refusal::unless_success(border::verdict(table, n, workspace))
 }
