@@ -8,7 +8,7 @@ use borrow.Author.Needs.{needs}
 use borrow.Author.Tests.{ne-eqb, le-leb, lt-leb, not-true, not-false}
 use lib.ListN.{length, getD}
 use lib.Dec.{eqb, leb}
-use Rattle.model.specs.Limits.{notWellFormed, tableStops}
+use Rattle.model.specs.Limits.{notWellFormed, tableStops, mostQubits, mostWires, circuitEdition, headerLength, mostCircuit}
 use Rattle.model.specs.Reading.{Input, Parsed, parsed, refused, andThen, provided, byte}
 use Rattle.model.specs.Gates.{Gate}
 use Rattle.model.specs.Circuit.{Circuit, readGate, readGates, fourByteNumber, wholeCircuit, circuitOf, readCircuit}
@@ -16,8 +16,9 @@ use Rattle.model.specs.Answers.{Outcome, gives, refuses, number, wellFormed, ci
 use Rattle.model.proofs.Tests.{byLt}
 use Rattle.model.proofs.Places.{byte-there, byte-past}
 use Rattle.circuit.specs.Views.{inputAt, fills}
-use Rattle.circuit.specs.Header.{gatesBehind, circuitBehind, headerOf, refusedHeader}
-use Rattle.circuit.specs.declared.CircuitHeader.{CircuitHeader}
+use Rattle.circuit.specs.Header.{gatesBehind, circuitBehind}
+use Rattle.answers.specs.Structs.{headerOf, refusedHeader}
+use Rattle.answers.specs.declared.CircuitHeader.{CircuitHeader}
 use Rattle.circuit.specs.declared.Header.{Header}
 use Rattle.circuit.specs.declared.HeaderRead.{HeaderRead}
 use Rattle.circuit.specs.declared.HeaderRead.the-variants.{Opened, NoHeader}
@@ -52,18 +53,18 @@ byte-stops : {A : Type 0} (bs : List ℕ) (at : ℕ) (f : ℕ → Input → Pars
 unfolding andThen
 byte-stops bs at f h = byLt at (length bs) (λ l. rw (byte-there bs at 0 l) (h l)) (λ l. rw (byte-past bs at 0 l))
 
-count-stops : (bs : List ℕ) → length bs < 7 → fourByteNumber (inputAt bs 3) ≡ refused tableStops
+count-stops : (bs : List ℕ) → length bs < headerLength → fourByteNumber (inputAt bs 3) ≡ refused tableStops
 unfolding fourByteNumber
 count-stops bs h =
     byte-stops bs 3 _ (λ a. byte-stops bs 4 _ (λ b. byte-stops bs 5 _ (λ c. byte-stops bs 6 _ (λ d. absurd (omega arith)))))
 
 -- a circuit whose header is not all there
-header-stops : (bs : List ℕ) → length bs < 7 → wellFormed (circuitOf (inputAt bs 0)) ≡ refuses notWellFormed
+header-stops : (bs : List ℕ) → length bs < headerLength → wellFormed (circuitOf (inputAt bs 0)) ≡ refuses notWellFormed
 unfolding circuitOf
 header-stops bs h =
-    byte-lacks bs 0 _ (λ a. provided-lacks (eqb (getD bs 0 0) 1) _
-    (byte-lacks bs 1 _ (λ b. provided-lacks (leb 1 (getD bs 1 0) && leb (getD bs 1 0) 32) _
-    (byte-lacks bs 2 _ (λ c. provided-lacks (leb (getD bs 1 0 + getD bs 2 0) 255) _
+    byte-lacks bs 0 _ (λ a. provided-lacks (eqb (getD bs 0 0) circuitEdition) _
+    (byte-lacks bs 1 _ (λ b. provided-lacks (leb 1 (getD bs 1 0) && leb (getD bs 1 0) mostQubits) _
+    (byte-lacks bs 2 _ (λ c. provided-lacks (leb (getD bs 1 0 + getD bs 2 0) mostWires) _
     (refused-lacks (fourByteNumber (inputAt bs 3)) _ (count-stops bs h)))))))
 
 -- the number in bytes 3 to 6
@@ -71,10 +72,10 @@ abbrev countIn : List ℕ → ℕ
 countIn bs = getD bs 3 0 + 256 * getD bs 4 0 + 65536 * getD bs 5 0 + 16777216 * getD bs 6 0
 
 -- the header's tests of at least 7 bytes, then the gates
-opened : (bs : List ℕ) → 7 ≤ length bs →
-    circuitOf (inputAt bs 0) ≡ provided (eqb (getD bs 0 0) 1) notWellFormed (provided (leb 1 (getD bs 1 0) && leb (getD bs 1 0) 32) notWellFormed
-    (provided (leb (getD bs 1 0 + getD bs 2 0) 255) notWellFormed
-    (wholeCircuit (getD bs 1 0) (getD bs 2 0) (readGates (getD bs 1 0 + getD bs 2 0) (countIn bs) (inputAt bs 7)))))
+opened : (bs : List ℕ) → headerLength ≤ length bs →
+    circuitOf (inputAt bs 0) ≡ provided (eqb (getD bs 0 0) circuitEdition) notWellFormed (provided (leb 1 (getD bs 1 0) && leb (getD bs 1 0) mostQubits) notWellFormed
+    (provided (leb (getD bs 1 0 + getD bs 2 0) mostWires) notWellFormed
+    (wholeCircuit (getD bs 1 0) (getD bs 2 0) (readGates (getD bs 1 0 + getD bs 2 0) (countIn bs) (inputAt bs headerLength)))))
 unfolding circuitOf fourByteNumber andThen
 opened bs h =
     rw (
@@ -89,19 +90,19 @@ opened bs h =
 
 -- the ways out of `read_header`
 module _ (bs : List ℕ) where
-  pub header-long : 65536 < length bs → circuitBehind bs NoHeader ≡ circuitRead bs
+  pub header-long : mostCircuit < length bs → circuitBehind bs NoHeader ≡ circuitRead bs
   unfolding readCircuit provided wellFormed circuitBehind
-  header-long h = rw (lt-leb (length bs) 65536 h)
+  header-long h = rw (lt-leb (length bs) mostCircuit h)
 
-  module _ (l : length bs ≤ 65536) where
-    pub header-short : length bs < 7 → circuitBehind bs NoHeader ≡ circuitRead bs
+  module _ (l : length bs ≤ mostCircuit) where
+    pub header-short : length bs < headerLength → circuitBehind bs NoHeader ≡ circuitRead bs
     unfolding readCircuit provided circuitBehind
-    header-short h = rw (le-leb (length bs) 65536 l) (sym (header-stops bs h))
+    header-short h = rw (le-leb (length bs) mostCircuit l) (sym (header-stops bs h))
 
-    module _ (h : 7 ≤ length bs) where
+    module _ (h : headerLength ≤ length bs) where
       read : readCircuit bs ≡ circuitOf (inputAt bs 0)
       unfolding readCircuit provided
-      read = rw (le-leb (length bs) 65536 l)
+      read = rw (le-leb (length bs) mostCircuit l)
 
       pub header-edition : (getD bs 0 0 ≡ 1 → ⊥) → circuitBehind bs NoHeader ≡ circuitRead bs
       unfolding provided wellFormed circuitBehind
@@ -113,12 +114,12 @@ module _ (bs : List ℕ) where
         header-none z = rw (read, opened bs h, e, z)
 
         module _ (f : getD bs 1 0 ≡ 0 → ⊥) where
-          pub header-qubits : 32 < getD bs 1 0 → circuitBehind bs NoHeader ≡ circuitRead bs
+          pub header-qubits : mostQubits < getD bs 1 0 → circuitBehind bs NoHeader ≡ circuitRead bs
           unfolding provided wellFormed circuitBehind
-          header-qubits k = rw (read, opened bs h, e, le-leb 1 (getD bs 1 0) (omega arith), lt-leb (getD bs 1 0) 32 k)
+          header-qubits k = rw (read, opened bs h, e, le-leb 1 (getD bs 1 0) (omega arith), lt-leb (getD bs 1 0) mostQubits k)
 
-          module _ (k : getD bs 1 0 ≤ 32) where
-            pub header-wires : 255 - getD bs 1 0 < getD bs 2 0 → circuitBehind bs NoHeader ≡ circuitRead bs
+          module _ (k : getD bs 1 0 ≤ mostQubits) where
+            pub header-wires : mostWires - getD bs 1 0 < getD bs 2 0 → circuitBehind bs NoHeader ≡ circuitRead bs
             unfolding provided wellFormed circuitBehind
             header-wires m =
                 rw (
@@ -126,11 +127,11 @@ module _ (bs : List ℕ) where
                   opened bs h,
                   e,
                   le-leb 1 (getD bs 1 0) (omega arith),
-                  le-leb (getD bs 1 0) 32 k,
-                  lt-leb (getD bs 1 0 + getD bs 2 0) 255 (omega arith),
+                  le-leb (getD bs 1 0) mostQubits k,
+                  lt-leb (getD bs 1 0 + getD bs 2 0) mostWires (omega arith),
                 )
 
-            pub header-opened : getD bs 2 0 ≤ 255 - getD bs 1 0 → (count : ℕ) → count ≡ countIn bs →
+            pub header-opened : getD bs 2 0 ≤ mostWires - getD bs 1 0 → (count : ℕ) → count ≡ countIn bs →
                 circuitBehind bs (Opened (record {
                   qubits = getD bs 1 0; ancillas = getD bs 2 0; wires = getD bs 1 0 + getD bs 2 0; gates = count })) ≡ circuitRead bs
             unfolding provided circuitBehind
@@ -140,8 +141,8 @@ module _ (bs : List ℕ) where
                   opened bs h,
                   e,
                   le-leb 1 (getD bs 1 0) (omega arith),
-                  le-leb (getD bs 1 0) 32 k,
-                  le-leb (getD bs 1 0 + getD bs 2 0) 255 (omega arith),
+                  le-leb (getD bs 1 0) mostQubits k,
+                  le-leb (getD bs 1 0 + getD bs 2 0) mostWires (omega arith),
                   q,
                 )
 
@@ -176,19 +177,19 @@ module _ (n ancillas : ℕ) where
   header-good count (parsed gs o) h e = rw (e, h)
   header-good count (refused k) h e = absurd (false≢true e)
 
-  header-bad : (p : Parsed (List Gate)) → fills p ≡ false → headerOf (wellFormed (wholeCircuit n ancillas p)) ≡ refusedHeader
+  header-bad : (p : Parsed (List Gate)) → fills p ≡ false → headerOf (wellFormed (wholeCircuit n ancillas p)) ≡ refusedHeader notWellFormed
   unfolding andThen provided fills wellFormed headerOf
   header-bad (parsed gs o) e = rw e
   header-bad (refused k) e = refl
 
 -- the ways out of `read_circuit`
 module _ (bs : List ℕ) (found : HeaderRead) (is : circuitBehind bs found ≡ circuitRead bs) where
-  pub circuit-none : found ≡ NoHeader → (x : CircuitHeader) → x ≡ refusedHeader → x ≡ headerOf (circuitRead bs)
+  pub circuit-none : found ≡ NoHeader → (x : CircuitHeader) → x ≡ refusedHeader notWellFormed → x ≡ headerOf (circuitRead bs)
   unfolding circuitBehind headerOf
   circuit-none e x q = rw (q, ← is, e)
 
   module _ (h : Header) (e : found ≡ Opened h) (good : Bool) (p : good ≡ fills (gatesBehind bs h)) where
-    pub circuit-gates : good ≡ false → (x : CircuitHeader) → x ≡ refusedHeader → x ≡ headerOf (circuitRead bs)
+    pub circuit-gates : good ≡ false → (x : CircuitHeader) → x ≡ refusedHeader notWellFormed → x ≡ headerOf (circuitRead bs)
     unfolding circuitBehind
     circuit-gates g x q = rw (q, ← is, e) (sym (header-bad (h .qubits) (h .ancillas) (gatesBehind bs h) (sym p ∙ g)))
 
@@ -196,6 +197,6 @@ module _ (bs : List ℕ) (found : HeaderRead) (is : circuitBehind bs found ≡ c
         record { number = 0; qubits = h .qubits; ancillas = h .ancillas; gates = h .gates } ≡ headerOf (circuitRead bs)
     unfolding circuitBehind
     circuit-whole g = rw (← is, e) (sym (header-good (h .qubits) (h .ancillas) (h .gates) (gatesBehind bs h)
-        (read-counts (h .wires) (h .gates) (inputAt bs 7)) (sym p ∙ g)))
+        (read-counts (h .wires) (h .gates) (inputAt bs headerLength)) (sym p ∙ g)))
 
 pub ruleset circuits = (needs, not-true, not-false, circuit-none, circuit-gates, circuit-whole)

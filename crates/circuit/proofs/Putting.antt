@@ -11,6 +11,7 @@ use mir.Val.{Fits}
 use borrow.Author.Needs.{needs}
 use lib.ListN.{length, getD, take, set, length-append}
 use lib.Seq.{sets, set-out}
+use Rattle.limits.specs.Sizes.{mostControls}
 use Rattle.model.specs.Circuit.{listBit, listBytes, controlMap, controlBytes, encode, fourBytes}
 use Rattle.circuit.specs.Views.{part}
 use Rattle.circuit.specs.Writing.{wiresOf, controlsFrom, gateFrom, mapOf, headerBytes}
@@ -85,7 +86,7 @@ module _ (room wires : List ℕ) (place count i : ℕ) (first : List ℕ) (at : 
   pub wires-end : (k : ℕ) → count ≤ i → count ≡ length (take k wires) → room ≡ sets first at (take k wires)
   wires-end k h e = rw (← take-held count k wires e, inv, part-none wires i (count - i) (omega arith))
 
-  pub wires-next : i < count → count ≤ 33 → length wires ≡ 33 →
+  pub wires-next : i < count → count ≤ mostControls → length wires ≡ mostControls →
       sets first at (take count wires) ≡ sets (set room place (getD wires i 0)) (place + 1) (part wires (i + 1) (count - (i + 1)))
   wires-next h l all = rw (inv, array-behind wires count i h l all, add-one place)
 

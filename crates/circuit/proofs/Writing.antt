@@ -10,6 +10,7 @@ use borrow.Author.Needs.{needs}
 use borrow.Author.Tests.{lt-ltb, le-ltb}
 use lib.ListN.{length, getD, take, drop, set, length-take, length-set}
 use lib.Seq.{take-take, take-suc-set, drop-set-lt, append-snoc}
+use Rattle.limits.specs.Sizes.{mostControls}
 use Rattle.model.specs.Gates.{Controls, insert, asking, swapOf}
 use Rattle.model.specs.Circuit.{listBit, listBytes}
 use Rattle.model.proofs.Tests.{byLt}
@@ -21,14 +22,14 @@ use Rattle.circuit.specs.declared.write.ControlList.{ControlList}
 use Rattle.circuit.proofs.Parts.{part-step, part-none}
 
 -- as many wires as the count says, or as there are
-module _ (l : ControlList) (all : length (l .wires) ≡ 33) where
-  pub held-full : 33 < l .count → 33 ≡ length (wiresOf l)
+module _ (l : ControlList) (all : length (l .wires) ≡ mostControls) where
+  pub held-full : mostControls < l .count → mostControls ≡ length (wiresOf l)
   held-full h = let e : length (wiresOf l) ≡ min (l .count) (length (l .wires)) = length-take (l .count) (l .wires) in omega arith
 
-  pub held-part : l .count ≤ 33 → l .count ≡ length (wiresOf l)
+  pub held-part : l .count ≤ mostControls → l .count ≡ length (wiresOf l)
   held-part h = let e : length (wiresOf l) ≡ min (l .count) (length (l .wires)) = length-take (l .count) (l .wires) in omega arith
 
-  pub held-most : (n : ℕ) → n ≡ length (wiresOf l) → n ≤ 33
+  pub held-most : (n : ℕ) → n ≡ length (wiresOf l) → n ≤ mostControls
   held-most n is = let e : length (wiresOf l) ≡ min (l .count) (length (l .wires)) = length-take (l .count) (l .wires) in omega arith
 
 pub ruleset helds = (needs, held-full, held-part)
@@ -59,7 +60,7 @@ module _ (w x : ℕ) (l : List ℕ) where
 pub place-begins : (w : ℕ) (wires : List ℕ) (count : ℕ) → placeFor w (take count wires) ≡ 0 + placeFor w (part wires 0 (count - 0))
 place-begins w wires count = rw (sub-zero count) (sym (zero-add (placeFor w (take count wires))))
 
-pub array-behind : (wires : List ℕ) (count i : ℕ) → i < count → count ≤ 33 → length wires ≡ 33 →
+pub array-behind : (wires : List ℕ) (count i : ℕ) → i < count → count ≤ mostControls → length wires ≡ mostControls →
     part wires i (count - i) ≡ getD wires i 0 ∷ part wires (i + 1) (count - (i + 1))
 array-behind wires count i h l all =
     let e : count - i - 1 ≡ count - (i + 1) = omega arith in
@@ -71,7 +72,7 @@ module _ (w : ℕ) (wires : List ℕ) (count i k : ℕ)
   unfolding placeFor
   place-ends h e = rw (← take-held count k wires e, inv, part-none wires i (count - i) (omega arith)) (sym (add-zero i))
 
-  module _ (h : i < count) (l : count ≤ 33) (all : length wires ≡ 33) where
+  module _ (h : i < count) (l : count ≤ mostControls) (all : length wires ≡ mostControls) where
     pub place-found : w < getD wires i 0 → count ≡ length (take k wires) → i ≡ placeFor w (take k wires)
     place-found s e =
         let z : placeFor w (getD wires i 0 ∷ part wires (i + 1) (count - (i + 1))) ≡ 0 = place-stops w (getD wires i 0) _ s in
@@ -98,17 +99,17 @@ place-most w (x ∷ l) = byLt w x
     (λ h. rw (place-goes w x l h) (let m : placeFor w l ≤ length l = place-most w l in omega arith))
 
 -- a list takes a wire while it has fewer than 33
-pub within-takes : (w : ℕ) (l : List ℕ) → length l < 33 → insertWithin w l ≡ insert w l
+pub within-takes : (w : ℕ) (l : List ℕ) → length l < mostControls → insertWithin w l ≡ insert w l
 unfolding insertWithin
-within-takes w l h = rw (lt-ltb (length l) 33 h, insertWithin)
+within-takes w l h = rw (lt-ltb (length l) mostControls h, insertWithin)
 
-within-full : (w : ℕ) (l : List ℕ) → 33 ≤ length l → insertWithin w l ≡ l
+within-full : (w : ℕ) (l : List ℕ) → mostControls ≤ length l → insertWithin w l ≡ l
 unfolding insertWithin
-within-full w l h = rw (le-ltb (length l) 33 h, insertWithin)
+within-full w l h = rw (le-ltb (length l) mostControls h, insertWithin)
 
 -- the ways out of `insert`, and what its loop keeps: the wires before i, the one that is carried, and those from i on are all that the list will hold
 module _ (w : ℕ) (l : ControlList) (count : ℕ) (is : count ≡ length (wiresOf l)) where
-  pub insert-full : 33 ≤ count → wiresOf l ≡ insertWithin w (wiresOf l)
+  pub insert-full : mostControls ≤ count → wiresOf l ≡ insertWithin w (wiresOf l)
   insert-full h = sym (within-full w (wiresOf l) (omega arith))
 
   module _ (i : ℕ) (place : i ≡ placeFor w (wiresOf l)) where
@@ -122,7 +123,7 @@ module _ (w : ℕ) (l : ControlList) (count : ℕ) (is : count ≡ length (wires
         let f : placeFor w (take count (l .wires)) ≡ i = rw e (sym place) in
         rw (insert-at w (take count (l .wires)), f, take-take i count (l .wires) h, drop-front i count (l .wires))
 
-  pub insert-done : (i : ℕ) (wires : List ℕ) (carried : ℕ) → count < 33 → i ≤ count → count ≤ i → length wires ≡ 33 →
+  pub insert-done : (i : ℕ) (wires : List ℕ) (carried : ℕ) → count < mostControls → i ≤ count → count ≤ i → length wires ≡ mostControls →
       insert w (take count (l .wires)) ≡ take i wires ++ (carried ∷ part wires i (count - i)) →
       wiresOf (record { wires = set wires count carried; count = count + 1 }) ≡ insertWithin w (wiresOf l)
   insert-done i wires carried h j k all inv =
@@ -131,7 +132,7 @@ module _ (w : ℕ) (l : ControlList) (count : ℕ) (is : count ≡ length (wires
       rw (within-takes w (wiresOf l) (omega arith), ← f, inv, part-none wires i (count - i) (omega arith), e, add-one)
       (take-suc-set wires count carried (omega arith))
 
-pub carry-next : (w : ℕ) (front wires : List ℕ) (count i carried : ℕ) → i < count → count < 33 → length wires ≡ 33 →
+pub carry-next : (w : ℕ) (front wires : List ℕ) (count i carried : ℕ) → i < count → count < mostControls → length wires ≡ mostControls →
     insert w front ≡ take i wires ++ (carried ∷ part wires i (count - i)) →
     insert w front ≡ take (i + 1) (set wires i carried) ++ (getD wires i 0 ∷ part (set wires i carried) (i + 1) (count - (i + 1)))
 carry-next w front wires count i carried h k all inv =
@@ -179,7 +180,7 @@ module _ (c : ControlLists) (u v : ℕ) where
 pub ruleset swaps = (needs, swap-rising, swap-falling)
 
 -- controls take a wire while neither list is full
-pub asking-takes : (w : ℕ) (bit : Bool) (cs : Controls) → length (cs .ones) < 33 → length (cs .zeros) < 33 → askingWithin w bit cs ≡ asking w bit cs
+pub asking-takes : (w : ℕ) (bit : Bool) (cs : Controls) → length (cs .ones) < mostControls → length (cs .zeros) < mostControls → askingWithin w bit cs ≡ asking w bit cs
 unfolding askingWithin asking
 asking-takes w true cs h k = rw (within-takes w (cs .ones) h)
 asking-takes w false cs h k = rw (within-takes w (cs .zeros) k)

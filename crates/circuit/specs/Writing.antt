@@ -4,6 +4,7 @@ use mathlib.Core.Bool.{Bool, true, false}
 use mathlib.Core.List.{List, [], _∷_}
 use lib.ListN.{length, take}
 use lib.Dec.{ltb}
+use Rattle.limits.specs.Sizes.{mostControls}
 use Rattle.model.specs.Limits.{circuitEdition}
 use Rattle.model.specs.Gates.{Controls, insert, Gate}
 use Rattle.model.specs.Circuit.{controlMap, fourBytes}
@@ -21,10 +22,6 @@ controlsFrom c = record { ones = wiresOf (c .ones); zeros = wiresOf (c .zeros) }
 
 abbrev pub gateFrom : NewGate → Gate
 gateFrom g = gateWith (g .swaps) (controlsFrom (g .controls)) (g .target) (g .second)
-
--- as many wires as a list has room for: 32 qubits and an ancilla
-abbrev pub mostControls : ℕ
-mostControls = 33
 
 -- how many wires come before w where it is put into an ascending list
 unfoldable pub placeFor : ℕ → List ℕ → ℕ

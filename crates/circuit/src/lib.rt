@@ -8,7 +8,11 @@ ghost use Rattle.model.specs.Reading.{optional};
 ghost use Rattle.model.specs.Answers.{circuitRead};
 ghost use Rattle.circuit.specs.Views.{part, inputAt, settled, fills, listIn, listSeen, gateIn, gateSeen, judged, gateEnd};
 ghost use Rattle.circuit.specs.Checks.{rising, free, tidy};
-ghost use Rattle.circuit.specs.Header.{circuitBehind, headerOf, refusedHeader};
+ghost use Rattle.circuit.specs.Header.{circuitBehind};
+ghost use Rattle.answers.specs.Structs.{headerOf, refusedHeader};
+ghost use Rattle.model.specs.Limits.{notWellFormed};
+use answers::CircuitHeader;
+use limits::{CIRCUIT_EDITION, HEADER_LENGTH, MOST_CIRCUIT, MOST_QUBITS, MOST_WIRES, NOT_WELL_FORMED};
 
 pub mod write;
 
@@ -23,15 +27,6 @@ pub struct Header {
 pub enum HeaderRead {
     Opened(Header),
     NoHeader,
-}
-
-// What the circuit reader answers: the header of a circuit that is well formed, or a refusal's number and zeros.
-#[repr(C)]
-pub struct CircuitHeader {
-    pub number: u32,
-    pub qubits: u32,
-    pub ancillas: u32,
-    pub gates: u32,
 }
 
 // Where a list of wires stands in the bytes, and the place behind it.
@@ -315,24 +310,24 @@ fn little_endian(a: u8, b: u8, c: u8, d: u8) -> u32
 pub fn read_header(bytes: &[u8]) -> HeaderRead
     ensures { λ r. ⌜ circuitBehind (now (bytes .entry)) r ≡ circuitRead (now (bytes .entry)) ⌝ }
 {
-    if 65536 < bytes.len() {
+    if MOST_CIRCUIT < bytes.len() {
         return HeaderRead::NoHeader;
     }
-    if bytes.len() < 7 {
+    if bytes.len() < HEADER_LENGTH {
         return HeaderRead::NoHeader;
     }
-    if bytes[0] != 1 {
+    if bytes[0] != CIRCUIT_EDITION {
         return HeaderRead::NoHeader;
     }
     let n = bytes[1];
     if n == 0 {
         return HeaderRead::NoHeader;
     }
-    if 32 < n {
+    if MOST_QUBITS < n {
         return HeaderRead::NoHeader;
     }
     let ancillas = bytes[2];
-    if 255 - n < ancillas {
+    if MOST_WIRES - n < ancillas {
         return HeaderRead::NoHeader;
     }
     HeaderRead::Opened(Header {
@@ -345,10 +340,10 @@ pub fn read_header(bytes: &[u8]) -> HeaderRead
 
 // "14 circuit not well formed": "A refusal gives its number and otherwise zeros."
 pub fn refused() -> CircuitHeader
-    ensures { λ r. ⌜ r ≡ refusedHeader ⌝ }
+    ensures { λ r. ⌜ r ≡ refusedHeader notWellFormed ⌝ }
 {
     CircuitHeader {
-        number: 14,
+        number: NOT_WELL_FORMED as u32,
         qubits: 0,
         ancillas: 0,
         gates: 0,
@@ -363,7 +358,7 @@ pub fn read_circuit(bytes: &[u8]) -> CircuitHeader
     let HeaderRead::Opened(header) = found else {
         return refused();
     };
-    if !gates_fill(bytes, 7, header.wires, header.gates) {
+    if !gates_fill(bytes, HEADER_LENGTH, header.wires, header.gates) {
         return refused();
     }
     CircuitHeader {

@@ -6,10 +6,11 @@ ghost use lib.Seq.{sets};
 ghost use Rattle.model.specs.Gates.{noControls, flip, swapOf};
 ghost use Rattle.model.specs.Circuit.{listBit, listBytes, encode, controlBytes, fourBytes};
 ghost use Rattle.circuit.specs.Writing.{placeFor, insertWithin, askingWithin, wiresOf, controlsFrom, gateFrom, mapOf, headerBytes};
+use limits::{CIRCUIT_EDITION, CONTROLS_LENGTH, MOST_CONTROLS};
 
-// Wires in ascending order: the first `count` of `wires`. Beside 32 qubits there is room for one ancilla.
+// Wires in ascending order: the first `count` of `wires`. Around a statement stand fewer qcases than its tree is deep, and the body's ancilla beside them.
 pub struct ControlList {
-    pub wires: [u8; 33],
+    pub wires: [u8; CONTROLS_LENGTH],
     pub count: u8,
 }
 
@@ -31,7 +32,7 @@ pub struct NewGate {
 fn held(list: ControlList) -> u8
     ensures { λ r. ⌜ r ≡ length (wiresOf list) ⌝ }
 {
-    if 33 < list.count { 33 } else { list.count }
+    if MOST_CONTROLS < list.count { MOST_CONTROLS } else { list.count }
 }
 
 // How many wires of the list come before a wire that is put among them?
@@ -55,7 +56,7 @@ fn insert(list: ControlList, wire: u8) -> ControlList
     ensures { λ r. ⌜ wiresOf r ≡ insertWithin wire (wiresOf list) ⌝ }
 {
     let count = held(list) as usize;
-    if 33 <= count {
+    if CONTROLS_LENGTH <= count {
         return list;
     }
     let mut wires = list.wires;
@@ -78,7 +79,7 @@ pub fn no_controls() -> ControlLists
     ensures { λ r. ⌜ controlsFrom r ≡ noControls ⌝ }
 {
     let none = ControlList {
-        wires: [0; 33],
+        wires: [0; CONTROLS_LENGTH],
         count: 0,
     };
     ControlLists {
@@ -291,7 +292,7 @@ fn put_number(room: &mut [u8], at: usize, number: u32)
 pub fn put_header(room: &mut [u8], qubits: u8, ancillas: u8, gates: u32)
     ensures { λ r. ⌜ now (room .exit) ≡ sets (now (room .entry)) 0 (headerBytes qubits ancillas gates) ⌝ }
 {
-    put_pair(room, 0, 1, qubits);
+    put_pair(room, 0, CIRCUIT_EDITION, qubits);
     put(room, 2, ancillas);
     put_number(room, 3, gates);
 }

@@ -7,6 +7,7 @@ use borrow.Author.Needs.{needs}
 use borrow.Author.Tests.{not-true, not-false}
 use lib.Dec.{eqb, ltb}
 use lib.ListN.{length}
+use Rattle.model.specs.Limits.{highBit, notWellFormed}
 use Rattle.model.specs.Reading.{Parsed, parsed, refused, andThen, provided}
 use Rattle.model.specs.Meaning.{stateOf}
 use Rattle.model.specs.Gates.{Gate}
@@ -20,18 +21,19 @@ use Rattle.circuit.specs.Header.{gatesBehind, circuitBehind}
 use Rattle.circuit.specs.declared.Header.{Header}
 use Rattle.circuit.specs.declared.HeaderRead.{HeaderRead}
 use Rattle.circuit.specs.declared.HeaderRead.the-variants.{Opened, NoHeader}
-use Rattle.circuit_run.specs.Runs.{seen, ranOf, refusedBlock, givenBlock, blockAnswer, endAnswer}
+use Rattle.circuit_run.specs.Runs.{seen, ranOf, endAnswer}
+use Rattle.answers.specs.Structs.{refusedBlock, givenBlock, blockAnswer}
 use Rattle.circuit_run.specs.declared.Ran.{Ran}
-use Rattle.circuit_run.specs.declared.CircuitBlock.{CircuitBlock}
+use Rattle.answers.specs.declared.CircuitBlock.{CircuitBlock}
 
 -- the ways out of `answer`
 module _ (ran : Ran) (word : ℕ) where
-  pub answer-bad : ran .ended ≡ false → (x : CircuitBlock) → x ≡ refusedBlock 14 → x ≡ endAnswer word (seen ran)
+  pub answer-bad : ran .ended ≡ false → (x : CircuitBlock) → x ≡ refusedBlock notWellFormed → x ≡ endAnswer word (seen ran)
   unfolding endAnswer
   answer-bad e x is = rw (is, e)
 
   module _ (e : ran .ended ≡ true) (low : Bool) (l : low ≡ ltb word (2 ^ (ran .wires .«data»))) where
-    pub answer-high : low ≡ false → (x : CircuitBlock) → x ≡ refusedBlock 13 → x ≡ endAnswer word (seen ran)
+    pub answer-high : low ≡ false → (x : CircuitBlock) → x ≡ refusedBlock highBit → x ≡ endAnswer word (seen ran)
     unfolding endAnswer
     answer-high f x is = rw (is, e, ← l, f)
 
@@ -44,7 +46,7 @@ pub ruleset answering = (needs, not-true, not-false, answer-bad, answer-high, an
 -- the ways out of `run_circuit`
 module _ (bs : List ℕ) (word : ℕ) (found : HeaderRead) (read : circuitBehind bs found ≡ circuitRead bs) where
   -- what has no header is refused
-  pub run-refused : found ≡ NoHeader → (x : CircuitBlock) → x ≡ refusedBlock 14 → x ≡ blockAnswer (circuitRun bs word)
+  pub run-refused : found ≡ NoHeader → (x : CircuitBlock) → x ≡ refusedBlock notWellFormed → x ≡ blockAnswer (circuitRun bs word)
   unfolding circuitBehind circuitRun after blockAnswer
   run-refused e x is = rw (is, ← read, e)
 

@@ -3,17 +3,17 @@ use Prim.Native.Nat.{ℕ, _^_}
 use mathlib.Core.Bool.{Bool, true, false}
 use mathlib.Core.List.{List}
 use mathlib.Core.Option.{Option, none, some}
-use lib.ListN.{length, replicate}
+use lib.ListN.{length}
 use lib.Dec.{eqb, ltb}
-use Rattle.model.specs.Limits.{success, highBit, notWellFormed, blockLength}
+use Rattle.model.specs.Limits.{highBit, notWellFormed}
 use Rattle.model.specs.Reading.{Parsed, parsed, refused}
 use Rattle.model.specs.Meaning.{State}
 use Rattle.model.specs.Gates.{Gate, allOne, allZero, acts}
-use Rattle.model.specs.Answers.{Outcome, gives, refuses, Block}
 use Rattle.wires.specs.States.{stateIn, inState}
 use Rattle.wires.specs.declared.Wires.{Wires}
 use Rattle.circuit_run.specs.declared.Ran.{Ran}
-use Rattle.circuit_run.specs.declared.CircuitBlock.{CircuitBlock}
+use Rattle.answers.specs.declared.CircuitBlock.{CircuitBlock}
+use Rattle.answers.specs.Structs.{givenBlock, refusedBlock}
 
 -- each wire of a list is asked for 1 (true) or for 0 (false)
 abbrev pub allHold : Bool → List ℕ → State → Bool
@@ -32,19 +32,6 @@ seen r = endedAs (r .ended) (r .wires)
 unfoldable pub ranOf : Wires → Parsed (List Gate) → Option Wires
 ranOf wires (parsed gs i) = endedAs (eqb (length (i .bytes)) 0) (inState (acts gs (stateIn (wires .bits))) wires)
 ranOf wires (refused k) = none
-
--- "A refusal gives its number and otherwise zeros."
-abbrev pub refusedBlock : ℕ → CircuitBlock
-refusedBlock k = record { number = k; «data» = 0; ancillas = 0; bits = replicate blockLength 0 }
-
--- a result's number and block
-abbrev pub givenBlock : ℕ → ℕ → List ℕ → CircuitBlock
-givenBlock n ancillas bytes = record { number = success; «data» = n; ancillas = ancillas; bits = bytes }
-
--- "A circuit run .. gives the whole block": the answer as the code's struct
-unfoldable pub blockAnswer : Outcome Block → CircuitBlock
-blockAnswer (gives b) = givenBlock (b .dataWires) (b .ancillas) (b .bits)
-blockAnswer (refuses k) = refusedBlock k
 
 -- "13 a start word with a bit at n or above"
 abbrev pub lowAnswer : Bool → Wires → CircuitBlock

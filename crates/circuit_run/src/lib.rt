@@ -5,25 +5,19 @@ ghost use Rattle.model.specs.Circuit.{readGates};
 ghost use Rattle.model.specs.Answers.{circuitRun};
 ghost use Rattle.wires.specs.States.{stateIn, inState};
 ghost use Rattle.circuit.specs.Views.{part, inputAt, gateIn, controlsIn};
-ghost use Rattle.circuit_run.specs.Runs.{allHold, seen, ranOf, refusedBlock, endAnswer, blockAnswer};
+ghost use Rattle.circuit_run.specs.Runs.{allHold, seen, ranOf, endAnswer};
+ghost use Rattle.answers.specs.Structs.{refusedBlock, blockAnswer};
+use answers::CircuitBlock;
 use circuit::GateAt;
 use circuit::GateRead;
 use circuit::HeaderRead;
+use limits::{BLOCK_LENGTH, HEADER_LENGTH, HIGH_BIT, NOT_WELL_FORMED};
 use wires::{fits, Wires};
 
 // The wires behind the last gate; they count only where the run ended.
 pub struct Ran {
     pub ended: bool,
     pub wires: Wires,
-}
-
-// The whole block of a circuit that was run, or a refusal's number and zeros.
-#[repr(C)]
-pub struct CircuitBlock {
-    pub number: u32,
-    pub data: u8,
-    pub ancillas: u8,
-    pub bits: [u8; 32],
 }
 
 // Does each of `count` wires from a place on hold the bit asked for?
@@ -96,14 +90,14 @@ fn run_gates(bytes: &[u8], from: usize, most: u8, count: u32, wires: Wires) -> R
 }
 
 // "A refusal gives its number and otherwise zeros."
-pub fn refused(number: u32) -> CircuitBlock
+pub fn refused(number: u8) -> CircuitBlock
     ensures { λ r. ⌜ r ≡ refusedBlock number ⌝ }
 {
     CircuitBlock {
-        number,
+        number: number as u32,
         data: 0,
         ancillas: 0,
-        bits: [0u8; 32],
+        bits: [0u8; BLOCK_LENGTH],
     }
 }
 
@@ -115,9 +109,9 @@ pub fn answer(ran: Ran, word: u64) -> CircuitBlock
     let low = fits(word, wires.data);
     let bits = wires.bits;
     if !ran.ended {
-        refused(14)
+        refused(NOT_WELL_FORMED)
     } else if !low {
-        refused(13)
+        refused(HIGH_BIT)
     } else {
         CircuitBlock {
             number: 0,
@@ -134,8 +128,8 @@ pub fn run_circuit(bytes: &[u8], word: u64) -> CircuitBlock
 {
     let found = circuit::read_header(bytes);
     let HeaderRead::Opened(header) = found else {
-        return refused(14);
+        return refused(NOT_WELL_FORMED);
     };
     let wires = wires::start(header.qubits, header.ancillas, word);
-    answer(run_gates(bytes, 7, header.wires, header.gates, wires), word)
+    answer(run_gates(bytes, HEADER_LENGTH, header.wires, header.gates, wires), word)
 }

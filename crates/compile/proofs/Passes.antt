@@ -8,7 +8,8 @@ use borrow.Author.Needs.{needs}
 use borrow.Author.Tests.{le-leb, lt-leb, le-ltb}
 use lib.ListN.{length}
 use lib.Seq.{sets, sets-eq, length-sets}
-use Rattle.model.specs.Limits.{mostWires, mostQubits, mostProcedures, headerLength}
+use Rattle.limits.specs.Sizes.{slotsLength}
+use Rattle.model.specs.Limits.{mostWires, mostQubits, mostProcedures, headerLength, noRoom}
 use Rattle.model.specs.Syntax.{Program}
 use Rattle.model.specs.Emission.{emission, gates, peak}
 use Rattle.model.specs.Circuit.{Circuit, encodeAll, fourBytes, write}
@@ -28,13 +29,13 @@ use Rattle.compile.specs.declared.Compiled.{Compiled}
 use Rattle.compile.specs.Passes.{Writes, walks-again, Compiles, walks-twice, emissionAnswer, compiledOf}
 
 use-writes : {bs ix m : List ℕ} {p n : ℕ} {measured : Emit} {room ws : List ℕ} {r : Compiled} {room₁ ws₁ : List ℕ} →
-    Writes bs ix m p n measured room ws r room₁ ws₁ → p ≤ mostProcedures → m ≡ reachAt p bs ix → n ≤ mostQubits → 8704 ≤ length ws →
+    Writes bs ix m p n measured room ws r room₁ ws₁ → p ≤ mostProcedures → m ≡ reachAt p bs ix → n ≤ mostQubits → slotsLength ≤ length ws →
     headerLength ≤ usable (length room) → fit (usable (length room)) headerLength (emission (programAt p bs ix) n) ≡ 0 →
     measured ≡ emissionEnd (programAt p bs ix) n →
     (r ≡ compiledOf (gives (write (circuit (programAt p bs ix) n)))) × (room₁ ≡ roomAfter (gives (write (circuit (programAt p bs ix) n))) room)
 use-writes (walks-again g) = g
 
-circuit-length : (P : Program) (n : ℕ) → length (write (circuit P n)) ≡ 7 + length (encodeAll (gates (emission P n)))
+circuit-length : (P : Program) (n : ℕ) → length (write (circuit P n)) ≡ headerLength + length (encodeAll (gates (emission P n)))
 unfolding circuit
 circuit-length P n = write-length (circuit P n)
 
@@ -51,16 +52,16 @@ module _ (P : Program) (n : ℕ) (room : List ℕ) (header : headerLength ≤ us
   unfolding write circuit
   circuit-bytes = refl
 
-  top-length : length top ≡ 7
+  top-length : length top ≡ headerLength
   unfolding fourBytes
   top-length = refl
 
-  both-stored : sets (sets room 0 top) 7 bytes ≡ roomAfter (gives (write (circuit P n))) room
+  both-stored : sets (sets room 0 top) headerLength bytes ≡ roomAfter (gives (write (circuit P n))) room
   unfolding roomAfter
   both-stored =
     let long = circuit-length P n in
     let within : 0 + length (write (circuit P n)) ≤ length room = let w = emission-within true P n room header fits in omega arith in
-    let joined : sets room 0 (top ++ bytes) ≡ sets (sets room 0 top) 7 bytes = sets-append room 0 top bytes ∙ rw top-length in
+    let joined : sets room 0 (top ++ bytes) ≡ sets (sets room 0 top) headerLength bytes = sets-append room 0 top bytes ∙ rw top-length in
     let none : 0 + length (write (circuit P n)) ≡ length (write (circuit P n)) = omega arith in
     sym joined ∙ rw circuit-bytes (sets-eq (write (circuit P n)) room 0 within ∙ rw none)
 
@@ -79,7 +80,7 @@ ancillas-low : (P : Program) (n room : ℕ) → n ≤ mostQubits → fit room he
 ancillas-low P n room small fits =
     let w = fits-wires P n room headerLength (omega arith) fits in
     let e : n + peak [] (emission P n) - n ≡ peak [] (emission P n) = omega arith in
-    let le : peak [] (emission P n) ≤ 255 = omega arith in
+    let le : peak [] (emission P n) ≤ mostWires = omega arith in
     rw (e, le-ltb mostWires (peak [] (emission P n)) le)
 
 pub write-walk : {bs ix m : List ℕ} {p n : ℕ} {measured : Emit} {room ws : List ℕ} {a : ℕ} {room₁ : List ℕ} {b : Emit} {room₂ ws₂ : List ℕ} →
@@ -96,8 +97,8 @@ write-walk {bs = bs} {ix = ix} {p = p} {n = n} {measured = measured} {room = roo
     let header₁ : headerLength ≤ usable (length room₁) = rw same header in
     let fits₁ : fit (usable (length room₁)) headerLength (emission P n) ≡ 0 = rw same fits in
     let e = use-main A few reach small space .0 ∙ emission-ends true P n room₁ header₁ fits₁ in
-    let used : b .used ≡ 7 + length bytes = ap (λ (x : Seen). emitOf x .used) e in
-    let left : room₂ ≡ sets room₁ 7 bytes = ap roomOf e in
+    let used : b .used ≡ headerLength + length bytes = ap (λ (x : Seen). emitOf x .used) e in
+    let left : room₂ ≡ sets room₁ headerLength bytes = ap roomOf e in
     let long = circuit-length P n in
     (number-given P n (b .used) (used ∙ sym long), left ∙ rw room-is (both-stored P n room header fits)))
 
@@ -110,14 +111,14 @@ refused-is (suc k) c room h = (refl, refl)
 
 -- the ways out of `compile_emission`
 module _ {bs ix m : List ℕ} {p n : ℕ} {room ws : List ℕ} where
-  pub no-header : length room < 7 → Compiles bs ix m p n room ws (record { number = 23; length = 0 }) room ws
+  pub no-header : length room < headerLength → Compiles bs ix m p n room ws (record { number = noRoom; length = 0 }) room ws
   unfolding emissionAnswer require number valueOr roomAfter
   no-header h = walks-twice (λ few reach small space.
     let e = lt-leb headerLength (usable (length room)) (omega arith) in (rw e, rw e))
 
 -- measuring gives the number of the definitions, and the room as it was
 module _ {bs ix m : List ℕ} {p n : ℕ} {room ws : List ℕ} {a : Emit} {room₁ ws₁ : List ℕ} (A : Emits bs ix m p n false room ws a room₁ ws₁)
-    (few : p ≤ mostProcedures) (reach : m ≡ reachAt p bs ix) (small : n ≤ mostQubits) (space : 8704 ≤ length ws)
+    (few : p ≤ mostProcedures) (reach : m ≡ reachAt p bs ix) (small : n ≤ mostQubits) (space : slotsLength ≤ length ws)
     (header : headerLength ≤ usable (length room)) where
   measured-status : a .status ≡ fit (usable (length room)) headerLength (emission (programAt p bs ix) n)
   measured-status = ap (λ (x : Seen). emitOf x .status) (use-main A few reach small space .0) ∙ emission-status false (programAt p bs ix) n room header
@@ -144,14 +145,14 @@ unfolding emissionAnswer require fitted
 given-answer P n room header e = rw (le-leb headerLength (usable (length room)) header, e)
 
 module _ {bs ix m : List ℕ} {p n : ℕ} {room ws : List ℕ} {a : Emit} {room₁ ws₁ : List ℕ} where
-  pub measured-refused : 7 ≤ length room → Emits bs ix m p n false room ws a room₁ ws₁ → (a .status ≡ 0 → ⊥) →
+  pub measured-refused : headerLength ≤ length room → Emits bs ix m p n false room ws a room₁ ws₁ → (a .status ≡ 0 → ⊥) →
       Compiles bs ix m p n room ws (record { number = a .status; length = 0 }) room₁ ws₁
   measured-refused h A z = walks-twice (λ few reach small space.
     let header : headerLength ≤ usable (length room) = omega arith in
     let t = refused-answer (programAt p bs ix) n (a .status) room header (measured-status A few reach small space header) z in
     (t .0, measured-same A few reach small space header ∙ t .1))
 
-  pub measured-written : {r : Compiled} {room₂ ws₂ : List ℕ} → 7 ≤ length room → Emits bs ix m p n false room ws a room₁ ws₁ → a .status ≡ 0 →
+  pub measured-written : {r : Compiled} {room₂ ws₂ : List ℕ} → headerLength ≤ length room → Emits bs ix m p n false room ws a room₁ ws₁ → a .status ≡ 0 →
       Writes bs ix m p n a room₁ ws₁ r room₂ ws₂ → Compiles bs ix m p n room ws r room₂ ws₂
   measured-written {r = r} {room₂ = room₂} {ws₂ = ws₂} h A z W = walks-twice (λ few reach small space.
     let P = programAt p bs ix in

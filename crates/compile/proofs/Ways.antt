@@ -6,7 +6,7 @@ use native.Mathlib.Omega.{arith}
 use borrow.Author.Needs.{needs}
 use borrow.Author.Tests.{lt-leb}
 use lib.ListN.{length}
-use Rattle.model.specs.Limits.{mostQubits, mostProcedures}
+use Rattle.model.specs.Limits.{mostQubits, mostProcedures, leastWorkspace, wrongQubits, shortWorkspace}
 use Rattle.model.specs.Syntax.{Program}
 use Rattle.model.specs.Answers.{Outcome, gives, after, require, number, valueOr, accepted, compile, roomAfter}
 use Rattle.agreement.proofs.Promise.{accepted-is, accepted-few, compiles}
@@ -51,17 +51,17 @@ module _ (bs ix : List ℕ) (n : ℕ) (room ws : List ℕ) (j : Judged) (is : ju
     judged : accepted bs n ≡ gives P
     judged = accepted-judged bs ix n 0 j is none
 
-    pub compile-short : length ws < 32768 → answered (record { number = 21; length = 0 }) room ≡ said
+    pub compile-short : length ws < leastWorkspace → answered (record { number = shortWorkspace; length = 0 }) room ≡ said
     unfolding compile after require number valueOr roomAfter
-    compile-short h = rw (judged, lt-leb 32768 (length ws) h)
+    compile-short h = rw (judged, lt-leb leastWorkspace (length ws) h)
 
-    pub compile-many : 32 < n → answered (record { number = 9; length = 0 }) room ≡ said
+    pub compile-many : mostQubits < n → answered (record { number = wrongQubits; length = 0 }) room ≡ said
     compile-many h = let few = accepted-is bs n P judged .few in absurd (beyond few h)
       where
-        beyond : n ≤ mostQubits → 32 < n → ⊥
+        beyond : n ≤ mostQubits → mostQubits < n → ⊥
         beyond few h = omega arith
 
-    pub compile-emits : 32768 ≤ length ws → n ≤ 32 → (r : Compiled) (room₁ ws₁ : List ℕ) →
+    pub compile-emits : leastWorkspace ≤ length ws → n ≤ mostQubits → (r : Compiled) (room₁ ws₁ : List ℕ) →
         Compiles bs ix (reachAt (j .procedures) bs ix) (j .procedures) n room ws r room₁ ws₁ → answered r room₁ ≡ said
     unfolding emissionAnswer
     compile-emits h low r room₁ ws₁ (walks-twice c) =

@@ -4,6 +4,7 @@ use mathlib.Core.Path.{_≡_}
 use mathlib.Core.List.{List, []}
 use lib.ListN.{length}
 use lib.Dec.{leb}
+use Rattle.limits.specs.Sizes.{slotsLength}
 use Rattle.model.specs.Limits.{mostProcedures, mostQubits, headerLength, noRoom}
 use Rattle.model.specs.Syntax.{Program}
 use Rattle.model.specs.Emission.{emission}
@@ -25,14 +26,14 @@ compiledOf o = record { number = number o; length = length (valueOr [] o) }
 
 -- a circuit written as it was measured
 pub data Writes (bs ix m : List ℕ) (p n : ℕ) (measured : Emit) (room ws : List ℕ) (r : Compiled) (room₁ ws₁ : List ℕ) : Type 0 where
-  walks-again : (p ≤ mostProcedures → m ≡ reachAt p bs ix → n ≤ mostQubits → 8704 ≤ length ws → headerLength ≤ usable (length room) →
+  walks-again : (p ≤ mostProcedures → m ≡ reachAt p bs ix → n ≤ mostQubits → slotsLength ≤ length ws → headerLength ≤ usable (length room) →
       fit (usable (length room)) headerLength (emission (programAt p bs ix) n) ≡ 0 → measured ≡ emissionEnd (programAt p bs ix) n →
       (r ≡ compiledOf (gives (write (circuit (programAt p bs ix) n)))) × (room₁ ≡ roomAfter (gives (write (circuit (programAt p bs ix) n))) room)) →
       Writes bs ix m p n measured room ws r room₁ ws₁
 
 -- the number, the length and the room of the answer
 pub data Compiles (bs ix m : List ℕ) (p n : ℕ) (room ws : List ℕ) (r : Compiled) (room₁ ws₁ : List ℕ) : Type 0 where
-  walks-twice : (p ≤ mostProcedures → m ≡ reachAt p bs ix → n ≤ mostQubits → 8704 ≤ length ws →
+  walks-twice : (p ≤ mostProcedures → m ≡ reachAt p bs ix → n ≤ mostQubits → slotsLength ≤ length ws →
       (r ≡ compiledOf (emissionAnswer (programAt p bs ix) n (length room)))
       × (room₁ ≡ roomAfter (emissionAnswer (programAt p bs ix) n (length room)) room)) →
       Compiles bs ix m p n room ws r room₁ ws₁

@@ -11,6 +11,7 @@ ghost use Rattle.compile.specs.Compiling.{answered, answeredOf};
 use circuit::write::put_header;
 use events::{Emit, wire};
 use emit::emit_main;
+use limits::{HEADER_LENGTH, INDEX_LENGTH, LEAST_WORKSPACE, MATRIX_LENGTH, MOST_N, NO_ROOM, SHORT_WORKSPACE, WRONG_QUBITS};
 use reach::fill_reach;
 use verdict::judge;
 
@@ -36,7 +37,7 @@ fn write_circuit(
     table: &[u8],
     index: &[u16],
     p: u8,
-    matrix: &[u8; 289],
+    matrix: &[u8; MATRIX_LENGTH],
     n: u8,
     measured: Emit,
     room: &mut [u8],
@@ -55,7 +56,7 @@ fn compile_emission(
     table: &[u8],
     index: &[u16],
     p: u8,
-    matrix: &[u8; 289],
+    matrix: &[u8; MATRIX_LENGTH],
     n: u8,
     room: &mut [u8],
     ws: &mut [u8],
@@ -63,8 +64,8 @@ fn compile_emission(
     ensures { λ r. ⌜ Compiles (now (table .entry)) (now (index .entry)) (now (matrix .entry)) p n (now (room .entry)) (now (ws .entry))
         r (now (room .exit)) (now (ws .exit)) ⌝ }
 {
-    if room.len() < 7 {
-        return Compiled { number: 23, length: 0 };
+    if room.len() < HEADER_LENGTH {
+        return Compiled { number: NO_ROOM, length: 0 };
     }
     let measured = emit_main(table, index, p, matrix, n, false, room, ws);
     let status = measured.status;
@@ -75,11 +76,11 @@ fn compile_emission(
 }
 
 // The circuit of a table that was judged, by its index.
-fn compile_judged(table: &[u8], index: &[u16; 544], p: u8, n: u8, room: &mut [u8], workspace: &mut [u8]) -> Compiled
+fn compile_judged(table: &[u8], index: &[u16; INDEX_LENGTH], p: u8, n: u8, room: &mut [u8], workspace: &mut [u8]) -> Compiled
     ensures { λ r. ⌜ Compiles (now (table .entry)) (now (index .entry)) (reachAt p (now (table .entry)) (now (index .entry))) p n
         (now (room .entry)) (now (workspace .entry)) r (now (room .exit)) (now (workspace .exit)) ⌝ }
 {
-    let mut matrix = [0u8; 289];
+    let mut matrix = [0u8; MATRIX_LENGTH];
     fill_reach(table, &index[..], p, &mut matrix);
     compile_emission(table, &index[..], p, &matrix, n, room, workspace)
 }
@@ -90,18 +91,18 @@ fn translate(table: &[u8], n: u32, room: &mut [u8], workspace: &mut [u8]) -> Com
     ensures { λ r. ⌜ answered r (now (room .exit)) ≡
         answeredOf (model.compile (now (table .entry)) n (length (now (room .entry))) (length (now (workspace .entry)))) (now (room .entry)) ⌝ }
 {
-    let mut index = [0u16; 544];
+    let mut index = [0u16; INDEX_LENGTH];
     let judged = judge(table, n, &mut index);
     let number = judged.number;
     if number != 0 {
         return Compiled { number, length: 0 };
     }
-    if workspace.len() < 32768 {
-        return Compiled { number: 21, length: 0 };
+    if workspace.len() < LEAST_WORKSPACE {
+        return Compiled { number: SHORT_WORKSPACE, length: 0 };
     }
     // An accepted table has at most 32 qubits: this way is never taken, and lets n be a byte.
-    if 32 < n {
-        return Compiled { number: 9, length: 0 };
+    if MOST_N < n {
+        return Compiled { number: WRONG_QUBITS, length: 0 };
     }
     compile_judged(table, &index, judged.procedures, n as u8, room, workspace)
 }

@@ -9,6 +9,7 @@ use borrow.Author.Needs.{needs}
 use borrow.Author.Tests.{lt-ltb, le-ltb, eqb-true, ne-eqb}
 use lib.ListN.{length}
 use lib.Dec.{eqb}
+use Rattle.limits.specs.Sizes.{rootsAt, wireCount, slotsLength}
 use Rattle.model.specs.Limits.{mostWires, mostDepth, mostCircuit}
 use Rattle.model.specs.Syntax.{Program, body}
 use Rattle.model.specs.Lists.{member}
@@ -72,13 +73,13 @@ unfolding appears member
 none-seen ws base n f = let e : base - base ≡ 0 = omega arith in rw e
 
 module _ {bs ix m : List ℕ} {p k : ℕ} {write : Bool} {st : Emit} {room ws : List ℕ} {r : Emit} {room₁ ws₁ : List ℕ} where
-  use-fore : {d : ℕ} → Fore bs ix m p k write st room ws r room₁ ws₁ d → Ready bs ix m p st ws → d ≤ 255 →
+  use-fore : {d : ℕ} → Fore bs ix m p k write st room ws r room₁ ws₁ d → Ready bs ix m p st ws → d ≤ mostWires →
       Opens write (leftOf bs ix p k (slotOf ws d) (st .next)) (bodyInvocations (programAt p bs ix) (chainsIn bs ix p k) (slotOf ws d) (st .next))
         st room ws r room₁ ws₁
   use-fore (walks-fore g) = g
 
-  use-back : {d first : ℕ} → Back bs ix m p k write st room ws r room₁ ws₁ d first → Ready bs ix m p st ws → d ≤ 255 →
-      (st .status ≡ 0 → first + length (bodyInvocations (programAt p bs ix) (chainsIn bs ix p k) (slotOf ws d) first) ≤ 256) →
+  use-back : {d first : ℕ} → Back bs ix m p k write st room ws r room₁ ws₁ d first → Ready bs ix m p st ws → d ≤ mostWires →
+      (st .status ≡ 0 → first + length (bodyInvocations (programAt p bs ix) (chainsIn bs ix p k) (slotOf ws d) first) ≤ wireCount) →
       Follows write (rightOf bs ix p k (slotOf ws d) first (st .next)) st room ws r room₁ ws₁
   use-back (walks-back g) = g
 
@@ -180,7 +181,7 @@ module _ {bs ix m : List ℕ} {p k : ℕ} {write : Bool} {st : Emit} {room ws : 
 module _ {bs ix m : List ℕ} {p k : ℕ} {write : Bool} {st : Emit} {room ws : List ℕ} {base n d upto : ℕ} where
   use-rest : {first : ℕ} {r : Emit} {room₁ ws₁ : List ℕ} → Rest bs ix m p k write st room ws r room₁ ws₁ base n d upto first →
       Ready bs ix m p st ws → base ≤ d → d < upto → upto ≤ first → first ≤ st .next →
-      (st .status ≡ 0 → first + length (bodyInvocations (programAt p bs ix) (chainsIn bs ix p k) (slotOf ws d) first) ≤ 256) →
+      (st .status ≡ 0 → first + length (bodyInvocations (programAt p bs ix) (chainsIn bs ix p k) (slotOf ws d) first) ≤ wireCount) →
       (known : List ℕ) → SeenIn ws base n (d + 1) known →
       Follows write
         (let inner = bodiesUpTo bs ix p k n known (heldIn ws (d + 1) (upto - (d + 1))) (heldIn ws base (st .next - base)) (st .next) in
@@ -264,7 +265,7 @@ module _ {bs ix m : List ℕ} {p k : ℕ} {write : Bool} {st : Emit} {room ws : 
     follows-as write (around-is (programAt p bs ix) (chainsIn bs ix p k) s later (st .next) inner) (follows-append write F (follows-append write G₁ H)))
 
 -- the body of f by its record
-body-is : (p : ℕ) (bs ix : List ℕ) (f i depth : ℕ) → i ≡ startOf ix (512 + f) → depth ≡ bodyDepth p f → statementAt p bs ix depth i ≡ body (programAt p bs ix) f
+body-is : (p : ℕ) (bs ix : List ℕ) (f i depth : ℕ) → i ≡ startOf ix (rootsAt + f) → depth ≡ bodyDepth p f → statementAt p bs ix depth i ≡ body (programAt p bs ix) f
 body-is p bs ix f i depth at deep = byLt p f
     (λ lt. let none : depth ≡ 0 = deep ∙ rw (lt-ltb p f lt) in
       spent-skip p bs ix depth i none ∙ sym (body-out (programAt p bs ix) f (rw (count-at p bs ix) lt)))
@@ -278,7 +279,7 @@ under-roomy p f depth w cs deep e = byLt p f
 
 -- the ways out of `emit_fore` and `emit_back`
 module _ {bs ix m : List ℕ} {p k : ℕ} {write : Bool} {st : Emit} {room ws : List ℕ} {d : ℕ} {r : Emit} {room₁ ws₁ : List ℕ} {f i depth w : ℕ} {l : List ℕ}
-    {cs : Controls} (is-f : f ≡ slotProcedure ws d) (is-l : l ≡ slotList ws d) (at : i ≡ startOf ix (512 + f)) (deep : depth ≡ bodyDepth p f)
+    {cs : Controls} (is-f : f ≡ slotProcedure ws d) (is-l : l ≡ slotList ws d) (at : i ≡ startOf ix (rootsAt + f)) (deep : depth ≡ bodyDepth p f)
     (is-w : w ≡ wireOf d) (is-cs : cs ≡ under w) where
   pub fore-walk : Left bs ix m p k write st room ws r room₁ ws₁ f i depth l cs → Fore bs ix m p k write st room ws r room₁ ws₁ d
   unfolding slotOf
@@ -353,13 +354,13 @@ chain-is P (suc k) f l a h = let e : suc k - 1 ≡ k = omega arith in rw e
 
 -- an ancilla that was taken is a wire
 taken-low : {f : ℕ} {l : List ℕ} {cs : Controls} {write : Bool} {st : Emit} {room ws : List ℕ} {a : Emit} {room₁ ws₁ : List ℕ} →
-    Invokes f l cs write st room ws a room₁ ws₁ → (length l ≡ 0 → ⊥) → 8704 ≤ length ws → st .next ≤ 256 → a .status ≡ 0 →
+    Invokes f l cs write st room ws a room₁ ws₁ → (length l ≡ 0 → ⊥) → slotsLength ≤ length ws → st .next ≤ wireCount → a .status ≡ 0 →
     (a .next ≡ st .next + 1) × (wireOf (st .next) ≡ st .next)
 taken-low {f = f} {l = l} {cs = cs} {write = write} {st = st} {a = a} A some space small ok =
     let O = use-invokes A space in
     let e : a .next ≡ st .next + 1 = follows-next write (O .follows) ok ∙ one-more f l cs (st .next) some .0 in
     let top = O .follows .low small in
-    let le : st .next ≤ 255 = omega arith in
+    let le : st .next ≤ mostWires = omega arith in
     (e, rw (le-ltb mostWires (st .next) le))
 
 -- the ways out of `emit_call`

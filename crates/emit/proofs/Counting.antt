@@ -7,6 +7,7 @@ use native.Mathlib.Omega.{arith}
 use borrow.Author.Needs.{needs}
 use borrow.Author.Tests.{lt-ltb, le-ltb}
 use lib.ListN.{length, length-append}
+use Rattle.limits.specs.Sizes.{mostCalls}
 use Rattle.model.specs.Syntax.{Statement, skip, NOT, sequence, if, qcase, call}
 use Rattle.model.specs.Lists.{remaining, holds}
 use Rattle.model.specs.Reach.{width}
@@ -49,21 +50,21 @@ same-count r (call rs f) l a b = byBool (r f)
     (λ e. rw (invocations-other r l a rs f e, invocations-other r l b rs f e))
 
 -- the ways out of `one_unless_empty`
-no-call : (l : List ℕ) → length l ≡ 0 → 0 ≡ min 65535 (length (invoked 0 l 0))
+no-call : (l : List ℕ) → length l ≡ 0 → 0 ≡ min mostCalls (length (invoked 0 l 0))
 unfolding invoked
 no-call [] e = refl
 no-call (q ∷ l) e = absurd (not-zero (length l) e)
 
-one-call : (l : List ℕ) → (length l ≡ 0 → ⊥) → 1 ≡ min 65535 (length (invoked 0 l 0))
+one-call : (l : List ℕ) → (length l ≡ 0 → ⊥) → 1 ≡ min mostCalls (length (invoked 0 l 0))
 unfolding invoked
 one-call [] h = absurd (h refl)
 one-call (q ∷ l) h = omega arith
 
 module _ (l : List ℕ) (n : ℕ) (is : n ≡ length l) where
-  pub one-none : n ≡ 0 → 0 ≡ min 65535 (length (invoked 0 l 0))
+  pub one-none : n ≡ 0 → 0 ≡ min mostCalls (length (invoked 0 l 0))
   one-none e = no-call l (sym is ∙ e)
 
-  pub one-some : (n ≡ 0 → ⊥) → 1 ≡ min 65535 (length (invoked 0 l 0))
+  pub one-some : (n ≡ 0 → ⊥) → 1 ≡ min mostCalls (length (invoked 0 l 0))
   one-some h = one-call l (λ e. h (is ∙ e))
 
 module _ (r : ℕ → Bool) (p : ℕ) (bs ix : List ℕ) (i depth : ℕ) (l : List ℕ) where
@@ -73,48 +74,48 @@ module _ (r : ℕ → Bool) (p : ℕ) (bs ix : List ℕ) (i depth : ℕ) (l : Li
   abbrev total : ℕ
   total = length (invocations r (statementAt p bs ix depth i) l 0)
 
-  idle : statementAt p bs ix depth i ≡ skip → 0 ≡ min 65535 total
+  idle : statementAt p bs ix depth i ≡ skip → 0 ≡ min mostCalls total
   unfolding invocations
   idle e = rw e
 
-  pub count-spent : depth ≡ 0 → 0 ≡ min 65535 (length (invocations r (statementAt p bs ix depth i) l 0))
+  pub count-spent : depth ≡ 0 → 0 ≡ min mostCalls (length (invocations r (statementAt p bs ix depth i) l 0))
   count-spent e = idle (spent-skip p bs ix depth i e)
 
   module _ (found : Step) (nz : depth ≡ 0 → ⊥) (is : found ≡ stepAt p bs ix i l) where
-    pub count-idle : (x : Step) → found ≡ x → Idle x → 0 ≡ min 65535 (length (invocations r (statementAt p bs ix depth i) l 0))
+    pub count-idle : (x : Step) → found ≡ x → Idle x → 0 ≡ min mostCalls (length (invocations r (statementAt p bs ix depth i) l 0))
     count-idle x e o = idle (idle-skip p bs ix depth i l nz is x e o)
 
-    pub count-touches : (q : ℕ) → found ≡ step.Touches q → 0 ≡ min 65535 (length (invocations r (statementAt p bs ix depth i) l 0))
+    pub count-touches : (q : ℕ) → found ≡ step.Touches q → 0 ≡ min mostCalls (length (invocations r (statementAt p bs ix depth i) l 0))
     unfolding invocations
     count-touches q e = let h = at-step p bs ix depth i l nz is e in rw (h .2)
 
     module _ (a b n : ℕ) where
       pub count-wide : (w : ℕ) → found ≡ step.Sequence a b → w ≡ min 2 (width r (statementAt p bs ix (depth - 1) a)) → 0 < w →
-          n ≡ min 65535 (length (invocations r (statementAt p bs ix (depth - 1) a) l 0)) →
-          n ≡ min 65535 (length (invocations r (statementAt p bs ix depth i) l 0))
+          n ≡ min mostCalls (length (invocations r (statementAt p bs ix (depth - 1) a) l 0)) →
+          n ≡ min mostCalls (length (invocations r (statementAt p bs ix depth i) l 0))
       count-wide w e k h q =
         let x = statementAt p bs ix (depth - 1) a in
         let wide : isWide r x ≡ true = lt-ltb 0 (width r x) (omega arith) in
         rw (at-step p bs ix depth i l nz is e, invocations-wide r l 0 x (statementAt p bs ix (depth - 1) b) wide) q
 
       pub count-thin : (w : ℕ) → found ≡ step.Sequence a b → w ≡ min 2 (width r (statementAt p bs ix (depth - 1) a)) → w ≤ 0 →
-          n ≡ min 65535 (length (invocations r (statementAt p bs ix (depth - 1) b) l 0)) →
-          n ≡ min 65535 (length (invocations r (statementAt p bs ix depth i) l 0))
+          n ≡ min mostCalls (length (invocations r (statementAt p bs ix (depth - 1) b) l 0)) →
+          n ≡ min mostCalls (length (invocations r (statementAt p bs ix depth i) l 0))
       count-thin w e k h q =
         let x = statementAt p bs ix (depth - 1) a in
         let thin : isWide r x ≡ false = le-ltb 0 (width r x) (omega arith) in
         rw (at-step p bs ix depth i l nz is e, invocations-thin r l 0 x (statementAt p bs ix (depth - 1) b) thin) q
 
       pub count-chosen : (c x : ℕ) → found ≡ step.Chooses c a b → x ≡ cond (holds (testAt p bs ix (depth - 1) c) (length l)) a b →
-          n ≡ min 65535 (length (invocations r (statementAt p bs ix (depth - 1) x) l 0)) →
-          n ≡ min 65535 (length (invocations r (statementAt p bs ix depth i) l 0))
-      count-chosen c x e h q = q ∙ ap (λ (all : List Invocation). min 65535 (length all))
+          n ≡ min mostCalls (length (invocations r (statementAt p bs ix (depth - 1) x) l 0)) →
+          n ≡ min mostCalls (length (invocations r (statementAt p bs ix depth i) l 0))
+      count-chosen c x e h q = q ∙ ap (λ (all : List Invocation). min mostCalls (length all))
         (sym (chosen-means (λ s. invocations r s l 0) l (invocations-yes r l 0) (invocations-no r l 0) p bs ix depth i nz is e h))
 
       pub count-branches : (q first second : ℕ) → found ≡ step.Branches q a b →
-          first ≡ min 65535 (length (invocations r (statementAt p bs ix (depth - 1) a) l 0)) →
-          second ≡ min 65535 (length (invocations r (statementAt p bs ix (depth - 1) b) l 0)) → n ≡ min 65535 (first + second) →
-          n ≡ min 65535 (length (invocations r (statementAt p bs ix depth i) l 0))
+          first ≡ min mostCalls (length (invocations r (statementAt p bs ix (depth - 1) a) l 0)) →
+          second ≡ min mostCalls (length (invocations r (statementAt p bs ix (depth - 1) b) l 0)) → n ≡ min mostCalls (first + second) →
+          n ≡ min mostCalls (length (invocations r (statementAt p bs ix depth i) l 0))
       unfolding invocations
       count-branches q first second e f g s =
         let h = at-step p bs ix depth i l nz is e in
@@ -125,14 +126,14 @@ module _ (r : ℕ → Bool) (p : ℕ) (bs ix : List ℕ) (i depth : ℕ) (l : Li
         rw (h .2, length-append (invocations r x l 0) (invocations r y l m)) (omega arith)
 
     pub count-recursive : (g at n : ℕ) (rest : List ℕ) (b : Bool) → found ≡ step.Calls g at → b ≡ r g → b ≡ true →
-        rest ≡ remaining (removalsOf bs at) l → n ≡ min 65535 (length (invoked 0 rest 0)) →
-        n ≡ min 65535 (length (invocations r (statementAt p bs ix depth i) l 0))
+        rest ≡ remaining (removalsOf bs at) l → n ≡ min mostCalls (length (invoked 0 rest 0)) →
+        n ≡ min mostCalls (length (invocations r (statementAt p bs ix depth i) l 0))
     count-recursive g at n rest b e h y q k =
       let c = invoked-count 0 g (remaining (removalsOf bs at) l) 0 0 in
       rw (at-step p bs ix depth i l nz is e, invocations-recursive r l 0 (removalsOf bs at) g (sym h ∙ y), ← c, ← q) k
 
     pub count-other : (g at : ℕ) (b : Bool) → found ≡ step.Calls g at → b ≡ r g → b ≡ false →
-        0 ≡ min 65535 (length (invocations r (statementAt p bs ix depth i) l 0))
+        0 ≡ min mostCalls (length (invocations r (statementAt p bs ix depth i) l 0))
     count-other g at b e h y = rw (at-step p bs ix depth i l nz is e, invocations-other r l 0 (removalsOf bs at) g (sym h ∙ y))
 
 pub ruleset counting = (

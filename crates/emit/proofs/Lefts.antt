@@ -7,6 +7,7 @@ use native.Mathlib.Omega.{arith}
 use borrow.Author.Needs.{needs}
 use borrow.Author.Tests.{lt-ltb, le-ltb}
 use lib.ListN.{length, length-append}
+use Rattle.limits.specs.Sizes.{slotsLength}
 use Rattle.model.specs.Syntax.{Number, Statement, skip, NOT, qcase}
 use Rattle.model.specs.Lists.{remaining, touched, holds}
 use Rattle.model.specs.Reach.{recursive, width}
@@ -73,7 +74,7 @@ module _ {write : Bool} {st : Emit} {room ws : List ℕ} {r : Emit} {room₁ ws�
         (invocations (recursive (programAt p bs ix) f) (statementAt p bs ix depth i) l (st .next)) st room ws r room₁ ws₁
   use-left (walks-left g) = g
 
-  pub use-invokes : {f : ℕ} {l : List ℕ} {cs : Controls} → Invokes f l cs write st room ws r room₁ ws₁ → 8704 ≤ length ws →
+  pub use-invokes : {f : ℕ} {l : List ℕ} {cs : Controls} → Invokes f l cs write st room ws r room₁ ws₁ → slotsLength ≤ length ws →
       Opens write (invokes l cs (st .next)) (invoked f l (st .next)) st room ws r room₁ ws₁
   use-invokes (fills-slot g) = g
 

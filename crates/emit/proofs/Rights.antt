@@ -7,6 +7,7 @@ use native.Mathlib.Omega.{arith}
 use borrow.Author.Needs.{needs}
 use borrow.Author.Tests.{le-ltb}
 use lib.ListN.{length, length-append}
+use Rattle.limits.specs.Sizes.{wireCount, mostCalls}
 use Rattle.model.specs.Limits.{mostWires}
 use Rattle.model.specs.Syntax.{Number, Statement, skip, NOT, qcase}
 use Rattle.model.specs.Lists.{remaining, touched, holds}
@@ -40,7 +41,7 @@ use Rattle.emit.proofs.Lefts.{recursive-is, wide-so, wide-not, was-ok}
 module _ {bs ix m : List ℕ} {p k : ℕ} {write : Bool} {st : Emit} {room ws : List ℕ} {r : Emit} {room₁ ws₁ : List ℕ} where
   pub use-right : {f i depth : ℕ} {l : List ℕ} {cs : Controls} {first : ℕ} → Right bs ix m p k write st room ws r room₁ ws₁ f i depth l cs first →
       Ready bs ix m p st ws → Roomy depth cs →
-      (st .status ≡ 0 → first + length (invocations (recursive (programAt p bs ix) f) (statementAt p bs ix depth i) l first) ≤ 256) →
+      (st .status ≡ 0 → first + length (invocations (recursive (programAt p bs ix) f) (statementAt p bs ix depth i) l first) ≤ wireCount) →
       Follows write (right (chainsIn bs ix p k) (recursive (programAt p bs ix) f) (statementAt p bs ix depth i) l cs first (st .next)) st room ws r room₁ ws₁
   use-right (walks-right g) = g
 
@@ -183,7 +184,7 @@ module _ {bs ix m : List ℕ} {p k : ℕ} {write : Bool} {st : Emit} {room ws : 
                 (right-then-whole bs ix p k f l cs first X Y R F (use-whole B (ready-then R F) (roomy-less nz C))))
 
           pub right-branches : {q x y n second : ℕ} {cs₁ cs₂ : Controls} → found ≡ step.Branches q x y →
-              n ≡ min 65535 (length (invocations (recursiveIn m f) (statementAt p bs ix (depth - 1) x) l 0)) → second ≡ min 65535 (first + n) →
+              n ≡ min mostCalls (length (invocations (recursiveIn m f) (statementAt p bs ix (depth - 1) x) l 0)) → second ≡ min mostCalls (first + n) →
               cs₁ ≡ askingWithin q true cs → Right bs ix m p k write st room ws r room₁ ws₁ f y (depth - 1) l cs₁ second →
               cs₂ ≡ askingWithin q false cs → Right bs ix m p k write r room₁ ws₁ b room₂ ws₂ f x (depth - 1) l cs₂ first →
               Right bs ix m p k write st room ws b room₂ ws₂ f i depth l cs first
@@ -197,13 +198,13 @@ module _ {bs ix m : List ℕ} {p k : ℕ} {write : Bool} {st : Emit} {room ws : 
             walks-right (λ R C Q.
               let A′ = subst (λ (v : Controls). Right bs ix m p k write st room ws r room₁ ws₁ f y (depth - 1) l v second) (c₁ ∙ within-is nz C q true) A in
               let B′ = subst (λ (v : Controls). Right bs ix m p k write r room₁ ws₁ b room₂ ws₂ f x (depth - 1) l v first) (c₂ ∙ within-is nz C q false) B in
-              let counted : n ≡ min 65535 (length (invocations rec X l 0)) = rw (recursive-is f R) at is-n in
+              let counted : n ≡ min mostCalls (length (invocations rec X l 0)) = rw (recursive-is f R) at is-n in
               let same = same-count rec X l 0 first in
               let second-is : st .status ≡ 0 → second ≡ first + length (invocations rec X l first) = λ ok.
                     exactly first n second (length (invocations rec X l 0)) (length (invocations rec X l first)) _
                       (length (invocations rec S l first)) counted is-s same both (Q ok) in
               let F = use-right A′ R (roomy-asking nz C q true) (λ ok.
-                    subst (λ (v : ℕ). v + length (invocations rec Y l v) ≤ 256) (sym (second-is ok))
+                    subst (λ (v : ℕ). v + length (invocations rec Y l v) ≤ wireCount) (sym (second-is ok))
                       (total first (length (invocations rec X l first)) _ (length (invocations rec S l first)) both (Q ok))) in
               let G = use-right B′ (ready-then R F) (roomy-asking nz C q false) (λ ok.
                     part first (length (invocations rec X l first)) _ (length (invocations rec S l first)) both (Q (was-ok F ok))) in
@@ -212,12 +213,12 @@ module _ {bs ix m : List ℕ} {p k : ℕ} {write : Bool} {st : Emit} {room ws : 
                     ++ right (chainsIn bs ix p k) rec X l (asking q false cs) first (st .next)) (second-is ok))
                   (right-then-right bs ix p k f l (asking q true cs) (asking q false cs) first second X Y R F G)))
             where
-              exactly : (first n second zero-count count other all : ℕ) → n ≡ min 65535 zero-count → second ≡ min 65535 (first + n) → zero-count ≡ count →
-                  all ≡ count + other → first + all ≤ 256 → second ≡ first + count
+              exactly : (first n second zero-count count other all : ℕ) → n ≡ min mostCalls zero-count → second ≡ min mostCalls (first + n) → zero-count ≡ count →
+                  all ≡ count + other → first + all ≤ wireCount → second ≡ first + count
               exactly first n second zero-count count other all a b c d e = omega arith
-              total : (first count other all : ℕ) → all ≡ count + other → first + all ≤ 256 → first + count + other ≤ 256
+              total : (first count other all : ℕ) → all ≡ count + other → first + all ≤ wireCount → first + count + other ≤ wireCount
               total first count other all d e = omega arith
-              part : (first count other all : ℕ) → all ≡ count + other → first + all ≤ 256 → first + count ≤ 256
+              part : (first count other all : ℕ) → all ≡ count + other → first + all ≤ wireCount → first + count ≤ wireCount
               part first count other all d e = omega arith
 
 pub ruleset rights = (

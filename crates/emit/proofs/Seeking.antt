@@ -7,13 +7,14 @@ use native.Mathlib.Omega.{arith}
 use borrow.Author.Tests.{eq-eqb, ne-eqb}
 use lib.ListN.{length}
 use lib.Dec.{eqb}
+use Rattle.limits.specs.Sizes.{slotLength}
 use Rattle.model.specs.Syntax.{Program}
 use Rattle.model.specs.Lists.{member}
 use Rattle.model.specs.Emission.{Chains, Invocation, Emitted, bodyInvocations, around, bodies, isFirst}
 use Rattle.model.proofs.Tests.{byBool, byEq, clash}
 use Rattle.agreement.proofs.Clauses.{bodies-here, bodies-past}
 use Rattle.records.proofs.Laws.{and-cond}
-use Rattle.events.specs.Scan.{slotLength, slotProcedure, slotOf, heldIn}
+use Rattle.events.specs.Scan.{slotListLength, slotProcedure, slotOf, heldIn}
 use Rattle.events.specs.Slots.{pairAt, appears, opensAt, seekOf}
 use Rattle.emit.specs.Walks.{SeenIn}
 use Rattle.events.proofs.Entering.{bytes-length}
@@ -55,8 +56,8 @@ module _ (ws : List ℕ) (base m j : ℕ) (le : base ≤ j) where
     -- the definitions' test of slot j is the code's
     opens-is : isFirst m known (slotOf ws j) ≡ opensAt ws base m j
     unfolding slotOf opensAt
-    opens-is = rw (bytes-length ws (34 * j + 2) (slotLength ws j), S (slotProcedure ws j))
-      (and-cond (eqb (slotLength ws j) m) (not (appears ws base (j - base) (slotProcedure ws j) m)))
+    opens-is = rw (bytes-length ws (slotLength * j + 2) (slotListLength ws j), S (slotProcedure ws j))
+      (and-cond (eqb (slotListLength ws j) m) (not (appears ws base (j - base) (slotProcedure ws j) m)))
 
     -- a slot passed over adds no procedure
     seen-past : opensAt ws base m j ≡ false → SeenIn ws base m (j + 1) known
@@ -64,9 +65,9 @@ module _ (ws : List ℕ) (base m j : ℕ) (le : base ≤ j) where
     seen-past o f = rw (appears-next f, S f) (byBool (appears ws base (j - base) f m)
       (λ t. rw t)
       (λ t. rw t (byEq (slotProcedure ws j) f
-        (λ e. byEq (slotLength ws j) m
-          (λ q. absurd-case (appears ws base (j - base) f m) t (rw (eq-eqb (slotLength ws j) m q, e) at o))
-          (λ q. rw (eq-eqb (slotProcedure ws j) f e, ne-eqb (slotLength ws j) m q)))
+        (λ e. byEq (slotListLength ws j) m
+          (λ q. absurd-case (appears ws base (j - base) f m) t (rw (eq-eqb (slotListLength ws j) m q, e) at o))
+          (λ q. rw (eq-eqb (slotProcedure ws j) f e, ne-eqb (slotListLength ws j) m q)))
         (λ e. rw (ne-eqb (slotProcedure ws j) f e)))))
       where
         absurd-case : {A : Type 0} (b : Bool) → b ≡ false → not b ≡ false → A
@@ -76,11 +77,11 @@ module _ (ws : List ℕ) (base m j : ℕ) (le : base ≤ j) where
     -- a slot that opens a body adds its procedure
     seen-here : opensAt ws base m j ≡ true → SeenIn ws base m (j + 1) (slotProcedure ws j ∷ known)
     unfolding opensAt pairAt member
-    seen-here o f = byEq (slotLength ws j) m
-      (λ q. rw (appears-next f, S f, eq-eqb (slotLength ws j) m q) (byEq (slotProcedure ws j) f
+    seen-here o f = byEq (slotListLength ws j) m
+      (λ q. rw (appears-next f, S f, eq-eqb (slotListLength ws j) m q) (byEq (slotProcedure ws j) f
         (λ e. rw (eq-eqb (slotProcedure ws j) f e, eq-eqb f (slotProcedure ws j) (sym e)) (sym (or-done (appears ws base (j - base) f m))))
         (λ e. rw (ne-eqb (slotProcedure ws j) f e, ne-eqb f (slotProcedure ws j) (λ z. e (sym z))) (sym (or-none (appears ws base (j - base) f m))))))
-      (λ q. clash (rw (ne-eqb (slotLength ws j) m q) at o) refl)
+      (λ q. clash (rw (ne-eqb (slotListLength ws j) m q) at o) refl)
 
 pub seek-low : (ws : List ℕ) (base m j c : ℕ) → j ≤ seekOf ws base m j c
 unfolding seekOf

@@ -8,6 +8,7 @@ use borrow.Author.Needs.{needs}
 use borrow.Author.Tests.{lt-ltb}
 use lib.ListN.{length}
 use lib.Dec.{ltb}
+use Rattle.limits.specs.Sizes.{mostControls}
 use Rattle.model.specs.Syntax.{Number, Statement, skip, NOT, sequence, qcase, call}
 use Rattle.model.specs.Lists.{remaining, touched, holds}
 use Rattle.model.specs.Gates.{Controls, asking, insert, flip}
@@ -40,8 +41,8 @@ insert-length w (x ∷ l) = byBool (ltb w x) (λ e. rw (e, insert)) (λ e. rw (e
 module _ {depth : ℕ} {cs : Controls} (nz : depth ≡ 0 → ⊥) (C : Roomy depth cs) where
   pub within-is : (w : ℕ) (b : Bool) → askingWithin w b cs ≡ asking w b cs
   unfolding askingWithin insertWithin asking
-  within-is w true = rw (lt-ltb (length (cs .ones)) 33 (omega (arith, C .ones)), insertWithin)
-  within-is w false = rw (lt-ltb (length (cs .zeros)) 33 (omega (arith, C .zeros)), insertWithin)
+  within-is w true = rw (lt-ltb (length (cs .ones)) mostControls (omega (arith, C .ones)), insertWithin)
+  within-is w false = rw (lt-ltb (length (cs .zeros)) mostControls (omega (arith, C .zeros)), insertWithin)
 
   pub roomy-less : Roomy (depth - 1) cs
   roomy-less = record { ones = omega (arith, C .ones); zeros = omega (arith, C .zeros) }

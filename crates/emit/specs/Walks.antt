@@ -5,7 +5,8 @@ use mathlib.Core.Bool.{Bool, cond}
 use mathlib.Core.List.{List, [], _++_}
 use lib.ListN.{length}
 use lib.Dec.{ltb}
-use Rattle.model.specs.Limits.{mostProcedures, mostQubits, mostDepth}
+use Rattle.limits.specs.Sizes.{mostControls, wireCount, slotsLength}
+use Rattle.model.specs.Limits.{mostProcedures, mostQubits, mostDepth, mostWires}
 use Rattle.model.specs.Syntax.{Program, body}
 use Rattle.model.specs.Lists.{member}
 use Rattle.model.specs.Reach.{recursive}
@@ -23,11 +24,11 @@ use Rattle.events.specs.Follows.{Follows, Opens}
 
 -- a table of at most 16 procedures with its matrix, wires that are one byte, and a workspace that is long enough
 pub record Ready (bs ix m : List ℕ) (p : ℕ) (st : Emit) (ws : List ℕ) : Type 0 where
-  pub few : p ≤ 16
+  pub few : p ≤ mostProcedures
   pub reach : m ≡ reachAt p bs ix
   pub some : 0 < st .next
-  pub low : st .next ≤ 256
-  pub space : 8704 ≤ length ws
+  pub low : st .next ≤ wireCount
+  pub space : slotsLength ≤ length ws
 
 -- how deep a body is: nothing where no procedure is f
 abbrev pub bodyDepth : ℕ → ℕ → ℕ
@@ -35,8 +36,8 @@ bodyDepth p f = cond (ltb p f) 0 mostDepth
 
 -- room for the controls of the qcases to come
 pub record Roomy (depth : ℕ) (cs : Controls) : Type 0 where
-  pub ones : length (cs .ones) + depth ≤ 33
-  pub zeros : length (cs .zeros) + depth ≤ 33
+  pub ones : length (cs .ones) + depth ≤ mostControls
+  pub zeros : length (cs .zeros) + depth ≤ mostControls
 
 module _ (bs ix : List ℕ) (p k : ℕ) where
   abbrev pub programIn : Program
@@ -82,22 +83,22 @@ pub data Left (bs ix m : List ℕ) (p k : ℕ) (write : Bool) (st : Emit) (room 
 pub data Right (bs ix m : List ℕ) (p k : ℕ) (write : Bool) (st : Emit) (room ws : List ℕ) (r : Emit) (room₁ ws₁ : List ℕ)
     (f i depth : ℕ) (l : List ℕ) (cs : Controls) (first : ℕ) : Type 0 where
   walks-right : (Ready bs ix m p st ws → Roomy depth cs →
-      (st .status ≡ 0 → first + length (invocations (recursive (programAt p bs ix) f) (statementAt p bs ix depth i) l first) ≤ 256) →
+      (st .status ≡ 0 → first + length (invocations (recursive (programAt p bs ix) f) (statementAt p bs ix depth i) l first) ≤ wireCount) →
       Follows write (right (chainsIn bs ix p k) (recursive (programAt p bs ix) f) (statementAt p bs ix depth i) l cs first (st .next))
         st room ws r room₁ ws₁) →
       Right bs ix m p k write st room ws r room₁ ws₁ f i depth l cs first
 
 pub data Fore (bs ix m : List ℕ) (p k : ℕ) (write : Bool) (st : Emit) (room ws : List ℕ) (r : Emit) (room₁ ws₁ : List ℕ)
     (d : ℕ) : Type 0 where
-  walks-fore : (Ready bs ix m p st ws → d ≤ 255 →
+  walks-fore : (Ready bs ix m p st ws → d ≤ mostWires →
       Opens write (leftOf bs ix p k (slotOf ws d) (st .next)) (bodyInvocations (programAt p bs ix) (chainsIn bs ix p k) (slotOf ws d) (st .next))
         st room ws r room₁ ws₁) →
       Fore bs ix m p k write st room ws r room₁ ws₁ d
 
 pub data Back (bs ix m : List ℕ) (p k : ℕ) (write : Bool) (st : Emit) (room ws : List ℕ) (r : Emit) (room₁ ws₁ : List ℕ)
     (d first : ℕ) : Type 0 where
-  walks-back : (Ready bs ix m p st ws → d ≤ 255 →
-      (st .status ≡ 0 → first + length (bodyInvocations (programAt p bs ix) (chainsIn bs ix p k) (slotOf ws d) first) ≤ 256) →
+  walks-back : (Ready bs ix m p st ws → d ≤ mostWires →
+      (st .status ≡ 0 → first + length (bodyInvocations (programAt p bs ix) (chainsIn bs ix p k) (slotOf ws d) first) ≤ wireCount) →
       Follows write (rightOf bs ix p k (slotOf ws d) first (st .next)) st room ws r room₁ ws₁) →
       Back bs ix m p k write st room ws r room₁ ws₁ d first
 
@@ -111,7 +112,7 @@ pub data Bodies (bs ix m : List ℕ) (p k : ℕ) (write : Bool) (st : Emit) (roo
 pub data Rest (bs ix m : List ℕ) (p k : ℕ) (write : Bool) (st : Emit) (room ws : List ℕ) (r : Emit) (room₁ ws₁ : List ℕ)
     (base n d upto first : ℕ) : Type 0 where
   walks-rest : (Ready bs ix m p st ws → base ≤ d → d < upto → upto ≤ first → first ≤ st .next →
-      (st .status ≡ 0 → first + length (bodyInvocations (programAt p bs ix) (chainsIn bs ix p k) (slotOf ws d) first) ≤ 256) →
+      (st .status ≡ 0 → first + length (bodyInvocations (programAt p bs ix) (chainsIn bs ix p k) (slotOf ws d) first) ≤ wireCount) →
       (procedures : List ℕ) → SeenIn ws base n (d + 1) procedures →
       Follows write
         (let inner = bodiesUpTo bs ix p k n procedures (heldIn ws (d + 1) (upto - (d + 1))) (heldIn ws base (st .next - base)) (st .next) in
@@ -142,6 +143,6 @@ pub data Body (bs ix m : List ℕ) (p k : ℕ) (write : Bool) (st : Emit) (room 
 
 -- main emitted, from its start
 pub data Emits (bs ix m : List ℕ) (p n : ℕ) (write : Bool) (room ws : List ℕ) (r : Emit) (room₁ ws₁ : List ℕ) : Type 0 where
-  walks-main : (p ≤ mostProcedures → m ≡ reachAt p bs ix → n ≤ mostQubits → 8704 ≤ length ws →
+  walks-main : (p ≤ mostProcedures → m ≡ reachAt p bs ix → n ≤ mostQubits → slotsLength ≤ length ws →
       (seen r room₁ ≡ scan write (emission (programAt p bs ix) n) (seen (begun n) room)) × (length ws₁ ≡ length ws)) →
       Emits bs ix m p n write room ws r room₁ ws₁

@@ -2,6 +2,7 @@
 ghost use mathlib.Core.Path.{_≡_};
 ghost use Prim.Native.Nat.{_+_, min};
 ghost use lib.ListN.{length};
+ghost use Rattle.limits.specs.Sizes.{mostCalls};
 ghost use Rattle.model.specs.Emission.{invoked, invocations};
 ghost use Rattle.circuit.specs.Writing.{controlsFrom};
 ghost use Rattle.table.specs.Index.{statementAt};
@@ -10,29 +11,30 @@ ghost use Rattle.reach.specs.Matrix.{recursiveIn};
 ghost use Rattle.emit.specs.Walks.{bodyDepth, Whole, Call, Left, Right, Fore, Back, Bodies, Rest, Inner, Body, Emits};
 use circuit::write::{ControlLists, asking, no_controls};
 use events::{Emit, emit_entries, emit_flip, finish, flip_again, invoke, load, procedure, seek, under, wire};
+use limits::{HEADER_LENGTH, MATRIX_LENGTH, MOST_CALLS, MOST_DEPTH, ROOTS_AT};
 use reach::{recursive, width};
 use step::{Qubits, Step, all, chosen, remaining, size, start, step_at};
 
 // The sum of two numbers of calls, of which more than 65,535 is no more than that.
 fn sum(a: u16, b: u16) -> u16
-    ensures { λ r. ⌜ r ≡ min 65535 (a + b) ⌝ }
+    ensures { λ r. ⌜ r ≡ min mostCalls (a + b) ⌝ }
 {
-    if 65535 - a < b {
-        return 65535;
+    if MOST_CALLS - a < b {
+        return MOST_CALLS;
     }
     a + b
 }
 
 // How many ancillas does a recursive call with this list take?
 fn one_unless_empty(list: Qubits) -> u16
-    ensures { λ r. ⌜ r ≡ min 65535 (length (invoked 0 (qubitsOf list) 0)) ⌝ }
+    ensures { λ r. ⌜ r ≡ min mostCalls (length (invoked 0 (qubitsOf list) 0)) ⌝ }
 {
     if size(list) == 0 { 0 } else { 1 }
 }
 
 // How many recursive calls has the left part of the statement at record i, in the body of f?
-fn count_calls(table: &[u8], index: &[u16], p: u8, matrix: &[u8; 289], f: u8, i: usize, depth: u8, list: Qubits) -> u16
-    ensures { λ r. ⌜ r ≡ min 65535 (length (invocations (recursiveIn (now (matrix .entry)) f)
+fn count_calls(table: &[u8], index: &[u16], p: u8, matrix: &[u8; MATRIX_LENGTH], f: u8, i: usize, depth: u8, list: Qubits) -> u16
+    ensures { λ r. ⌜ r ≡ min mostCalls (length (invocations (recursiveIn (now (matrix .entry)) f)
         (statementAt p (now (table .entry)) (now (index .entry)) depth i) (qubitsOf list) 0)) ⌝ }
 {
     if depth == 0 {
@@ -73,12 +75,12 @@ fn count_calls(table: &[u8], index: &[u16], p: u8, matrix: &[u8; 289], f: u8, i:
 fn body_depth(p: u8, f: u8) -> u8
     ensures { λ r. ⌜ r ≡ bodyDepth p f ⌝ }
 {
-    if p < f { 0 } else { 32 }
+    if p < f { 0 } else { MOST_DEPTH }
 }
 
 // A statement emitted whole, in order.
 fn emit_whole(
-    table: &[u8], index: &[u16], p: u8, matrix: &[u8; 289], k: u8, i: usize, depth: u8, list: Qubits, controls: ControlLists,
+    table: &[u8], index: &[u16], p: u8, matrix: &[u8; MATRIX_LENGTH], k: u8, i: usize, depth: u8, list: Qubits, controls: ControlLists,
     write: bool, room: &mut [u8], ws: &mut [u8], st: Emit,
 ) -> Emit
     ensures { λ r. ⌜ Whole (now (table .entry)) (now (index .entry)) (now (matrix .entry)) p k write st (now (room .entry)) (now (ws .entry))
@@ -119,7 +121,7 @@ fn emit_whole(
 
 // "A non-recursive call with a nonempty list starts a chain."
 fn emit_call(
-    table: &[u8], index: &[u16], p: u8, matrix: &[u8; 289], k: u8, f: u8, list: Qubits, controls: ControlLists,
+    table: &[u8], index: &[u16], p: u8, matrix: &[u8; MATRIX_LENGTH], k: u8, f: u8, list: Qubits, controls: ControlLists,
     write: bool, room: &mut [u8], ws: &mut [u8], st: Emit,
 ) -> Emit
     ensures { λ r. ⌜ Call (now (table .entry)) (now (index .entry)) (now (matrix .entry)) p k write st (now (room .entry)) (now (ws .entry))
@@ -144,7 +146,7 @@ fn emit_call(
 
 // The bodies of lists of length m, from slot j on and before `upto`, around those of shorter lists.
 fn emit_bodies(
-    table: &[u8], index: &[u16], p: u8, matrix: &[u8; 289], k: u8, base: u16, m: u8, j: u16, upto: u16,
+    table: &[u8], index: &[u16], p: u8, matrix: &[u8; MATRIX_LENGTH], k: u8, base: u16, m: u8, j: u16, upto: u16,
     write: bool, room: &mut [u8], ws: &mut [u8], st: Emit,
 ) -> Emit
     ensures { λ r. ⌜ Bodies (now (table .entry)) (now (index .entry)) (now (matrix .entry)) p k write st (now (room .entry)) (now (ws .entry))
@@ -166,7 +168,7 @@ fn emit_bodies(
 
 // The body of slot d around all bodies that follow it, between its entry gates.
 fn emit_body(
-    table: &[u8], index: &[u16], p: u8, matrix: &[u8; 289], k: u8, base: u16, m: u8, d: u16, upto: u16,
+    table: &[u8], index: &[u16], p: u8, matrix: &[u8; MATRIX_LENGTH], k: u8, base: u16, m: u8, d: u16, upto: u16,
     write: bool, room: &mut [u8], ws: &mut [u8], st: Emit,
 ) -> Emit
     ensures { λ r. ⌜ Body (now (table .entry)) (now (index .entry)) (now (matrix .entry)) p k write st (now (room .entry)) (now (ws .entry))
@@ -182,7 +184,7 @@ fn emit_body(
 
 // Its left part, then the rest.
 fn emit_inner(
-    table: &[u8], index: &[u16], p: u8, matrix: &[u8; 289], k: u8, base: u16, m: u8, d: u16, upto: u16,
+    table: &[u8], index: &[u16], p: u8, matrix: &[u8; MATRIX_LENGTH], k: u8, base: u16, m: u8, d: u16, upto: u16,
     write: bool, room: &mut [u8], ws: &mut [u8], st: Emit,
 ) -> Emit
     ensures { λ r. ⌜ Inner (now (table .entry)) (now (index .entry)) (now (matrix .entry)) p k write st (now (room .entry)) (now (ws .entry))
@@ -195,7 +197,7 @@ fn emit_inner(
 
 // The bodies that follow, then its right part, whose recursive calls have the ancillas from `first` on.
 fn emit_rest(
-    table: &[u8], index: &[u16], p: u8, matrix: &[u8; 289], k: u8, base: u16, m: u8, d: u16, upto: u16, first: u16,
+    table: &[u8], index: &[u16], p: u8, matrix: &[u8; MATRIX_LENGTH], k: u8, base: u16, m: u8, d: u16, upto: u16, first: u16,
     write: bool, room: &mut [u8], ws: &mut [u8], st: Emit,
 ) -> Emit
     ensures { λ r. ⌜ Rest (now (table .entry)) (now (index .entry)) (now (matrix .entry)) p k write st (now (room .entry)) (now (ws .entry))
@@ -210,7 +212,7 @@ fn emit_rest(
 
 // The left part of the body of slot d.
 fn emit_fore(
-    table: &[u8], index: &[u16], p: u8, matrix: &[u8; 289], k: u8, d: u16,
+    table: &[u8], index: &[u16], p: u8, matrix: &[u8; MATRIX_LENGTH], k: u8, d: u16,
     write: bool, room: &mut [u8], ws: &mut [u8], st: Emit,
 ) -> Emit
     ensures { λ r. ⌜ Fore (now (table .entry)) (now (index .entry)) (now (matrix .entry)) p k write st (now (room .entry)) (now (ws .entry))
@@ -218,7 +220,7 @@ fn emit_fore(
 {
     let f = procedure(ws, d);
     let list = load(ws, d);
-    let i = start(index, 512 + f as usize);
+    let i = start(index, ROOTS_AT + f as usize);
     let depth = body_depth(p, f);
     let controls = under(wire(d));
     emit_left(table, index, p, matrix, k, f, i, depth, list, controls, write, room, ws, st)
@@ -226,7 +228,7 @@ fn emit_fore(
 
 // Its right part.
 fn emit_back(
-    table: &[u8], index: &[u16], p: u8, matrix: &[u8; 289], k: u8, d: u16, first: u16,
+    table: &[u8], index: &[u16], p: u8, matrix: &[u8; MATRIX_LENGTH], k: u8, d: u16, first: u16,
     write: bool, room: &mut [u8], ws: &mut [u8], st: Emit,
 ) -> Emit
     ensures { λ r. ⌜ Back (now (table .entry)) (now (index .entry)) (now (matrix .entry)) p k write st (now (room .entry)) (now (ws .entry))
@@ -234,7 +236,7 @@ fn emit_back(
 {
     let f = procedure(ws, d);
     let list = load(ws, d);
-    let i = start(index, 512 + f as usize);
+    let i = start(index, ROOTS_AT + f as usize);
     let depth = body_depth(p, f);
     let controls = under(wire(d));
     emit_right(table, index, p, matrix, k, f, i, depth, list, controls, first, write, room, ws, st)
@@ -242,7 +244,7 @@ fn emit_back(
 
 // The left part of the statement at record i, in the body of f.
 fn emit_left(
-    table: &[u8], index: &[u16], p: u8, matrix: &[u8; 289], k: u8, f: u8, i: usize, depth: u8, list: Qubits, controls: ControlLists,
+    table: &[u8], index: &[u16], p: u8, matrix: &[u8; MATRIX_LENGTH], k: u8, f: u8, i: usize, depth: u8, list: Qubits, controls: ControlLists,
     write: bool, room: &mut [u8], ws: &mut [u8], st: Emit,
 ) -> Emit
     ensures { λ r. ⌜ Left (now (table .entry)) (now (index .entry)) (now (matrix .entry)) p k write st (now (room .entry)) (now (ws .entry))
@@ -290,7 +292,7 @@ fn emit_left(
 
 // The right part of the statement at record i, in the body of f; its recursive calls have the ancillas from `first` on.
 fn emit_right(
-    table: &[u8], index: &[u16], p: u8, matrix: &[u8; 289], k: u8, f: u8, i: usize, depth: u8, list: Qubits, controls: ControlLists, first: u16,
+    table: &[u8], index: &[u16], p: u8, matrix: &[u8; MATRIX_LENGTH], k: u8, f: u8, i: usize, depth: u8, list: Qubits, controls: ControlLists, first: u16,
     write: bool, room: &mut [u8], ws: &mut [u8], st: Emit,
 ) -> Emit
     ensures { λ r. ⌜ Right (now (table .entry)) (now (index .entry)) (now (matrix .entry)) p k write st (now (room .entry)) (now (ws .entry))
@@ -338,13 +340,13 @@ fn emit_right(
 
 // "Wires 1 to n are data; ancillas follow": main is emitted whole, under no control.
 pub fn emit_main(
-    table: &[u8], index: &[u16], p: u8, matrix: &[u8; 289], n: u8,
+    table: &[u8], index: &[u16], p: u8, matrix: &[u8; MATRIX_LENGTH], n: u8,
     write: bool, room: &mut [u8], ws: &mut [u8],
 ) -> Emit
     ensures { λ r. ⌜ Emits (now (table .entry)) (now (index .entry)) (now (matrix .entry)) p n write (now (room .entry)) (now (ws .entry))
         r (now (room .exit)) (now (ws .exit)) ⌝ }
 {
-    let begun = Emit { status: 0, used: 7, gates: 0, next: n as u16 + 1, highest: n as u16 };
-    let root = start(index, 512);
-    emit_whole(table, index, p, matrix, p, root, 32, all(n), no_controls(), write, room, ws, begun)
+    let begun = Emit { status: 0, used: HEADER_LENGTH, gates: 0, next: n as u16 + 1, highest: n as u16 };
+    let root = start(index, ROOTS_AT);
+    emit_whole(table, index, p, matrix, p, root, MOST_DEPTH, all(n), no_controls(), write, room, ws, begun)
 }

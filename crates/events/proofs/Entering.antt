@@ -10,12 +10,13 @@ use borrow.Author.Tests.{eq-eqb, ne-eqb}
 use lib.ListN.{length, getD, drop, drop-of-length-le}
 use lib.Seq.{drop-cons}
 use lib.Dec.{eqb}
+use Rattle.limits.specs.Sizes.{slotLength}
 use Rattle.model.specs.Gates.{Controls, Gate, flip, swapOf, exchange}
 use Rattle.model.specs.Emission.{Event, places, under, swaps, entryGates, samePair, allEntryGates}
 use Rattle.model.proofs.Tests.{byBool}
 use Rattle.records.proofs.Laws.{and-cond}
 use Rattle.events.specs.declared.Emit.{Emit}
-use Rattle.events.specs.Scan.{Seen, seen, scan, bytesFrom, slotLength, slotProcedure, slotList, wireOf, slotOf, heldIn}
+use Rattle.events.specs.Scan.{Seen, seen, scan, bytesFrom, slotListLength, slotProcedure, slotList, wireOf, slotOf, heldIn}
 use Rattle.events.specs.Slots.{pairAt, turned, Differ, entryAt}
 use Rattle.events.proofs.ScanLaws.{scan-append}
 use Rattle.events.proofs.Leaves.{further, spent}
@@ -161,7 +162,7 @@ module _ (ws : List ℕ) (d e : ℕ) (back write : Bool) (st : Emit) (room F L :
 
 -- the ways out of `emit_entry`
 module _ (ws : List ℕ) (d e : ℕ) (back write : Bool) (st : Emit) (room : List ℕ) (f m : ℕ) (b : Bool)
-    (is-f : f ≡ slotProcedure ws d) (is-m : m ≡ slotLength ws d) (is-b : b ≡ pairAt ws e f m) where
+    (is-f : f ≡ slotProcedure ws d) (is-m : m ≡ slotListLength ws d) (is-b : b ≡ pairAt ws e f m) where
   pub entry-same : (y : Seen) → b ≡ true → y ≡ scan write (turned back (entryGates (slotOf ws d) (slotOf ws e))) (seen st room) →
       y ≡ scan write (turned back (entryAt ws d e)) (seen st room)
   unfolding entryAt
@@ -179,15 +180,15 @@ unfolding bytesFrom
 bytes-length bs at zero = refl
 bytes-length bs at (suc n) = ap suc (bytes-length bs (at + 1) n)
 
-pair-is : (ws : List ℕ) (d e : ℕ) → samePair (slotOf ws d) (slotOf ws e) ≡ pairAt ws e (slotProcedure ws d) (slotLength ws d)
+pair-is : (ws : List ℕ) (d e : ℕ) → samePair (slotOf ws d) (slotOf ws e) ≡ pairAt ws e (slotProcedure ws d) (slotListLength ws d)
 unfolding samePair slotOf pairAt
-pair-is ws d e = rw (bytes-length ws (34 * d + 2) (slotLength ws d), bytes-length ws (34 * e + 2) (slotLength ws e))
-    (and-cond (eqb (slotProcedure ws e) (slotProcedure ws d)) (eqb (slotLength ws e) (slotLength ws d)))
+pair-is ws d e = rw (bytes-length ws (slotLength * d + 2) (slotListLength ws d), bytes-length ws (slotLength * e + 2) (slotListLength ws e))
+    (and-cond (eqb (slotProcedure ws e) (slotProcedure ws d)) (eqb (slotListLength ws e) (slotListLength ws d)))
 
 entries-cons : (ws : List ℕ) (d e n : ℕ) →
     allEntryGates (slotOf ws d) (heldIn ws e (suc n)) ≡ entryAt ws d e ++ allEntryGates (slotOf ws d) (heldIn ws (e + 1) n)
 unfolding heldIn allEntryGates entryAt
-entries-cons ws d e n = byBool (pairAt ws e (slotProcedure ws d) (slotLength ws d))
+entries-cons ws d e n = byBool (pairAt ws e (slotProcedure ws d) (slotListLength ws d))
     (λ t. rw (t, pair-is ws d e ∙ t, allEntryGates))
     (λ t. rw (t, pair-is ws d e ∙ t, allEntryGates))
 

@@ -10,14 +10,15 @@ use borrow.Author.Tests.{eqb-true, le-ltb, ne-eqb}
 use lib.ListN.{length, getD, set, length-set}
 use lib.Seq.{sets, getD-set-same, getD-set-other}
 use lib.Dec.{eqb}
-use Rattle.model.specs.Limits.{mostWires, mostCircuit}
+use Rattle.limits.specs.Sizes.{slotLength, slotsLength}
+use Rattle.model.specs.Limits.{mostWires, mostCircuit, mostQubits}
 use Rattle.model.specs.Emission.{Event, takes, places, frees, invocation}
 use Rattle.model.specs.Circuit.{encode}
 use Rattle.model.specs.Answers.{usable}
 use Rattle.model.proofs.Tests.{byBool, byLt, byEq}
 use Rattle.agreement.proofs.Peak.{OnlyGates}
 use Rattle.events.specs.declared.Emit.{Emit}
-use Rattle.events.specs.Scan.{Seen, seen, emitOf, placed, stored, scan, bytesFrom, slotAt, slotLength, slotProcedure, slotList, slotOf, heldIn}
+use Rattle.events.specs.Scan.{Seen, seen, emitOf, placed, stored, scan, bytesFrom, slotAt, slotListLength, slotProcedure, slotList, slotOf, heldIn}
 use Rattle.events.specs.Slots.{filled, pairAt, appears}
 use Rattle.events.specs.Follows.{Follows}
 use Rattle.events.proofs.ScanLaws.{scan-append, scan-stopped, scan-places, scan-no-gate, scan-many, scan-next, nextAfter}
@@ -87,19 +88,19 @@ module _ (write : Bool) where
 
 -- slots below a wire that nothing changes
 module _ (ws ws₁ : List ℕ) (top : ℕ) (same : (i : ℕ) → i < slotAt top → getD ws₁ i 0 ≡ getD ws i 0) where
-  bytes-kept : (at n : ℕ) → at + n ≤ 34 * top → bytesFrom ws₁ at n ≡ bytesFrom ws at n
+  bytes-kept : (at n : ℕ) → at + n ≤ slotLength * top → bytesFrom ws₁ at n ≡ bytesFrom ws at n
   unfolding bytesFrom
   bytes-kept at zero h = refl
   bytes-kept at (suc n) h = rw (same at (omega arith), bytes-kept (at + 1) n (omega arith))
 
-  pub length-kept : (a : ℕ) → a < top → slotLength ws₁ a ≡ slotLength ws a
-  length-kept a h = rw (same (34 * a + 1) (omega arith))
+  pub length-kept : (a : ℕ) → a < top → slotListLength ws₁ a ≡ slotListLength ws a
+  length-kept a h = rw (same (slotLength * a + 1) (omega arith))
 
   pub slot-kept : (a : ℕ) → a < top → slotOf ws₁ a ≡ slotOf ws a
   unfolding slotOf
   slot-kept a h =
-    let b : 34 * a + 2 + slotLength ws a ≤ 34 * top = omega arith in
-    rw (same (34 * a) (omega arith), length-kept a h, bytes-kept (34 * a + 2) (slotLength ws a) b)
+    let b : slotLength * a + 2 + slotListLength ws a ≤ slotLength * top = omega arith in
+    rw (same (slotLength * a) (omega arith), length-kept a h, bytes-kept (slotLength * a + 2) (slotListLength ws a) b)
 
   pub held-kept : (a n : ℕ) → a + n ≤ top → heldIn ws₁ a n ≡ heldIn ws a n
   unfolding heldIn
@@ -109,7 +110,7 @@ module _ (ws ws₁ : List ℕ) (top : ℕ) (same : (i : ℕ) → i < slotAt top 
   pub appears-kept : (a n f m : ℕ) → a + n ≤ top → appears ws₁ a n f m ≡ appears ws a n f m
   unfolding appears pairAt
   appears-kept a zero f m h = refl
-  appears-kept a (suc n) f m h = rw (same (34 * a) (omega arith), length-kept a (omega arith), appears-kept (a + 1) n f m (omega arith))
+  appears-kept a (suc n) f m h = rw (same (slotLength * a) (omega arith), length-kept a (omega arith), appears-kept (a + 1) n f m (omega arith))
 
 pub held-append : (ws : List ℕ) (a m n : ℕ) → heldIn ws a (m + n) ≡ heldIn ws a m ++ heldIn ws (a + m) n
 unfolding heldIn
@@ -139,26 +140,26 @@ bytes-stored ws i (v ∷ vs) h =
     let next : i + 1 ≡ suc i = omega arith in
     rw (first, next) (ap (λ l. v ∷ l) (bytes-stored (set ws i v) (suc i) vs (omega arith)))
 
-module _ (ws : List ℕ) (a f : ℕ) (l : List ℕ) (space : 8704 ≤ length ws) (low : a ≤ 255) (short : length l ≤ 32) where
+module _ (ws : List ℕ) (a f : ℕ) (l : List ℕ) (space : slotsLength ≤ length ws) (low : a ≤ mostWires) (short : length l ≤ mostQubits) where
   filled-procedure : slotProcedure (filled ws a f l) a ≡ f
   filled-procedure =
-    getD-before (set ws (34 * a) f) (suc (34 * a)) (length l ∷ l) (34 * a) (omega arith) ∙ getD-set-same ws (34 * a) f 0 (omega arith)
+    getD-before (set ws (slotLength * a) f) (suc (slotLength * a)) (length l ∷ l) (slotLength * a) (omega arith) ∙ getD-set-same ws (slotLength * a) f 0 (omega arith)
 
-  filled-length : slotLength (filled ws a f l) a ≡ length l
+  filled-length : slotListLength (filled ws a f l) a ≡ length l
   filled-length =
-    let long = length-set ws (34 * a) f in
-    let at : 34 * a + 1 ≡ suc (34 * a) = omega arith in
-    let e : getD (filled ws a f l) (34 * a + 1) 0 ≡ length l = rw at
-          (getD-before (set (set ws (34 * a) f) (suc (34 * a)) (length l)) (suc (suc (34 * a))) l (suc (34 * a)) (omega arith)
-            ∙ getD-set-same (set ws (34 * a) f) (suc (34 * a)) (length l) 0 (omega arith)) in
+    let long = length-set ws (slotLength * a) f in
+    let at : slotLength * a + 1 ≡ suc (slotLength * a) = omega arith in
+    let e : getD (filled ws a f l) (slotLength * a + 1) 0 ≡ length l = rw at
+          (getD-before (set (set ws (slotLength * a) f) (suc (slotLength * a)) (length l)) (suc (suc (slotLength * a))) l (suc (slotLength * a)) (omega arith)
+            ∙ getD-set-same (set ws (slotLength * a) f) (suc (slotLength * a)) (length l) 0 (omega arith)) in
     rw e (omega arith)
 
   filled-list : slotList (filled ws a f l) a ≡ l
   filled-list =
-    let long = length-set (set ws (34 * a) f) (suc (34 * a)) (length l) in
-    let more = length-set ws (34 * a) f in
-    let at : 34 * a + 2 ≡ suc (suc (34 * a)) = omega arith in
-    rw (filled-length, at) (bytes-stored (set (set ws (34 * a) f) (suc (34 * a)) (length l)) (suc (suc (34 * a))) l (omega arith))
+    let long = length-set (set ws (slotLength * a) f) (suc (slotLength * a)) (length l) in
+    let more = length-set ws (slotLength * a) f in
+    let at : slotLength * a + 2 ≡ suc (suc (slotLength * a)) = omega arith in
+    rw (filled-length, at) (bytes-stored (set (set ws (slotLength * a) f) (suc (slotLength * a)) (length l)) (suc (suc (slotLength * a))) l (omega arith))
 
   pub filled-is : slotOf (filled ws a f l) a ≡ invocation f l a
   unfolding slotOf

@@ -10,7 +10,8 @@ use borrow.Author.Tests.{eqb-true, le-ltb, lt-ltb, eq-eqb, ne-eqb}
 use lib.ListN.{length, length-take}
 use lib.Seq.{length-sets}
 use lib.Dec.{eqb}
-use Rattle.model.specs.Limits.{mostWires}
+use Rattle.limits.specs.Sizes.{slotsLength}
+use Rattle.model.specs.Limits.{mostWires, mostQubits, manyWires}
 use Rattle.model.specs.Gates.{Controls, flip}
 use Rattle.model.specs.Emission.{places, frees, Invocation, invocation, invokes, invoked, returns}
 use Rattle.model.proofs.Tests.{byBool, byLt, byEq, not-zero}
@@ -85,7 +86,7 @@ module _ (f : ℕ) (cs : Controls) (write : Bool) (st : Emit) (room ws : List �
   pub invoke-none : (l : List ℕ) (n : ℕ) → n ≡ length l → n ≡ 0 → Invokes f l cs write st room ws st room ws
   invoke-none l n is e = fills-slot (λ space. none-invoked l (sym is ∙ e))
 
-  module _ (q : ℕ) (l : List ℕ) (short : length (q ∷ l) ≤ 32) (space : 8704 ≤ length ws) where
+  module _ (q : ℕ) (l : List ℕ) (short : length (q ∷ l) ≤ mostQubits) (space : slotsLength ≤ length ws) where
     refused-before : (a r : Emit) (room₁ ws₁ : List ℕ) → (st .status ≡ 0 → ⊥) → seen a ws₁ ≡ seen st ws →
         seen r room₁ ≡ scan write (places (flip cs (wireOf (st .next))) ∷ []) (seen a room) →
         Opens write (invokes (q ∷ l) cs (st .next)) (invoked f (q ∷ l) (st .next)) st room ws r room₁ ws₁
@@ -94,19 +95,19 @@ module _ (f : ℕ) (cs : Controls) (write : Bool) (st : Emit) (room ws : List �
       rw (seen-emit still, seen-list still, seen-list e)
         (record { follows = follows-stopped write _ st room ws h; held = λ z. absurd (h z) })
 
-    refused-now : (a r : Emit) (room₁ ws₁ : List ℕ) → st .status ≡ 0 → 255 < st .next → seen a ws₁ ≡ seen (stopped st 22) ws →
+    refused-now : (a r : Emit) (room₁ ws₁ : List ℕ) → st .status ≡ 0 → mostWires < st .next → seen a ws₁ ≡ seen (stopped st manyWires) ws →
         seen r room₁ ≡ scan write (places (flip cs (wireOf (st .next))) ∷ []) (seen a room) →
         Opens write (invokes (q ∷ l) cs (st .next)) (invoked f (q ∷ l) (st .next)) st room ws r room₁ ws₁
     unfolding invokes
     refused-now a r room₁ ws₁ ok h e p =
-      let still : seen r room₁ ≡ seen (stopped st 22) room = p ∙ rw (seen-emit e) (scan-stopped write _ (stopped st 22) room refl) in
+      let still : seen r room₁ ≡ seen (stopped st manyWires) room = p ∙ rw (seen-emit e) (scan-stopped write _ (stopped st manyWires) room refl) in
       rw (seen-emit still, seen-list still, seen-list e) (record {
         follows = record {
           scanned = sym (scan-no-wire write _ st room ok (st .next) h);
           long = refl; rises = le-refl (st .next); low = λ k. k; kept = λ i k. refl };
         held = λ z. absurd (not-zero 21 z) })
 
-    invoked-now : (a r : Emit) (room₁ ws₁ : List ℕ) → st .status ≡ 0 → st .next ≤ 255 →
+    invoked-now : (a r : Emit) (room₁ ws₁ : List ℕ) → st .status ≡ 0 → st .next ≤ mostWires →
         seen a ws₁ ≡ seen (taken st (st .next)) (filled ws (st .next) f (q ∷ l)) →
         seen r room₁ ≡ scan write (places (flip cs (wireOf (st .next))) ∷ []) (seen a room) →
         Opens write (invokes (q ∷ l) cs (st .next)) (invoked f (q ∷ l) (st .next)) st room ws r room₁ ws₁
@@ -129,23 +130,23 @@ module _ (f : ℕ) (cs : Controls) (write : Bool) (st : Emit) (room ws : List �
         Opens write (invokes (q ∷ l) cs (st .next)) (invoked f (q ∷ l) (st .next)) st room ws r room₁ ws₁
     unfolding taking
     invoked-slot a r room₁ ws₁ e p = byEq (st .status) 0
-      (λ ok. byLt 255 (st .next)
+      (λ ok. byLt mostWires (st .next)
         (λ lt. refused-now a r room₁ ws₁ ok lt (rw (eq-eqb (st .status) 0 ok, lt-ltb mostWires (st .next) lt) at e) p)
         (λ le. invoked-now a r room₁ ws₁ ok le (rw (eq-eqb (st .status) 0 ok, le-ltb mostWires (st .next) le) at e) p))
       (λ h. refused-before a r room₁ ws₁ h (rw (ne-eqb (st .status) 0 h) at e) p)
 
-  some-invoked : (l : List ℕ) → (length l ≡ 0 → ⊥) → length l ≤ 32 → 8704 ≤ length ws → (a r : Emit) (room₁ ws₁ : List ℕ) →
+  some-invoked : (l : List ℕ) → (length l ≡ 0 → ⊥) → length l ≤ mostQubits → slotsLength ≤ length ws → (a r : Emit) (room₁ ws₁ : List ℕ) →
       seen a ws₁ ≡ taking f l st ws → seen r room₁ ≡ scan write (places (flip cs (wireOf (st .next))) ∷ []) (seen a room) →
       Opens write (invokes l cs (st .next)) (invoked f l (st .next)) st room ws r room₁ ws₁
   some-invoked [] h short space a r room₁ ws₁ e p = absurd (h refl)
   some-invoked (q ∷ l) h short space a r room₁ ws₁ e p = invoked-slot q l short space a r room₁ ws₁ e p
 
-  pub invoke-some : (list : Qubits) (n w : ℕ) (a r : Emit) (room₁ ws₁ : List ℕ) → length (list .at) ≡ 32 → n ≡ length (qubitsOf list) → (n ≡ 0 → ⊥) →
+  pub invoke-some : (list : Qubits) (n w : ℕ) (a r : Emit) (room₁ ws₁ : List ℕ) → length (list .at) ≡ mostQubits → n ≡ length (qubitsOf list) → (n ≡ 0 → ⊥) →
       w ≡ wireOf (st .next) → seen a ws₁ ≡ taking f (qubitsOf list) st ws → seen r room₁ ≡ scan write (places (flip cs w) ∷ []) (seen a room) →
       Invokes f (qubitsOf list) cs write st room ws r room₁ ws₁
   invoke-some list n w a r room₁ ws₁ all is h v e p =
     let t : length (qubitsOf list) ≡ min (list .len) (length (list .at)) = length-take (list .len) (list .at) in
-    let short : length (qubitsOf list) ≤ 32 = omega arith in
+    let short : length (qubitsOf list) ≤ mostQubits = omega arith in
     fills-slot (λ space. some-invoked (qubitsOf list) (λ z. h (is ∙ z)) short space a r room₁ ws₁ e (rw v at p))
 
 pub ruleset invoking = (needs, invoke-none, invoke-some)

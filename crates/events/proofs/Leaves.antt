@@ -13,7 +13,8 @@ use borrow.Author.Tests.{lt-ltb, le-ltb, le-leb, lt-leb, eq-eqb, ne-eqb, leb-tru
 use lib.ListN.{length, getD, set, take, drop, length-take, drop-of-length-le, List·getD-eq-default}
 use lib.Seq.{sets, drop-cons, take-suc, take-suc-set, take-all, getD-take}
 use lib.Dec.{eqb, leb}
-use Rattle.model.specs.Limits.{mostWires}
+use Rattle.limits.specs.Sizes.{slotLength}
+use Rattle.model.specs.Limits.{mostWires, mostQubits, mostCircuit, manyWires, noRoom}
 use Rattle.model.specs.Gates.{Controls, noControls, asking, exchange}
 use Rattle.model.specs.Emission.{Event, places, under}
 use Rattle.model.specs.Circuit.{encode}
@@ -26,7 +27,7 @@ use Rattle.circuit.proofs.Putting.{sets-past}
 use Rattle.step.specs.declared.Qubits.{Qubits}
 use Rattle.step.specs.Steps.{qubitsOf}
 use Rattle.events.specs.declared.Emit.{Emit}
-use Rattle.events.specs.Scan.{Seen, seen, stopped, freed, placed, stored, scan, bytesFrom, slotLength, slotProcedure, slotList}
+use Rattle.events.specs.Scan.{Seen, seen, stopped, freed, placed, stored, scan, bytesFrom, slotListLength, slotProcedure, slotList}
 use Rattle.events.specs.Slots.{filled, taking, returned, pairAt, appears, opensAt, seekOf}
 use Rattle.events.proofs.ScanLaws.{scan-stopped, scan-places, scan-no-gate, scan-many}
 
@@ -53,23 +54,23 @@ unfolding scan
 scan-none write x = refl
 
 module _ (write : Bool) (g : NewGate) (st : Emit) (room : List ℕ) (ok : st .status ≡ 0) where
-  pub place-many : (r : Emit) → 65536 ≤ st .gates → r ≡ stopped st 23 → seen r room ≡ scan write (places (gateFrom g) ∷ []) (seen st room)
+  pub place-many : (r : Emit) → mostCircuit ≤ st .gates → r ≡ stopped st noRoom → seen r room ≡ scan write (places (gateFrom g) ∷ []) (seen st room)
   place-many r h e = rw e (sym (scan-many write [] st room ok (gateFrom g) h))
 
   module _ (n : ℕ) (is : n ≡ length (encode (gateFrom g))) (b : Bool) (fits : b ≡ leb (st .used + n) (usable (length room))) where
     pub sum-fits : b ≡ true → Fits w64 (st .used + n)
     sum-fits e = let h = leb-true (st .used + n) (usable (length room)) (sym fits ∙ e) in record { fits = omega arith }
 
-    pub place-no-room : (r : Emit) → b ≡ false → r ≡ stopped st 23 → seen r room ≡ scan write (places (gateFrom g) ∷ []) (seen st room)
+    pub place-no-room : (r : Emit) → b ≡ false → r ≡ stopped st noRoom → seen r room ≡ scan write (places (gateFrom g) ∷ []) (seen st room)
     place-no-room r e q = rw q (sym (scan-no-gate write [] st room ok (gateFrom g)
       (leb-false (st .used + length (encode (gateFrom g))) (usable (length room)) (rw (← is) (sym fits ∙ e)))))
 
-    at-place : b ≡ true → st .gates < 65536 →
+    at-place : b ≡ true → st .gates < mostCircuit →
         seen (placed st n) (stored write room (st .used) (encode (gateFrom g))) ≡ scan write (places (gateFrom g) ∷ []) (seen st room)
     at-place e h = rw is (sym (scan-places write [] st room ok (gateFrom g)
       (leb-true (st .used + length (encode (gateFrom g))) (usable (length room)) (rw (← is) (sym fits ∙ e))) h ∙ scan-none write _))
 
-    pub place-written : (after : List ℕ) → b ≡ true → st .gates < 65536 → write ≡ true → after ≡ sets room (st .used) (encode (gateFrom g)) →
+    pub place-written : (after : List ℕ) → b ≡ true → st .gates < mostCircuit → write ≡ true → after ≡ sets room (st .used) (encode (gateFrom g)) →
         seen (placed st n) after ≡ scan write (places (gateFrom g) ∷ []) (seen st room)
     place-written after e h w q = rw q (kept write w (at-place e h))
       where
@@ -77,7 +78,7 @@ module _ (write : Bool) (g : NewGate) (st : Emit) (room : List ℕ) (ok : st .st
             seen (placed st n) (sets room (st .used) (encode (gateFrom g))) ≡ x
         kept v e p = rw e at p
 
-    pub place-measured : b ≡ true → st .gates < 65536 → write ≡ false →
+    pub place-measured : b ≡ true → st .gates < mostCircuit → write ≡ false →
         seen (placed st n) room ≡ scan write (places (gateFrom g) ∷ []) (seen st room)
     place-measured e h w = kept write w (at-place e h)
       where
@@ -102,11 +103,11 @@ module _ (f : ℕ) (l : List ℕ) (st : Emit) (ws : List ℕ) where
   unfolding taking
   take-stopped h = rw (ne-eqb (st .status) 0 h)
 
-  pub take-past : (r : Emit) → st .status ≡ 0 → 255 < st .next → r ≡ stopped st 22 → seen r ws ≡ taking f l st ws
+  pub take-past : (r : Emit) → st .status ≡ 0 → mostWires < st .next → r ≡ stopped st manyWires → seen r ws ≡ taking f l st ws
   unfolding taking
   take-past r e h q = rw (q, eq-eqb (st .status) 0 e, lt-ltb mostWires (st .next) h)
 
-  pub take-one : (after : List ℕ) (h : ℕ) → st .status ≡ 0 → st .next ≤ 255 → after ≡ filled ws (st .next) f l → h ≡ max (st .highest) (st .next) →
+  pub take-one : (after : List ℕ) (h : ℕ) → st .status ≡ 0 → st .next ≤ mostWires → after ≡ filled ws (st .next) f l → h ≡ max (st .highest) (st .next) →
       seen (record { status = 0; used = st .used; gates = st .gates; next = st .next + 1; highest = h }) after ≡ taking f l st ws
   unfolding taking
   take-one after h e le p q = rw (p, q, eq-eqb (st .status) 0 e, le-ltb mostWires (st .next) le)
@@ -118,7 +119,7 @@ module _ (q : Qubits) (i n : ℕ) (is : n ≡ length (qubitsOf q)) where
   pub entry-none : n ≤ i → 0 ≡ getD (qubitsOf q) i 0
   entry-none h = let k : length (qubitsOf q) ≤ i = omega arith in sym (List·getD-eq-default (qubitsOf q) 0 k)
 
-  pub entry-index : length (q .at) ≡ 32 → i < n → i < 32
+  pub entry-index : length (q .at) ≡ mostQubits → i < n → i < mostQubits
   entry-index e h = let t : length (qubitsOf q) ≡ min (q .len) (length (q .at)) = length-take (q .len) (q .at) in omega arith
 
   pub entry-some : i < n → getD (q .at) i 0 ≡ getD (qubitsOf q) i 0
@@ -146,8 +147,8 @@ module _ (ws₀ : List ℕ) (at : ℕ) (l ws : List ℕ) (place i n : ℕ) (is :
   stored-full (still e) h = sets-past ws place (drop i l) h ∙ e
 
 pub slot-filled : (ws : List ℕ) (a f : ℕ) (q : Qubits) (n : ℕ) (middle end : List ℕ) → n ≡ length (qubitsOf q) →
-    middle ≡ sets ws (34 * a) (f ∷ n ∷ []) → end ≡ sets middle (34 * a + 2) (qubitsOf q) → end ≡ filled ws a f (qubitsOf q)
-slot-filled ws a f q n middle end is m e = let k : 34 * a + 2 ≡ suc (suc (34 * a)) = omega arith in rw (e, m, is, k)
+    middle ≡ sets ws (slotLength * a) (f ∷ n ∷ []) → end ≡ sets middle (slotLength * a + 2) (qubitsOf q) → end ≡ filled ws a f (qubitsOf q)
+slot-filled ws a f q n middle end is m e = let k : slotLength * a + 2 ≡ suc (suc (slotLength * a)) = omega arith in rw (e, m, is, k)
 
 pub ruleset entries = (needs, entry-none, entry-index, entry-some, slot-filled)
 
@@ -155,7 +156,7 @@ pub ruleset storing = (needs, storing-starts, storing-next, stored-all, stored-f
 
 -- the ways out of `pair_at`, `appears`, `opens` and `seek`
 module _ (ws : List ℕ) (a f m x : ℕ) (is : x ≡ slotProcedure ws a) where
-  pub pair-yes : (y : ℕ) → x ≡ f → y ≡ slotLength ws a → eqb y m ≡ pairAt ws a f m
+  pub pair-yes : (y : ℕ) → x ≡ f → y ≡ slotListLength ws a → eqb y m ≡ pairAt ws a f m
   unfolding pairAt
   pair-yes y e q = rw (← is, eq-eqb x f e, q)
 
@@ -184,7 +185,7 @@ module _ (ws : List ℕ) (from upto f m a : ℕ) (left : appears ws a (upto - a)
   unfolding appears
   appears-on b h e q = rw (further upto a h, ← e, q) at left
 
-module _ (ws : List ℕ) (base m e x : ℕ) (is : x ≡ slotLength ws e) where
+module _ (ws : List ℕ) (base m e x : ℕ) (is : x ≡ slotListLength ws e) where
   pub opens-yes : (f : ℕ) (b : Bool) → x ≡ m → f ≡ slotProcedure ws e → b ≡ appears ws base (e - base) f m → not b ≡ opensAt ws base m e
   unfolding opensAt
   opens-yes f b q p r = rw (← is, eq-eqb x m q, ← p, ← r)
@@ -245,11 +246,11 @@ bytes-take bs at (suc k) zero h = absurd (not-suc-le-zero h)
 bytes-take bs at (suc k) (suc n) h = ap (λ l. getD bs at 0 ∷ l) (bytes-take bs (at + 1) k n (le-of-suc-le-suc h))
 
 module _ (ws at : List ℕ) (from i : ℕ) (inv : take i at ≡ bytesFrom ws from i) where
-  pub load-next : (v n : ℕ) → length at ≡ 32 → i < n → n ≤ 32 → v ≡ getD ws (from + i) 0 → take (i + 1) (set at i v) ≡ bytesFrom ws from (i + 1)
+  pub load-next : (v n : ℕ) → length at ≡ mostQubits → i < n → n ≤ mostQubits → v ≡ getD ws (from + i) 0 → take (i + 1) (set at i v) ≡ bytesFrom ws from (i + 1)
   load-next v n l h low e = fill-next at i v (bytesFrom ws from i) (bytesFrom ws from (i + 1)) inv (omega arith)
     (rw (e, add-one i) (bytes-snoc ws from i))
 
-  pub load-ends : (a n : ℕ) → from ≡ 34 * a + 2 → n ≡ slotLength ws a → i ≤ n → n ≤ i → take n at ≡ slotList ws a
+  pub load-ends : (a n : ℕ) → from ≡ slotLength * a + 2 → n ≡ slotListLength ws a → i ≤ n → n ≤ i → take n at ≡ slotList ws a
   load-ends a n p q low h = let k : i ≡ n = omega arith in rw (← q, ← p, ← k) inv
 
 pub load-starts : (ws at : List ℕ) (from : ℕ) → take 0 at ≡ bytesFrom ws from 0
@@ -266,12 +267,12 @@ take-map f (suc n) [] = refl
 take-map f (suc n) (x ∷ l) = ap (λ r. f x ∷ r) (take-map f n l)
 
 module _ (u v : ℕ) (old at : List ℕ) (i : ℕ) (inv : take i at ≡ map (exchange u v) (take i old)) where
-  pub exchange-next : (x : ℕ) → length at ≡ 32 → length old ≡ 32 → i < 32 → x ≡ exchange u v (getD old i 0) →
+  pub exchange-next : (x : ℕ) → length at ≡ mostQubits → length old ≡ mostQubits → i < mostQubits → x ≡ exchange u v (getD old i 0) →
       take (i + 1) (set at i x) ≡ map (exchange u v) (take (i + 1) old)
   exchange-next x l o h e = fill-next at i x (map (exchange u v) (take i old)) (map (exchange u v) (take (i + 1) old)) inv (omega arith)
     (rw (e, add-one i, take-suc old i 0 (omega arith)) (sym (map-snoc (exchange u v) (take i old) (getD old i 0))))
 
-  pub exchange-ends : (n : ℕ) → length at ≡ 32 → length old ≡ 32 → 32 ≤ i → take n at ≡ map (exchange u v) (take n old)
+  pub exchange-ends : (n : ℕ) → length at ≡ mostQubits → length old ≡ mostQubits → mostQubits ≤ i → take n at ≡ map (exchange u v) (take n old)
   exchange-ends n l o h =
     let all : take i at ≡ at = take-all i at (omega arith) in
     let whole : take i old ≡ old = take-all i old (omega arith) in

@@ -178,10 +178,10 @@ highest-after n h (takes w ∷ es) le = let ih = highest-after n (max h w) es (o
 highest-after n h (places g ∷ es) le = highest-after n h es le
 highest-after n h (frees a ∷ es) le = highest-after n h es le
 
-no-wire : _≡_ {A = ℕ} 22 0 → ⊥
+no-wire : _≡_ {A = ℕ} manyWires 0 → ⊥
 no-wire q = omega arith
 
-no-gate : _≡_ {A = ℕ} 23 0 → ⊥
+no-gate : _≡_ {A = ℕ} noRoom 0 → ⊥
 no-gate q = omega arith
 
 next-here : (write : Bool) (st : Emit) (room : List ℕ) → emitOf (scan write [] (seen st room)) .next ≡ st .next
@@ -224,19 +224,19 @@ module _ (write : Bool) (P : Program) (n : ℕ) (room : List ℕ) (header : head
   emission-status = scan-fit write (emission P n) (begun n) room start-sound
 
   pub emission-ends : fit (usable (length room)) headerLength (emission P n) ≡ 0 →
-      scan write (emission P n) (seen (begun n) room) ≡ seen (emissionEnd P n) (stored write room 7 (encodeAll (gates (emission P n))))
+      scan write (emission P n) (seen (begun n) room) ≡ seen (emissionEnd P n) (stored write room headerLength (encodeAll (gates (emission P n))))
   emission-ends e =
     let es = emission P n in
     let back : nextAfter (n + 1) es ≡ n + 1 = let z : suc n ≡ n + 1 = omega arith in
           stacked-after n (n + 1) (n + 1) es (subst (λ (v : ℕ). Stacked n v es v) z (emission-stacked P n)) in
     let top : highestAfter n es ≡ n + peak [] es = let a = highest-after n n es (omega arith) in let b = peak-highest P n in omega arith in
     let none : 0 + length (gates es) ≡ length (gates es) = omega arith in
-    scan-all write es (begun n) room start-sound (fit-all (usable (length room)) 7 es e) ∙ rw (back, top, none)
+    scan-all write es (begun n) room start-sound (fit-all (usable (length room)) headerLength es e) ∙ rw (back, top, none)
 
   -- the bytes of the gates lie within the room
-  pub emission-within : fit (usable (length room)) headerLength (emission P n) ≡ 0 → 7 + length (encodeAll (gates (emission P n))) ≤ length room
+  pub emission-within : fit (usable (length room)) headerLength (emission P n) ≡ 0 → headerLength + length (encodeAll (gates (emission P n))) ≤ length room
   emission-within e =
-    let a = fits-length (usable (length room)) headerLength (emission P n) header (fit-all (usable (length room)) 7 (emission P n) e) in omega arith
+    let a = fits-length (usable (length room)) headerLength (emission P n) header (fit-all (usable (length room)) headerLength (emission P n) e) in omega arith
 
 measured-go : (es : List Event) (e : Event) (st : Emit) (room : List ℕ) → ((s : Emit) → roomOf (scan false es (seen s room)) ≡ room) →
     roomOf (scan false es (goes false e st room)) ≡ room

@@ -4,6 +4,7 @@ use mathlib.Core.Path.{_≡_}
 use mathlib.Core.Bool.{Bool}
 use mathlib.Core.List.{List}
 use lib.ListN.{length, getD}
+use Rattle.limits.specs.Sizes.{wireCount, slotsLength}
 use Rattle.model.specs.Gates.{Controls}
 use Rattle.model.specs.Emission.{Event, Invocation, invoked, invokes}
 use Rattle.events.specs.declared.Emit.{Emit}
@@ -14,7 +15,7 @@ pub record Follows (write : Bool) (es : List Event) (st : Emit) (room ws : List 
   pub scanned : seen r room₁ ≡ scan write es (seen st room)
   pub long : length ws₁ ≡ length ws
   pub rises : st .next ≤ r .next
-  pub low : st .next ≤ 256 → r .next ≤ 256
+  pub low : st .next ≤ wireCount → r .next ≤ wireCount
   pub kept : (i : ℕ) → i < slotAt (st .next) → getD ws₁ i 0 ≡ getD ws i 0
 
 -- the same, and the slots from the first next wire on hold the new invocations
@@ -24,5 +25,5 @@ pub record Opens (write : Bool) (es : List Event) (news : List Invocation) (st :
 
 -- a call that names a pair
 pub data Invokes (f : ℕ) (l : List ℕ) (cs : Controls) (write : Bool) (st : Emit) (room ws : List ℕ) (r : Emit) (room₁ ws₁ : List ℕ) : Type 0 where
-  fills-slot : (8704 ≤ length ws → Opens write (invokes l cs (st .next)) (invoked f l (st .next)) st room ws r room₁ ws₁) →
+  fills-slot : (slotsLength ≤ length ws → Opens write (invokes l cs (st .next)) (invoked f l (st .next)) st room ws r room₁ ws₁) →
       Invokes f l cs write st room ws r room₁ ws₁

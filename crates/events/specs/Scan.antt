@@ -5,7 +5,8 @@ use mathlib.Core.List.{List, [], _∷_}
 use lib.ListN.{length, getD}
 use lib.Seq.{sets}
 use lib.Dec.{eqb, ltb, leb}
-use Rattle.model.specs.Limits.{mostWires, mostCircuit, mostQubits, manyWires, noRoom}
+use Rattle.limits.specs.Sizes.{slotLength}
+use Rattle.model.specs.Limits.{mostWires, mostCircuit, mostQubits, manyWires, noRoom, headerLength}
 use Rattle.model.specs.Syntax.{Program}
 use Rattle.model.specs.Emission.{Event, takes, places, frees, Invocation, invocation, emission, gates, peak}
 use Rattle.model.specs.Circuit.{encode, encodeAll}
@@ -57,12 +58,12 @@ scan write (e ∷ es) (seen st room) = scan write es (cond (eqb (st .status) 0) 
 
 -- an emission with n qubits starts behind the header, with wire n + 1
 abbrev pub begun : ℕ → Emit
-begun n = record { status = 0; used = 7; gates = 0; next = n + 1; highest = n }
+begun n = record { status = 0; used = headerLength; gates = 0; next = n + 1; highest = n }
 
 -- where one ends that fits
 abbrev pub emissionEnd : Program → ℕ → Emit
 emissionEnd P n = record {
-  status = 0; used = 7 + length (encodeAll (gates (emission P n))); gates = length (gates (emission P n));
+  status = 0; used = headerLength + length (encodeAll (gates (emission P n))); gates = length (gates (emission P n));
   next = n + 1; highest = n + peak [] (emission P n) }
 
 -- n bytes from a place on, 0 past the end
@@ -72,16 +73,16 @@ bytesFrom bs at (suc n) = getD bs at 0 ∷ bytesFrom bs (at + 1) n
 
 -- an ancilla's slot of the workspace holds the invocation that took it: procedure, length, 32 entries
 abbrev pub slotAt : ℕ → ℕ
-slotAt a = 34 * a
+slotAt a = slotLength * a
 
-abbrev pub slotLength : List ℕ → ℕ → ℕ
-slotLength ws a = min (getD ws (slotAt a + 1) 0) mostQubits
+abbrev pub slotListLength : List ℕ → ℕ → ℕ
+slotListLength ws a = min (getD ws (slotAt a + 1) 0) mostQubits
 
 abbrev pub slotProcedure : List ℕ → ℕ → ℕ
 slotProcedure ws a = getD ws (slotAt a) 0
 
 abbrev pub slotList : List ℕ → ℕ → List ℕ
-slotList ws a = bytesFrom ws (slotAt a + 2) (slotLength ws a)
+slotList ws a = bytesFrom ws (slotAt a + 2) (slotListLength ws a)
 
 -- the wire of an ancilla. None is above 255: for such the code has 0.
 abbrev pub wireOf : ℕ → ℕ

@@ -9,7 +9,7 @@ use lib.Dec.{eqb, ltb}
 use Rattle.model.specs.Limits.{mostWires, manyWires}
 use Rattle.model.specs.Emission.{Event, swaps, entryGates}
 use Rattle.events.specs.declared.Emit.{Emit}
-use Rattle.events.specs.Scan.{Seen, seen, stopped, taken, freed, slotAt, slotLength, slotProcedure, slotOf}
+use Rattle.events.specs.Scan.{Seen, seen, stopped, taken, freed, slotAt, slotListLength, slotProcedure, slotOf}
 
 -- an invocation put into the slot of its ancilla
 abbrev pub filled : List ℕ → ℕ → ℕ → List ℕ → List ℕ
@@ -28,7 +28,7 @@ returned a st = cond (eqb (st .status) 0) (freed st a) st
 
 -- is slot a of the pair (f, m)?
 unfoldable pub pairAt : List ℕ → ℕ → ℕ → ℕ → Bool
-pairAt ws a f m = cond (eqb (slotProcedure ws a) f) (eqb (slotLength ws a) m) false
+pairAt ws a f m = cond (eqb (slotProcedure ws a) f) (eqb (slotListLength ws a) m) false
 
 -- is one of n slots from a on?
 unfoldable pub appears : List ℕ → ℕ → ℕ → ℕ → ℕ → Bool
@@ -37,7 +37,7 @@ appears ws a (suc n) f m = cond (pairAt ws a f m) true (appears ws (a + 1) n f m
 
 -- does slot e of a chain from `base` on open the body of a pair with lists of length m? Then no slot before it is of its pair.
 unfoldable pub opensAt : List ℕ → ℕ → ℕ → ℕ → Bool
-opensAt ws base m e = cond (eqb (slotLength ws e) m) (not (appears ws base (e - base) (slotProcedure ws e) m)) false
+opensAt ws base m e = cond (eqb (slotListLength ws e) m) (not (appears ws base (e - base) (slotProcedure ws e) m)) false
 
 -- the first of n slots from e on that does, otherwise the slot behind them
 unfoldable pub seekOf : List ℕ → ℕ → ℕ → ℕ → ℕ → ℕ
@@ -57,4 +57,4 @@ pub record Differ (first later : List ℕ) (k r : ℕ) : Type 0 where
 
 -- the entry gates from slot e to the body of slot d, if they are of one pair
 unfoldable pub entryAt : List ℕ → ℕ → ℕ → List Event
-entryAt ws d e = cond (pairAt ws e (slotProcedure ws d) (slotLength ws d)) (entryGates (slotOf ws d) (slotOf ws e)) []
+entryAt ws d e = cond (pairAt ws e (slotProcedure ws d) (slotListLength ws d)) (entryGates (slotOf ws d) (slotOf ws e)) []

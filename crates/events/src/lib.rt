@@ -12,10 +12,11 @@ ghost use Rattle.model.specs.Emission.{places, frees, swaps, entryGates, allEnt
 ghost use Rattle.model.specs.Answers.{usable};
 ghost use Rattle.circuit.specs.Writing.{controlsFrom, gateFrom};
 ghost use Rattle.step.specs.Steps.{qubitsOf};
-ghost use Rattle.events.specs.Scan.{seen, stopped, scan, slotLength, slotProcedure, slotList, wireOf, slotOf, heldIn};
+ghost use Rattle.events.specs.Scan.{seen, stopped, scan, slotListLength, slotProcedure, slotList, wireOf, slotOf, heldIn};
 ghost use Rattle.events.specs.Slots.{filled, taking, returned, pairAt, appears, opensAt, seekOf, turned, entryAt, Differ};
 ghost use Rattle.events.specs.Follows.{Invokes};
 use circuit::write::{ControlLists, NewGate, asking, no_controls, flip_of, swap_of, gate_length, put_pair, put_gate};
+use limits::{LAST_WIRE, LIST_LENGTH, MANY_WIRES, MOST_CIRCUIT, MOST_GATES, MOST_QUBITS, NO_ROOM, SLOT_LENGTH};
 use records::byte;
 use step::{Qubits, size};
 
@@ -39,7 +40,7 @@ fn stop(st: Emit, number: u8) -> Emit
 fn usable(room: usize) -> usize
     ensures { λ r. ⌜ r ≡ usable room ⌝ }
 {
-    if room < 65536 { room } else { 65536 }
+    if room < MOST_CIRCUIT { room } else { MOST_CIRCUIT }
 }
 
 // Is there room for so many bytes more?
@@ -63,8 +64,8 @@ fn place(gate: NewGate, write: bool, room: &mut [u8], st: Emit) -> Emit
     let length = gate_length(gate);
     let used = st.used;
     let gates = st.gates;
-    if 65536 <= gates {
-        return stop(st, 23);
+    if MOST_GATES <= gates {
+        return stop(st, NO_ROOM);
     }
     if in_room(room.len(), used, length) {
         let more = Emit { status: 0, used: used + length, gates: gates + 1, next: st.next, highest: st.highest };
@@ -74,7 +75,7 @@ fn place(gate: NewGate, write: bool, room: &mut [u8], st: Emit) -> Emit
         }
         return more;
     }
-    stop(st, 23)
+    stop(st, NO_ROOM)
 }
 
 // A NOT is placed.
@@ -105,31 +106,31 @@ fn give_back(st: Emit, a: u16) -> Emit
 pub fn wire(a: u16) -> u8
     ensures { λ r. ⌜ r ≡ wireOf a ⌝ }
 {
-    if 255 < a { 0 } else { a as u8 }
+    if LAST_WIRE < a { 0 } else { a as u8 }
 }
 
 // The procedure in a slot.
 pub fn procedure(ws: &[u8], a: u16) -> u8
     ensures { λ r. ⌜ r ≡ slotProcedure (now (ws .entry)) a ⌝ }
 {
-    byte(ws, 34 * a as usize)
+    byte(ws, SLOT_LENGTH * a as usize)
 }
 
 // The length of the list in a slot.
 fn list_size(ws: &[u8], a: u16) -> u8
-    ensures { λ r. ⌜ r ≡ slotLength (now (ws .entry)) a ⌝ }
+    ensures { λ r. ⌜ r ≡ slotListLength (now (ws .entry)) a ⌝ }
 {
-    let n = byte(ws, 34 * a as usize + 1);
-    if n < 32 { n } else { 32 }
+    let n = byte(ws, SLOT_LENGTH * a as usize + 1);
+    if n < MOST_QUBITS { n } else { MOST_QUBITS }
 }
 
 // The list in a slot.
 pub fn load(ws: &[u8], a: u16) -> Qubits
     ensures { λ r. ⌜ qubitsOf r ≡ slotList (now (ws .entry)) a ⌝ }
 {
-    let from = 34 * a as usize + 2;
+    let from = SLOT_LENGTH * a as usize + 2;
     let len = list_size(ws, a);
-    let mut at = [0; 32];
+    let mut at = [0; LIST_LENGTH];
     let n = len as usize;
     let mut i = 0;
     while i < n {
@@ -171,8 +172,8 @@ fn put_entries(ws: &mut [u8], at: usize, list: Qubits)
 fn fill_slot(ws: &mut [u8], a: u16, f: u8, list: Qubits)
     ensures { λ r. ⌜ now (ws .exit) ≡ filled (now (ws .entry)) a f (qubitsOf list) ⌝ }
 {
-    put_pair(ws, 34 * a as usize, f, size(list));
-    put_entries(ws, 34 * a as usize + 2, list);
+    put_pair(ws, SLOT_LENGTH * a as usize, f, size(list));
+    put_entries(ws, SLOT_LENGTH * a as usize + 2, list);
 }
 
 fn larger(a: u16, b: u16) -> u16
@@ -189,8 +190,8 @@ fn take(f: u8, list: Qubits, ws: &mut [u8], st: Emit) -> Emit
         return st;
     }
     let next = st.next;
-    if 255 < next {
-        return stop(st, 22);
+    if LAST_WIRE < next {
+        return stop(st, MANY_WIRES);
     }
     fill_slot(ws, next, f, list);
     Emit { status: 0, used: st.used, gates: st.gates, next: next + 1, highest: larger(st.highest, next) }
@@ -269,9 +270,9 @@ fn exchanged(list: Qubits, u: u8, v: u8) -> Qubits
     ensures { λ r. ⌜ qubitsOf r ≡ map (exchange u v) (qubitsOf list) ⌝ }
 {
     let old = list.at;
-    let mut at = [0; 32];
+    let mut at = [0; LIST_LENGTH];
     let mut i = 0;
-    while i < 32 {
+    while i < LIST_LENGTH {
         at[i] = exchange(u, v, old[i]);
         i += 1;
     }

@@ -8,6 +8,7 @@ use native.Mathlib.Omega.{arith}
 use borrow.Author.Needs.{needs}
 use lib.Bits.{bitOr}
 use lib.ListN.{length}
+use Rattle.model.specs.Limits.{mostDepth, mostQubits}
 use Rattle.model.specs.Syntax.{Statement}
 use Rattle.records.specs.Fields.{removalsOf}
 use Rattle.table.specs.Index.{rootOf, statementAt}
@@ -66,7 +67,7 @@ module _ (p : ℕ) (bs ix : List ℕ) (depth i : ℕ) (deep : depth ≡ 0 → �
 
 -- body by body
 module _ (p : ℕ) (bs ix : List ℕ) (f all root more : ℕ) (so : all ≡ countsBelow p bs ix f)
-    (at : root ≡ rootOf ix f) (counted : more ≡ countsAt p bs ix 32 root) where
+    (at : root ≡ rootOf ix f) (counted : more ≡ countsAt p bs ix mostDepth root) where
   pub bodies-more : bitOr all more ≡ countsBelow p bs ix (f + 1)
   unfolding countsBelow
   bodies-more = rw (add-one f, so, counted, at)
@@ -89,8 +90,8 @@ module _ (counts j sums : ℕ) (so : sums ≡ sumsBelow counts j) where
     unfolding sumsBelow
     sums-not y n = rw (add-one j, ← so, ← e, y) n
 
-  pub sums-end : j ≤ 32 → 32 ≤ j → sums ≡ sumsBelow counts 32
-  sums-end a b = let e : j ≡ 32 = omega arith in so ∙ rw e
+  pub sums-end : j ≤ mostQubits → mostQubits ≤ j → sums ≡ sumsBelow counts mostQubits
+  sums-end a b = let e : j ≡ mostQubits = omega arith in so ∙ rw e
 
 pub sums-start : (counts : ℕ) → 1 ≡ sumsBelow counts 0
 unfolding sumsBelow

@@ -12,6 +12,8 @@ use lib.ListN.{getD, set, replicate}
 use lib.Dec.{lit<}
 use mir.Syntax.{w8, w64}
 use mir.Val.{Fits}
+use Rattle.limits.specs.Sizes.{bodyCount, rowCount}
+use Rattle.model.specs.Limits.{mostDepth, mostQubits}
 use Rattle.model.specs.Meaning.{digit}
 use Rattle.table.specs.Index.{rootOf, statementAt}
 use Rattle.reach.specs.Matrix.{recursiveIn}
@@ -72,37 +74,37 @@ module _ (matrix : List ℕ) (p f : ℕ) (now : List ℕ) (so : now ≡ ranksBel
   unfolding ranksBelow
   ranks-more r e = rw (add-one f, so, e)
 
-  pub ranks-end : f ≤ 17 → 17 ≤ f → now ≡ ranksIn matrix p
-  ranks-end a b = let e : f ≡ 17 = omega arith in so ∙ rw e
+  pub ranks-end : f ≤ bodyCount → bodyCount ≤ f → now ≡ ranksIn matrix p
+  ranks-end a b = let e : f ≡ bodyCount = omega arith in so ∙ rw e
 
-pub ranks-start : (matrix : List ℕ) (p : ℕ) → replicate 17 0 ≡ ranksBelow matrix p 0
+pub ranks-start : (matrix : List ℕ) (p : ℕ) → replicate bodyCount 0 ≡ ranksBelow matrix p 0
 unfolding ranksBelow
 ranks-start matrix p = refl
 
 module _ (ranks : List ℕ) (f : ℕ) where
-  pub rank-within : f < 17 → getD ranks f 0 ≡ rankAt ranks f
-  rank-within l = rw (lt-ltb f 17 l)
+  pub rank-within : f < bodyCount → getD ranks f 0 ≡ rankAt ranks f
+  rank-within l = rw (lt-ltb f bodyCount l)
 
-  pub rank-past : 17 ≤ f → 0 ≡ rankAt ranks f
-  rank-past l = rw (le-ltb f 17 l)
+  pub rank-past : bodyCount ≤ f → 0 ≡ rankAt ranks f
+  rank-past l = rw (le-ltb f bodyCount l)
 
 pub ruleset ranking = (needs, reached-self, reached-yes, reached-not, rank-fits, rank-small, rank-more, rank-end, rank-start, left-never,
     ranks-more, ranks-end, ranks-start, rank-within, rank-past)
 
 -- a row written into the table
 module _ (f m row : ℕ) (known : List ℕ) (at : ℕ) (here : at ≡ place f m) where
-  pub store-within : at < 561 → set known at row ≡ stored f m row known
+  pub store-within : at < rowCount → set known at row ≡ stored f m row known
   unfolding stored
-  store-within l = rw (← here, lt-ltb at 561 l)
+  store-within l = rw (← here, lt-ltb at rowCount l)
 
-  pub store-past : 561 ≤ at → known ≡ stored f m row known
+  pub store-past : rowCount ≤ at → known ≡ stored f m row known
   unfolding stored
-  store-past l = rw (← here, le-ltb at 561 l)
+  store-past l = rw (← here, le-ltb at rowCount l)
 
 module _ (p : ℕ) (bs ix : List ℕ) (f m : ℕ) (known next : List ℕ) where
   -- a row of the table
   pub row-filled : (root row : ℕ) → root ≡ rootOf ix f →
-      row ≡ rowOf (touches (knownTouches known) (statementAt p bs ix 32 root) (min m 32)) →
+      row ≡ rowOf (touches (knownTouches known) (statementAt p bs ix mostDepth root) (min m mostQubits)) →
       next ≡ stored f m row known → next ≡ filledRow p bs ix f m known
   unfolding filledRow
   row-filled root row at t s = rw (← at, ← t) s
@@ -141,7 +143,7 @@ module _ (p : ℕ) (bs ix ranks : List ℕ) (now next first : List ℕ) where
     unfolding filled
     lengths-more e = rw (add-one m, ← so, ← add-one m) e
 
-    pub lengths-end : (matrix : List ℕ) (counts : ℕ) → ranks ≡ ranksIn matrix p → counts ≡ countsBelow p bs ix (suc p) → sums ≡ sumsBelow counts 32 →
+    pub lengths-end : (matrix : List ℕ) (counts : ℕ) → ranks ≡ ranksIn matrix p → counts ≡ countsBelow p bs ix (suc p) → sums ≡ sumsBelow counts mostQubits →
         m ≤ n → n ≤ m → now ≡ filled p bs ix (ranksIn matrix p) (sumsIn p bs ix) n n first
     lengths-end matrix counts r c s a b = let e : m ≡ n = omega arith in rw (← r, ← c, ← s) (so ∙ rw e)
 
@@ -170,11 +172,11 @@ module _ (p : ℕ) (bs ix ranks : List ℕ) (first : List ℕ) where
 
 -- main, by the whole table
 pub main-row : (p : ℕ) (bs ix matrix known : List ℕ) (n root row : ℕ) (r : Bool) →
-    known ≡ filled p bs ix (ranksIn matrix p) (sumsIn p bs ix) n n (replicate 561 0) → root ≡ rootOf ix 0 →
-    row ≡ rowOf (touches (knownTouches known) (statementAt p bs ix 32 root) (min n 32)) → r ≡ rowIs row 0 → r ≡ faultsAt p bs ix matrix n
+    known ≡ filled p bs ix (ranksIn matrix p) (sumsIn p bs ix) n n (replicate rowCount 0) → root ≡ rootOf ix 0 →
+    row ≡ rowOf (touches (knownTouches known) (statementAt p bs ix mostDepth root) (min n mostQubits)) → r ≡ rowIs row 0 → r ≡ faultsAt p bs ix matrix n
 unfolding faultsAt
 main-row p bs ix matrix known n root row r k at t e =
-    rw (← k, ← at) (e ∙ rw t (row-at (touches (knownTouches known) (statementAt p bs ix 32 root) (min n 32)) 0 (lit< tt)))
+    rw (← k, ← at) (e ∙ rw t (row-at (touches (knownTouches known) (statementAt p bs ix mostDepth root) (min n mostQubits)) 0 (lit< tt)))
 
 pub ruleset filling = (needs, store-within, store-past, row-filled, fill-ranked, fill-other, procedures-more, procedures-end, procedures-start,
     length-more, length-end, length-start, asked-yes, asked-not, lengths-more, lengths-end, lengths-start, main-row)

@@ -9,6 +9,8 @@ use native.Mathlib.Omega.{arith}
 use borrow.Author.Tests.{lt-ltb, eq-eqb, ne-eqb}
 use lib.ListN.{length, getD, set, replicate, length-set, length-replicate}
 use lib.Seq.{getD-set-same, getD-set-other}
+use Rattle.limits.specs.Sizes.{bodyCount, rowCount}
+use Rattle.model.specs.Limits.{mostProcedures, mostQubits}
 use Rattle.model.specs.Meaning.{digit}
 use Rattle.model.specs.Syntax.{Program, count}
 use Rattle.model.specs.Reach.{anyLacksRemoval}
@@ -21,7 +23,7 @@ use Rattle.reach.proofs.Marks.{count-at, body-at}
 use Rattle.reach.proofs.Named.{named}
 use Rattle.reach.proofs.Filled.{reach-entry}
 use Rattle.faults.specs.Touches.{Touched, touches}
-use Rattle.faults.specs.Rows.{rowOf, rowIs, place, allRows, knownTouches, stored}
+use Rattle.faults.specs.Rows.{rowOf, rowIs, place, knownTouches, stored}
 use Rattle.faults.specs.Lengths.{removalCounts, countsBelow, sumsIn}
 use Rattle.faults.specs.Filling.{fromIn, rankBelow, rankIn, ranksBelow, ranksIn, rankAt}
 use Rattle.faults.specs.Filling.{filledRow, filledIf, filledRank, filledLength, filledAsked, filled, faultsAt}
@@ -30,38 +32,38 @@ use Rattle.faults.proofs.LengthLaws.{sums-zero, sums-closed, counts-the
 use Rattle.faults.proofs.TouchLaws.{touchesOf, SameTouches, fill-touches, main-touches}
 
 -- rows of different procedures or lengths stand at different places
-rows-apart : (f m g n : ℕ) → m ≤ 32 → n ≤ 32 → place f m ≡ place g n → (f ≡ g) × (m ≡ n)
+rows-apart : (f m g n : ℕ) → m ≤ mostQubits → n ≤ mostQubits → place f m ≡ place g n → (f ≡ g) × (m ≡ n)
 rows-apart f m g n lm ln e = (omega arith, omega arith)
 
-module _ (f m row : ℕ) (known : List ℕ) (lf : f ≤ 16) (lm : m ≤ 32) (whole : length known ≡ allRows) where
-  inside : place f m < allRows
+module _ (f m row : ℕ) (known : List ℕ) (lf : f ≤ mostProcedures) (lm : m ≤ mostQubits) (whole : length known ≡ rowCount) where
+  inside : place f m < rowCount
   inside = omega arith
 
   stored-is : stored f m row known ≡ set known (place f m) row
   unfolding stored
-  stored-is = rw (lt-ltb (place f m) allRows inside)
+  stored-is = rw (lt-ltb (place f m) rowCount inside)
 
-  stored-length : length (stored f m row known) ≡ allRows
+  stored-length : length (stored f m row known) ≡ rowCount
   stored-length = rw stored-is (length-set known (place f m) row ∙ whole)
 
   -- the row that is stored is known then
   stored-here : (t : ℕ) → knownTouches (stored f m row known) f m t ≡ rowIs row t
   stored-here t =
     let fits : place f m < length known = rw whole inside in
-    rw (stored-is, lt-ltb (place f m) allRows inside, getD-set-same known (place f m) row 0 fits)
+    rw (stored-is, lt-ltb (place f m) rowCount inside, getD-set-same known (place f m) row 0 fits)
 
   -- and the others are as they were
-  stored-other : (g n t : ℕ) → n ≤ 32 → (g ≡ f → n ≡ m → ⊥) → knownTouches (stored f m row known) g n t ≡ knownTouches known g n t
+  stored-other : (g n t : ℕ) → n ≤ mostQubits → (g ≡ f → n ≡ m → ⊥) → knownTouches (stored f m row known) g n t ≡ knownTouches known g n t
   stored-other g n t ln other = rw (stored-is, getD-set-other known (place f m) (place g n) row 0
     (λ e. let z = rows-apart g n f m ln lm e in other (z .0) (z .1)))
 
 -- the ranks that are there
-ranks-length : (matrix : List ℕ) (p n : ℕ) → length (ranksBelow matrix p n) ≡ 17
+ranks-length : (matrix : List ℕ) (p n : ℕ) → length (ranksBelow matrix p n) ≡ bodyCount
 unfolding ranksBelow
-ranks-length matrix p zero = length-replicate {A = ℕ} 17 0
+ranks-length matrix p zero = length-replicate {A = ℕ} bodyCount 0
 ranks-length matrix p (suc n) = length-set (ranksBelow matrix p n) n (rankIn matrix n p) ∙ ranks-length matrix p n
 
-ranks-at : (matrix : List ℕ) (p n f : ℕ) → f < n → n ≤ 17 → getD (ranksBelow matrix p n) f 0 ≡ rankIn matrix f p
+ranks-at : (matrix : List ℕ) (p n f : ℕ) → f < n → n ≤ bodyCount → getD (ranksBelow matrix p n) f 0 ≡ rankIn matrix f p
 unfolding ranksBelow
 ranks-at matrix p zero f l h = absurd (not-suc-le-zero l)
 ranks-at matrix p (suc n) f l h = byEq f n
@@ -69,7 +71,7 @@ ranks-at matrix p (suc n) f l h = byEq f n
     (λ ne. getD-set-other (ranksBelow matrix p n) n f (rankIn matrix n p) 0 ne ∙ ranks-at matrix p n f (omega arith) (omega arith))
 
 -- the table of p procedures
-module _ (p : ℕ) (bs ix : List ℕ) (few : p ≤ 16) where
+module _ (p : ℕ) (bs ix : List ℕ) (few : p ≤ mostProcedures) where
   abbrev P : Program
   P = programAt p bs ix
 
@@ -96,22 +98,22 @@ module _ (p : ℕ) (bs ix : List ℕ) (few : p ≤ 16) where
       one true n = omega arith
       one false n = omega arith
 
-  rank-is : (f : ℕ) → f ≤ 16 → rankAt ranks f ≡ rank P f
+  rank-is : (f : ℕ) → f ≤ mostProcedures → rankAt ranks f ≡ rank P f
   unfolding rank
-  rank-is f l = rw (lt-ltb f 17 (suc-le-suc l))
-    (ranks-at matrix p 17 f (suc-le-suc l) (le-refl 17) ∙ rank-below f (suc p) ∙ ap (λ (n : ℕ). howMany (from P f) (suc n)) (sym (count-at p bs ix)))
+  rank-is f l = rw (lt-ltb f bodyCount (suc-le-suc l))
+    (ranks-at matrix p bodyCount f (suc-le-suc l) (le-refl bodyCount) ∙ rank-below f (suc p) ∙ ap (λ (n : ℕ). howMany (from P f) (suc n)) (sym (count-at p bs ix)))
 
   -- a table that has, of the procedures and lengths that D tells, what they touch
   record Holds (known : List ℕ) (D : ℕ → ℕ → Type 0) : Type 0 where
-    whole : length known ≡ allRows
-    right : (g m : ℕ) → 0 < g → g ≤ p → 0 < m → m ≤ 32 → D g m → SameTouches (knownTouches known) (touchesOf P) g m
+    whole : length known ≡ rowCount
+    right : (g m : ℕ) → 0 < g → g ≤ p → 0 < m → m ≤ mostQubits → D g m → SameTouches (knownTouches known) (touchesOf P) g m
 
   holds-less : (known : List ℕ) (D E : ℕ → ℕ → Type 0) → ((g m : ℕ) → 0 < g → g ≤ p → 0 < m → E g m → D g m) → Holds known D → Holds known E
   holds-less known D E h H = record { whole = H .whole; right = λ g m a b c d e. H .right g m a b c d (h g m a b c e) }
 
   module _ (passes10 : anyLacksRemoval P ≡ false) where
     -- one row more: all that its body can call must be there
-    holds-row : (f m : ℕ) (known : List ℕ) (D E : ℕ → ℕ → Type 0) → 0 < f → f ≤ p → 0 < m → m ≤ 32 →
+    holds-row : (f m : ℕ) (known : List ℕ) (D E : ℕ → ℕ → Type 0) → 0 < f → f ≤ p → 0 < m → m ≤ mostQubits →
         ((g n : ℕ) → removalCounts (bodyAt p bs ix f) (m - n) ≡ true → 0 < n → n < m → D g n) → ((g : ℕ) → rank P g < rank P f → D g m) →
         ((g n : ℕ) → E g n → (g ≡ f → n ≡ m → ⊥) → D g n) → Holds known D → Holds (filledRow p bs ix f m known) E
     unfolding filledRow
@@ -122,10 +124,10 @@ module _ (p : ℕ) (bs ix : List ℕ) (few : p ≤ 16) where
           (λ ne. stored-other f m row known low lm (H .whole) g n t ln ne ∙ H .right g n pg lg pn ln (other g n e ne) t lt) }
       where
         x : Touched
-        x = touches (knownTouches known) (bodyAt p bs ix f) (min m 32)
+        x = touches (knownTouches known) (bodyAt p bs ix f) (min m mostQubits)
         row : ℕ
         row = rowOf x
-        low : f ≤ 16
+        low : f ≤ mostProcedures
         low = omega arith
         named-low : (g : ℕ) → g ≤ count P → g ≤ p
         named-low g h = rw (count-at p bs ix) at h
@@ -133,13 +135,13 @@ module _ (p : ℕ) (bs ix : List ℕ) (few : p ≤ 16) where
         byPair g n same else = byEq g f (λ a. byEq n m (λ b. same a b) (λ nb. else (λ a b. nb b))) (λ na. else (λ a b. na a))
         right : (t : ℕ) → x t ≡ touchesOf P f m t
         right t =
-          let e : min m 32 ≡ m = omega arith in
+          let e : min m mostQubits ≡ m = omega arith in
           rw (e, ← body-at p bs ix f lf) (fill-touches P (named p bs ix) passes10 (knownTouches known) f m pm
             (λ g n pg lg c pn l. H .right g n pg (named-low g lg) pn (omega arith) (shorter g n (rw (body-at p bs ix f lf) at c) pn l))
             (λ g pg lg l. H .right g m pg (named-low g lg) pm lm (lower g l)) t)
 
     -- main has n qubits
-    module _ (n : ℕ) (ln : n ≤ 32) where
+    module _ (n : ℕ) (ln : n ≤ mostQubits) where
       -- calls can lead to length m
       abbrev Asked : ℕ → Type 0
       Asked m = rowIs sums (n - m) ≡ true
@@ -149,7 +151,7 @@ module _ (p : ℕ) (bs ix : List ℕ) (few : p ≤ 16) where
       asked-on f m l lf lm asked c pl ll =
         let sum : n - m + (m - l) ≡ n - l = omega arith in
         subst (λ (k : ℕ). rowIs sums k ≡ true) sum
-          (sums-closed (countsBelow p bs ix (suc p)) 32 (n - m) (m - l) (omega arith) (omega arith) asked
+          (sums-closed (countsBelow p bs ix (suc p)) mostQubits (n - m) (m - l) (omega arith) (omega arith) asked
             (counts-there p bs ix (suc p) f (m - l) (suc-le-suc lf) (omega arith) c))
 
       -- what is there when length m has come to rank k, and that to procedure f:
@@ -220,24 +222,24 @@ module _ (p : ℕ) (bs ix : List ℕ) (few : p ≤ 16) where
             (λ ne. let less : l < suc m = d .1 in omega arith))) H))
 
       -- length by length
-      holds-lengths : (m : ℕ) → m ≤ n → Holds (filled p bs ix ranks sums n m (replicate allRows 0)) (λ g l. Asked l × (l < suc m))
+      holds-lengths : (m : ℕ) → m ≤ n → Holds (filled p bs ix ranks sums n m (replicate rowCount 0)) (λ g l. Asked l × (l < suc m))
       unfolding filled
       holds-lengths zero l = record {
-          whole = length-replicate {A = ℕ} allRows 0;
+          whole = length-replicate {A = ℕ} rowCount 0;
           right = λ g m pg lg pm lm d. absurd (not-suc-le-zero (le-trans pm (le-of-suc-le-suc (d .1)))) }
       holds-lengths (suc m) l =
-        holds-asked (suc m) (filled p bs ix ranks sums n m (replicate allRows 0)) (suc-le-suc zero-le) l (holds-lengths m (omega arith))
+        holds-asked (suc m) (filled p bs ix ranks sums n m (replicate rowCount 0)) (suc-le-suc zero-le) l (holds-lengths m (omega arith))
 
       -- main's own length
       asked-first : Asked n
-      asked-first = let e : 0 ≡ n - n = omega arith in subst (λ (k : ℕ). rowIs sums k ≡ true) e (sums-zero (countsBelow p bs ix (suc p)) 32)
+      asked-first = let e : 0 ≡ n - n = omega arith in subst (λ (k : ℕ). rowIs sums k ≡ true) e (sums-zero (countsBelow p bs ix (suc p)) mostQubits)
 
     -- refusal 12: by the table, main faults where document 01 says so
-    pub faults-is : (n : ℕ) → n ≤ 32 → faultsAt p bs ix matrix n ≡ programFaults P n
+    pub faults-is : (n : ℕ) → n ≤ mostQubits → faultsAt p bs ix matrix n ≡ programFaults P n
     unfolding faultsAt
     faults-is n l =
-      let e : min n 32 ≡ n = omega arith in
+      let e : min n mostQubits ≡ n = omega arith in
       let H = holds-lengths n l n (le-refl n) in
-      rw e (sym (main-touches P (named p bs ix) passes10 (knownTouches (filled p bs ix ranks sums n n (replicate allRows 0))) n
+      rw e (sym (main-touches P (named p bs ix) passes10 (knownTouches (filled p bs ix ranks sums n n (replicate rowCount 0))) n
         (λ g m pg lg c pm lm. H .right g m pg (rw (count-at p bs ix) at lg) pm (omega arith)
           (asked-on n l 0 n m zero-le (le-refl n) (asked-first n l) c pm lm, suc-le-suc lm))))

@@ -12,6 +12,7 @@ use lib.ListN.{length, getD}
 use lib.Dec.{eqb}
 use mir.Syntax.{w8, w32, w64}
 use mir.Val.{Fits, toZ}
+use Rattle.limits.specs.Sizes.{rowCount}
 use Rattle.model.specs.Lists.{position, entry}
 use Rattle.model.proofs.Words.{tested, shifted, past-bit}
 use Rattle.step.proofs.Values.{byte-signed}
@@ -48,11 +49,11 @@ module _ (row q : ℕ) where
 
 -- the table's rows
 module _ (known : List ℕ) (f m at : ℕ) (here : at ≡ place f m) where
-  pub known-within : at < 561 → getD known at 0 ≡ knownRow known f m
-  known-within l = rw (← here, lt-ltb at 561 l)
+  pub known-within : at < rowCount → getD known at 0 ≡ knownRow known f m
+  known-within l = rw (← here, lt-ltb at rowCount l)
 
-  pub known-past : 561 ≤ at → 0 ≡ knownRow known f m
-  known-past l = rw (← here, le-ltb at 561 l)
+  pub known-past : rowCount ≤ at → 0 ≡ knownRow known f m
+  known-past l = rw (← here, le-ltb at rowCount l)
 
 pub ruleset rows = (needs, mark-within, mark-past, contains-within, contains-past, closes-again, closes-once, known-within, known-past)
 

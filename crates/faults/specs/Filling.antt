@@ -4,11 +4,13 @@ use mathlib.Core.Bool.{Bool, cond, _||_}
 use mathlib.Core.List.{List}
 use lib.ListN.{getD, set, replicate}
 use lib.Dec.{eqb, ltb}
+use Rattle.limits.specs.Sizes.{bodyCount, rowCount}
+use Rattle.model.specs.Limits.{mostQubits}
 use Rattle.model.specs.Meaning.{digit}
 use Rattle.table.specs.Index.{bodyAt}
 use Rattle.reach.specs.Matrix.{recursiveIn}
 use Rattle.faults.specs.Touches.{touches}
-use Rattle.faults.specs.Rows.{rowOf, rowIs, knownTouches, allRows, stored}
+use Rattle.faults.specs.Rows.{rowOf, rowIs, knownTouches, stored}
 use Rattle.faults.specs.Lengths.{sumsIn}
 
 -- does f reach x, by the matrix, or is it x?
@@ -26,20 +28,20 @@ rankIn matrix f p = rankBelow matrix f (suc p)
 
 -- 17 ranks, of which those below n are there
 unfoldable pub ranksBelow : List ℕ → ℕ → ℕ → List ℕ
-ranksBelow matrix p zero = replicate 17 0
+ranksBelow matrix p zero = replicate bodyCount 0
 ranksBelow matrix p (suc f) = set (ranksBelow matrix p f) f (rankIn matrix f p)
 
 -- all of them
 abbrev pub ranksIn : List ℕ → ℕ → List ℕ
-ranksIn matrix p = ranksBelow matrix p 17
+ranksIn matrix p = ranksBelow matrix p bodyCount
 
 -- the rank of f among them; 0, which none has, past 16
 abbrev pub rankAt : List ℕ → ℕ → ℕ
-rankAt ranks f = cond (ltb f 17) (getD ranks f 0) 0
+rankAt ranks f = cond (ltb f bodyCount) (getD ranks f 0) 0
 
 -- the row of procedure f on lists of length m: what its body touches, by the table so far
 unfoldable pub filledRow : ℕ → List ℕ → List ℕ → ℕ → ℕ → List ℕ → List ℕ
-filledRow p bs ix f m known = stored f m (rowOf (touches (knownTouches known) (bodyAt p bs ix f) (min m 32))) known
+filledRow p bs ix f m known = stored f m (rowOf (touches (knownTouches known) (bodyAt p bs ix f) (min m mostQubits))) known
 
 module _ (p : ℕ) (bs ix ranks : List ℕ) where
   -- only where f has rank k
@@ -68,4 +70,4 @@ module _ (p : ℕ) (bs ix ranks : List ℕ) where
 -- does main fault on n qubits, by the table of lengths 1 to n? Position 0 of its row says so
 unfoldable pub faultsAt : ℕ → List ℕ → List ℕ → List ℕ → ℕ → Bool
 faultsAt p bs ix matrix n =
-    touches (knownTouches (filled p bs ix (ranksIn matrix p) (sumsIn p bs ix) n n (replicate allRows 0))) (bodyAt p bs ix 0) (min n 32) 0
+    touches (knownTouches (filled p bs ix (ranksIn matrix p) (sumsIn p bs ix) n n (replicate rowCount 0))) (bodyAt p bs ix 0) (min n mostQubits) 0

@@ -5,6 +5,7 @@ use mathlib.Core.Bool.{cond}
 use mathlib.Core.List.{List}
 use lib.Bits.{bitOr}
 use lib.ListN.{length}
+use Rattle.model.specs.Limits.{mostQubits}
 use Rattle.model.specs.Syntax.{Statement, skip, NOT, sequence, if, qcase, call}
 use Rattle.table.specs.Index.{bodyAt}
 use Rattle.faults.specs.Touches.{Touched, touchesNone, touchesOne, joined}
@@ -31,4 +32,4 @@ sumsBelow counts (suc j) = cond (rowIs (sumsBelow counts j) j) (bitOr (sumsBelow
 
 -- how many entries of main's list calls can remove
 abbrev pub sumsIn : ℕ → List ℕ → List ℕ → ℕ
-sumsIn p bs ix = sumsBelow (countsBelow p bs ix (suc p)) 32
+sumsIn p bs ix = sumsBelow (countsBelow p bs ix (suc p)) mostQubits

@@ -5,6 +5,7 @@ use mathlib.Core.List.{List}
 use lib.Bits.{bitOr}
 use lib.ListN.{getD, set}
 use lib.Dec.{ltb}
+use Rattle.limits.specs.Sizes.{lengthCount, rowCount}
 use Rattle.model.specs.Lists.{entry}
 use Rattle.model.specs.Meaning.{bit, wordFrom}
 use Rattle.faults.specs.Touches.{Touched, CallTouches}
@@ -27,15 +28,11 @@ closedRow q row = cond (rowIs row q) (marked (marked row q) 0) (marked row q)
 
 -- one table has the rows of procedures 0 to 16 on lists of lengths 0 to 32: where each stands
 abbrev pub place : ℕ → ℕ → ℕ
-place f m = f * 33 + m
-
--- and how many they are
-abbrev pub allRows : ℕ
-allRows = 561
+place f m = f * lengthCount + m
 
 -- the row of procedure f on lists of length m; past the table's end nothing
 abbrev pub knownRow : List ℕ → ℕ → ℕ → ℕ
-knownRow known f m = cond (ltb (place f m) allRows) (getD known (place f m) 0) 0
+knownRow known f m = cond (ltb (place f m) rowCount) (getD known (place f m) 0) 0
 
 -- what the table says that calls touch
 abbrev pub knownTouches : List ℕ → CallTouches
@@ -47,4 +44,4 @@ carriedOn callee l u row = cond (rowIs callee u) (marked row (entry l u)) row
 
 -- the row of procedure f on lists of length m, written; nothing past the table's end
 unfoldable pub stored : ℕ → ℕ → ℕ → List ℕ → List ℕ
-stored f m row known = cond (ltb (place f m) allRows) (set known (place f m) row) known
+stored f m row known = cond (ltb (place f m) rowCount) (set known (place f m) row) known

@@ -2,6 +2,7 @@
 // that no call can lead to are left out.
 ghost use mathlib.Core.Path.{_≡_};
 ghost use Prim.Native.Nat.{min, suc};
+ghost use Rattle.model.specs.Limits.{mostQubits};
 ghost use Rattle.model.specs.Meaning.{digit};
 ghost use Rattle.table.specs.Index.{statementAt};
 ghost use Rattle.step.specs.Steps.{qubitsOf};
@@ -10,14 +11,9 @@ ghost use Rattle.faults.specs.Rows.{rowOf, rowIs, marked, closedRow, pla
 ghost use Rattle.faults.specs.Lengths.{removalCounts, countsBelow, sumsBelow, sumsIn};
 ghost use Rattle.faults.specs.Filling.{fromIn, rankIn, ranksIn, rankAt};
 ghost use Rattle.faults.specs.Filling.{filledRow, filledIf, filledRank, filledLength, filledAsked, filled, faultsAt};
+use limits::{BODIES, BODY_COUNT, LENGTH_COUNT, MATRIX_LENGTH, MOST_DEPTH, MOST_QUBITS, ROW_COUNT};
 use reach::{Parts, parts_at, recursive, removal_count, root};
 use step::{Qubits, Step, all, chosen, entry, remaining, size, step_at};
-
-// "a tree is at most 32 records deep"
-const MOST_DEPTH: u8 = 32;
-
-// One row for each of procedures 0 to 16 and lengths 0 to 32.
-const KNOWN: usize = 561;
 
 // A set of numbers below 64 is a word, whose bit t says whether t is in it. A row is the set of the positions touched, counted from 1; 0 is in it
 // for a fault inside.
@@ -51,15 +47,15 @@ fn closes(q: u8, row: u64) -> u64
 fn place(f: u8, m: u8) -> usize
     ensures { λ r. ⌜ r ≡ place f m ⌝ }
 {
-    f as usize * 33 + m as usize
+    f as usize * LENGTH_COUNT + m as usize
 }
 
 // What procedure f touches of a list of length m, by the table.
-fn row_at(known: &[u64; 561], f: u8, m: u8) -> u64
+fn row_at(known: &[u64; ROW_COUNT], f: u8, m: u8) -> u64
     ensures { λ r. ⌜ r ≡ knownRow (now (known .entry)) f m ⌝ }
 {
     let at = place(f, m);
-    if at < KNOWN { known[at] } else { 0 }
+    if at < ROW_COUNT { known[at] } else { 0 }
 }
 
 // Position u of the callee's list, where it is touched, is the caller's position that stands there; a fault stays one.
@@ -73,7 +69,7 @@ fn carry(callee: u64, list: Qubits, u: u8, row: u64) -> u64
 }
 
 // What a call of f with a list touches. "A call with an empty list does nothing."
-fn called(known: &[u64; 561], f: u8, list: Qubits) -> u64
+fn called(known: &[u64; ROW_COUNT], f: u8, list: Qubits) -> u64
     ensures { λ r. ⌜ r ≡ rowOf (callTouches (knownTouches (now (known .entry))) f (qubitsOf list)) ⌝ }
 {
     let m = size(list);
@@ -89,9 +85,9 @@ fn called(known: &[u64; 561], f: u8, list: Qubits) -> u64
 }
 
 // What the statement at record i touches of a list of m entries, of 32 at most, by their positions: both branches of a qcase, the chosen branch of an if.
-fn touches(table: &[u8], index: &[u16], p: u8, i: usize, depth: u8, m: u8, known: &[u64; 561]) -> u64
+fn touches(table: &[u8], index: &[u16], p: u8, i: usize, depth: u8, m: u8, known: &[u64; ROW_COUNT]) -> u64
     ensures {
-        λ r. ⌜ r ≡ rowOf (touches (knownTouches (now (known .entry))) (statementAt p (now (table .entry)) (now (index .entry)) depth i) (min m 32)) ⌝
+        λ r. ⌜ r ≡ rowOf (touches (knownTouches (now (known .entry))) (statementAt p (now (table .entry)) (now (index .entry)) depth i) (min m mostQubits)) ⌝
     }
 {
     if depth == 0 {
@@ -155,10 +151,10 @@ fn all_counts(table: &[u8], index: &[u16], p: u8) -> u64
 
 // 0, and the sums of numbers of a set: all of them up to 32.
 fn sums_of(counts: u64) -> u64
-    ensures { λ r. ⌜ r ≡ sumsBelow counts 32 ⌝ }
+    ensures { λ r. ⌜ r ≡ sumsBelow counts mostQubits ⌝ }
 {
     let mut sums = 1;
-    for j in 0..32 {
+    for j in 0..MOST_QUBITS {
         if contains(sums, j) {
             sums |= counts << j;
         }
@@ -167,7 +163,7 @@ fn sums_of(counts: u64) -> u64
 }
 
 // 1 where f reaches x or is x, otherwise 0.
-fn reached(matrix: &[u8; 289], f: u8, x: u8) -> usize
+fn reached(matrix: &[u8; MATRIX_LENGTH], f: u8, x: u8) -> usize
     ensures { λ r. ⌜ r ≡ digit (fromIn (now (matrix .entry)) f x) ⌝ }
 {
     if x == f {
@@ -177,7 +173,7 @@ fn reached(matrix: &[u8; 289], f: u8, x: u8) -> usize
 }
 
 // How many of the bodies 0 to p f reaches, itself among them. The rank falls at each call that is not recursive.
-fn rank(matrix: &[u8; 289], f: u8, p: u8) -> usize
+fn rank(matrix: &[u8; MATRIX_LENGTH], f: u8, p: u8) -> usize
     ensures { λ r. ⌜ r ≡ rankIn (now (matrix .entry)) f p ⌝ }
 {
     let mut n: usize = 0;
@@ -188,36 +184,36 @@ fn rank(matrix: &[u8; 289], f: u8, p: u8) -> usize
 }
 
 // The ranks of procedures 0 to 16.
-fn all_ranks(matrix: &[u8; 289], p: u8) -> [usize; 17]
+fn all_ranks(matrix: &[u8; MATRIX_LENGTH], p: u8) -> [usize; BODY_COUNT]
     ensures { λ r. ⌜ r ≡ ranksIn (now (matrix .entry)) p ⌝ }
 {
-    let mut all = [0; 17];
-    for f in 0..17 {
+    let mut all = [0; BODY_COUNT];
+    for f in 0..BODIES {
         all[f as usize] = rank(matrix, f, p);
     }
     all
 }
 
 // The rank of procedure f; 0, which none has, past 16.
-fn rank_at(ranks: &[usize; 17], f: u8) -> usize
+fn rank_at(ranks: &[usize; BODY_COUNT], f: u8) -> usize
     ensures { λ r. ⌜ r ≡ rankAt (now (ranks .entry)) f ⌝ }
 {
     let i = f as usize;
-    if i < 17 { ranks[i] } else { 0 }
+    if i < BODY_COUNT { ranks[i] } else { 0 }
 }
 
 // The row of procedure f on lists of length m is written.
-fn store(known: &mut [u64; 561], f: u8, m: u8, row: u64)
+fn store(known: &mut [u64; ROW_COUNT], f: u8, m: u8, row: u64)
     ensures { λ r. ⌜ now (known .exit) ≡ stored f m row (now (known .entry)) ⌝ }
 {
     let at = place(f, m);
-    if at < KNOWN {
+    if at < ROW_COUNT {
         known[at] = row;
     }
 }
 
 // The row of procedure f on lists of length m: what its body touches, by the table so far.
-fn fill_row(table: &[u8], index: &[u16], p: u8, f: u8, m: u8, known: &mut [u64; 561])
+fn fill_row(table: &[u8], index: &[u16], p: u8, f: u8, m: u8, known: &mut [u64; ROW_COUNT])
     ensures {
         λ r. ⌜ now (known .exit) ≡ filledRow p (now (table .entry)) (now (index .entry)) f m (now (known .entry)) ⌝
     }
@@ -227,7 +223,7 @@ fn fill_row(table: &[u8], index: &[u16], p: u8, f: u8, m: u8, known: &mut [u64; 
 }
 
 // The same, but only where f has rank k.
-fn fill_if(table: &[u8], index: &[u16], p: u8, k: usize, f: u8, m: u8, ranks: &[usize; 17], known: &mut [u64; 561])
+fn fill_if(table: &[u8], index: &[u16], p: u8, k: usize, f: u8, m: u8, ranks: &[usize; BODY_COUNT], known: &mut [u64; ROW_COUNT])
     ensures {
         λ r. ⌜ now (known .exit) ≡ filledIf p (now (table .entry)) (now (index .entry)) (now (ranks .entry)) k f m (now (known .entry)) ⌝
     }
@@ -238,7 +234,7 @@ fn fill_if(table: &[u8], index: &[u16], p: u8, k: usize, f: u8, m: u8, ranks: &[
 }
 
 // All procedures of rank k, on lists of length m.
-fn fill_rank(table: &[u8], index: &[u16], p: u8, k: usize, m: u8, ranks: &[usize; 17], known: &mut [u64; 561])
+fn fill_rank(table: &[u8], index: &[u16], p: u8, k: usize, m: u8, ranks: &[usize; BODY_COUNT], known: &mut [u64; ROW_COUNT])
     ensures {
         λ r. ⌜ now (known .exit) ≡ filledRank p (now (table .entry)) (now (index .entry)) (now (ranks .entry)) p k m (now (known .entry)) ⌝
     }
@@ -251,7 +247,7 @@ fn fill_rank(table: &[u8], index: &[u16], p: u8, k: usize, m: u8, ranks: &[usize
 }
 
 // All procedures, on lists of length m: by rank, so that what a body calls on lists of the same length is there before it.
-fn fill_length(table: &[u8], index: &[u16], p: u8, m: u8, ranks: &[usize; 17], known: &mut [u64; 561])
+fn fill_length(table: &[u8], index: &[u16], p: u8, m: u8, ranks: &[usize; BODY_COUNT], known: &mut [u64; ROW_COUNT])
     ensures {
         λ r. ⌜ now (known .exit) ≡ filledLength p (now (table .entry)) (now (index .entry)) (now (ranks .entry)) p m (now (known .entry)) ⌝
     }
@@ -265,7 +261,7 @@ fn fill_length(table: &[u8], index: &[u16], p: u8, m: u8, ranks: &[usize; 17], k
 }
 
 // The same, but only where calls can have removed `gone` entries of main's list, so that m are left.
-fn fill_asked(table: &[u8], index: &[u16], p: u8, gone: u8, m: u8, sums: u64, ranks: &[usize; 17], known: &mut [u64; 561])
+fn fill_asked(table: &[u8], index: &[u16], p: u8, gone: u8, m: u8, sums: u64, ranks: &[usize; BODY_COUNT], known: &mut [u64; ROW_COUNT])
     ensures {
         λ r. ⌜ now (known .exit) ≡ filledAsked p (now (table .entry)) (now (index .entry)) (now (ranks .entry)) sums gone m (now (known .entry)) ⌝
     }
@@ -276,7 +272,7 @@ fn fill_asked(table: &[u8], index: &[u16], p: u8, gone: u8, m: u8, sums: u64, ra
 }
 
 // All procedures, on lists of the lengths 1 to n that calls can lead to, the shortest first.
-fn fill(table: &[u8], index: &[u16], p: u8, n: u8, matrix: &[u8; 289], known: &mut [u64; 561])
+fn fill(table: &[u8], index: &[u16], p: u8, n: u8, matrix: &[u8; MATRIX_LENGTH], known: &mut [u64; ROW_COUNT])
     ensures {
         λ r. ⌜ now (known .exit) ≡ filled p (now (table .entry)) (now (index .entry)) (ranksIn (now (matrix .entry)) p)
             (sumsIn p (now (table .entry)) (now (index .entry))) n n (now (known .entry)) ⌝
@@ -292,10 +288,10 @@ fn fill(table: &[u8], index: &[u16], p: u8, n: u8, matrix: &[u8; 289], known: &m
 }
 
 // Refusal 12: does main fault on n qubits? `matrix` says which procedure reaches which.
-pub fn faults(table: &[u8], index: &[u16], p: u8, n: u8, matrix: &[u8; 289]) -> bool
+pub fn faults(table: &[u8], index: &[u16], p: u8, n: u8, matrix: &[u8; MATRIX_LENGTH]) -> bool
     ensures { λ r. ⌜ r ≡ faultsAt p (now (table .entry)) (now (index .entry)) (now (matrix .entry)) n ⌝ }
 {
-    let mut known = [0; 561];
+    let mut known = [0; ROW_COUNT];
     fill(table, index, p, n, matrix, &mut known);
     contains(touches(table, index, p, root(index, 0), MOST_DEPTH, n, &known), 0)
 }

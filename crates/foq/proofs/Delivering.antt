@@ -9,14 +9,13 @@ use lib.Seq.{take-append-seam}
 use Rattle.model.specs.Answers.{Outcome, gives, refuses, after, number, valueOr, compile, roomAfter}
 use Rattle.model.specs.Demand.{Demand3}
 use Rattle.agreement.proofs.Promise.{compile-promises}
-use Rattle.run.specs.declared.Answer.{Answer}
-use Rattle.run.specs.Answers.{answerOf}
+use Rattle.answers.specs.declared.Answer.{Answer}
+use Rattle.answers.specs.Structs.{answerOf, lengthAnswer, Delivered}
 use Rattle.compile.specs.declared.Compiled.{Compiled}
 use Rattle.compile.specs.Passes.{compiledOf}
 use Rattle.compile.specs.Compiling.{answered, answeredOf}
 use Rattle.compile.proofs.Ways.{answer-halves}
 use Rattle.compile.proofs.Numbered.{Refusal, compile-numbered}
-use Rattle.foq.specs.Compiling.{lengthAnswer, Delivered}
 
 -- what is exported of an answer
 abbrev exported : Compiled → Answer

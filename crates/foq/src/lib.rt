@@ -3,14 +3,9 @@ ghost use mathlib.Core.Path.{_≡_};
 ghost use lib.ListN.{length};
 ghost use Rattle.model.specs.Answers.{circuitRead, circuitRun, roomAfter, workspaceAfter};
 ghost use Rattle.model.specs.Answers as model;
-ghost use Rattle.circuit.specs.Header.{headerOf};
-ghost use Rattle.circuit_run.specs.Runs.{blockAnswer};
-ghost use Rattle.run.specs.Answers.{answerOf};
-ghost use Rattle.foq.specs.Compiling.{lengthAnswer, Delivered};
-use circuit::CircuitHeader;
-use circuit_run::CircuitBlock;
+ghost use Rattle.answers.specs.Structs.{answerOf, lengthAnswer, headerOf, blockAnswer, Delivered};
+use answers::{Answer, CircuitBlock, CircuitHeader};
 use compile::wipe;
-use run::Answer;
 
 // The verdict: 0 for an accepted table, otherwise the refusal's number.
 #[no_mangle]

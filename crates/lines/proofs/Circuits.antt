@@ -8,7 +8,7 @@ use mir.Syntax.{w8, w32}
 use mir.Val.{Fits}
 use borrow.Author.Needs.{needs}
 use lib.ListN.{length, getD}
-use Rattle.model.specs.Limits.{notWellFormed, mostWires}
+use Rattle.model.specs.Limits.{notWellFormed, mostWires, headerLength}
 use Rattle.model.specs.Reading.{Input, Parsed, parsed, refused}
 use Rattle.model.specs.Gates.{Gate}
 use Rattle.model.specs.Circuit.{Circuit, readGate, readCircuit, fourBytes, encodeAll, write}
@@ -16,8 +16,8 @@ use Rattle.model.specs.Answers.{Outcome, gives, refuses, wellFormed, circuitRea
 use Rattle.model.specs.Listing.{gateLine, gateLines, firstLine, listed}
 use Rattle.model.proofs.RoundTrip.{AllWellFormed, left, read-encode, write-circuitRead}
 use Rattle.circuit.specs.Views.{inputAt, settled, gateIn, gateSeen}
-use Rattle.circuit.specs.Header.{headerOf}
-use Rattle.circuit.specs.declared.CircuitHeader.{CircuitHeader}
+use Rattle.answers.specs.Structs.{headerOf}
+use Rattle.answers.specs.declared.CircuitHeader.{CircuitHeader}
 use Rattle.circuit.specs.declared.GateAt.{GateAt}
 use Rattle.circuit.specs.declared.GateRead.{GateRead}
 use Rattle.circuit.specs.declared.GateRead.the-variants.{Found, NoGate}
@@ -80,10 +80,10 @@ read-gives bs h e z = go (readCircuit bs) refl
     go (parsed c i) q = (c, rw q)
     go (refused k) q =
         let f : h ≡ headerOf (wellFormed (refused k)) = rw q at e in
-        let n : _≡_ {A = ℕ} 14 0 = sym (ap (λ (y : CircuitHeader). y .number) f) ∙ z in absurd (omega arith)
+        let n : _≡_ {A = ℕ} notWellFormed 0 = sym (ap (λ (y : CircuitHeader). y .number) f) ∙ z in absurd (omega arith)
 
 -- behind its header a circuit's bytes are its gates
-gates-behind : (bs : List ℕ) (c : Circuit) → write c ≡ bs → inputAt bs 7 ≡ left (encodeAll (c .gates)) 0
+gates-behind : (bs : List ℕ) (c : Circuit) → write c ≡ bs → inputAt bs headerLength ≡ left (encodeAll (c .gates)) 0
 unfolding write fourBytes
 gates-behind bs c e = rw (← e)
 
@@ -115,7 +115,7 @@ module _ (bs : List ℕ) (h : CircuitHeader) (is : h ≡ headerOf (circuitRead b
 
     pub list-whole : ((i : ℕ) → Fits w8 (getD bs i 0)) → (text one end : List ℕ) (at first last : ℕ) →
         written one first ≡ puts (firstLine (h .qubits) (h .ancillas) (h .gates)) text at →
-        written end last ≡ puts (linesRead (h .qubits + h .ancillas) 1 (h .gates) (inputAt bs 7)) one first →
+        written end last ≡ puts (linesRead (h .qubits + h .ancillas) 1 (h .gates) (inputAt bs headerLength)) one first →
         written end last ≡ puts (listed (circuitRead bs)) text at
     unfolding headerOf listed
     list-whole ok text one end at first last p q =
@@ -124,7 +124,7 @@ module _ (bs : List ℕ) (h : CircuitHeader) (is : h ≡ headerOf (circuitRead b
         let e : h ≡ headerOf (gives c) = rw (r .1) at is in
         let w = write-circuitRead bs (r .1) in
         let gates : List ℕ = gateLines 1 (c .gates) in
-        let same : linesRead (c .dataWires + c .ancillas) 1 (length (c .gates)) (inputAt bs 7) ≡ gates =
+        let same : linesRead (c .dataWires + c .ancillas) 1 (length (c .gates)) (inputAt bs headerLength) ≡ gates =
             rw (gates-behind bs c (w .1 (λ i. ok i .fits))) (lines-are (c .dataWires + c .ancillas) 1 (c .gates) (w .0 .all-gates)) in
         rw (r .1)
         (put-then (firstLine (c .dataWires) (c .ancillas) (length (c .gates))) gates text one end at first last (rw e at p)

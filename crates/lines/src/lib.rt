@@ -12,6 +12,7 @@ use circuit::GateRead;
 use circuit::WireList;
 use circuit::read_circuit;
 use circuit::read_gate;
+use limits::HEADER_LENGTH;
 
 // One byte.
 pub fn put(text: &mut [u8], at: usize, byte: u8) -> usize
@@ -222,7 +223,7 @@ pub fn list_circuit(text: &mut [u8], at: usize, circuit: &[u8]) -> usize
         text,
         first_end,
         circuit,
-        7,
+        HEADER_LENGTH,
         (header.qubits + header.ancillas) as u8,
         header.gates,
     )

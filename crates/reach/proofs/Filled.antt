@@ -6,6 +6,7 @@ use Prim.Native.Nat.{ℕ, suc, _≤_}
 use native.Mathlib.Nat.{le-trans, le-of-suc-le-suc, lt-irrefl, lt-of-le-of-lt}
 use borrow.Author.Tests.{lt-ltb, le-ltb}
 use lib.Dec.{ltb}
+use Rattle.model.specs.Limits.{mostProcedures}
 use Rattle.model.specs.Syntax.{Program, Statement, count, body}
 use Rattle.model.specs.Reach.{calls, Reaches, direct, onward, reaches, recursive, lacksRemoval, width, anyBelow, anyLacksRemoval, anyTooWide}
 use Rattle.model.proofs.Tests.{byLt, clash, not-true-false, any-same}
@@ -26,16 +27,16 @@ reaches-low : (P : Program) {f g : ℕ} → Reaches P f g → f ≤ count P
 reaches-low P (direct {f = f} {g = g} c) = from-body P f g c
 reaches-low P (onward {f = f} {h = h} c r) = from-body P f h c
 
-module _ (p : ℕ) (bs ix : List ℕ) (l : p ≤ 16) where
+module _ (p : ℕ) (bs ix : List ℕ) (l : p ≤ mostProcedures) where
   abbrev P : Program
   P = programAt p bs ix
 
   -- the matrix is the table of reach
   pub reach-table : reachAt p bs ix ≡ reachTable P
   unfolding reachAt
-  reach-table = rw (le-ltb 16 p l)
+  reach-table = rw (le-ltb mostProcedures p l)
 
-  outside : (f g : ℕ) → (f ≤ 16 → g ≤ 16 → ⊥) → false ≡ reaches P f g
+  outside : (f g : ℕ) → (f ≤ mostProcedures → g ≤ mostProcedures → ⊥) → false ≡ reaches P f g
   outside f g far = sym (not-true-false (reaches P f g) (λ r.
     let path = reach-sound P f g r in
     let low : f ≤ p = rw (count-at p bs ix) at (reaches-low P path) in
@@ -45,11 +46,11 @@ module _ (p : ℕ) (bs ix : List ℕ) (l : p ≤ 16) where
   -- its entry of row f and column g says whether f reaches g
   pub reach-entry : (f g : ℕ) → entry (reachAt p bs ix) f g ≡ reaches P f g
   unfolding entry reachTable
-  reach-entry f g = rw reach-table (byLt 16 f
-    (λ o. rw (lt-ltb 16 f o) (outside f g (λ lf lg. lt-irrefl f (lt-of-le-of-lt lf o))))
-    (λ lf. rw (le-ltb 16 f lf) (byLt 16 g
-      (λ o. rw (lt-ltb 16 g o) (outside f g (λ lf lg. lt-irrefl g (lt-of-le-of-lt lg o))))
-      (λ lg. rw (le-ltb 16 g lg) (shows-mark-at (digitsOf (reaches P)) (reaches P) (digits-shown (reaches P)) f g lf lg)))))
+  reach-entry f g = rw reach-table (byLt mostProcedures f
+    (λ o. rw (lt-ltb mostProcedures f o) (outside f g (λ lf lg. lt-irrefl f (lt-of-le-of-lt lf o))))
+    (λ lf. rw (le-ltb mostProcedures f lf) (byLt mostProcedures g
+      (λ o. rw (lt-ltb mostProcedures g o) (outside f g (λ lf lg. lt-irrefl g (lt-of-le-of-lt lg o))))
+      (λ lg. rw (le-ltb mostProcedures g lg) (shows-mark-at (digitsOf (reaches P)) (reaches P) (digits-shown (reaches P)) f g lf lg)))))
 
   -- a call from f is recursive by the matrix where it is
   pub recursive-entry : (f : ℕ) → recursiveIn (reachAt p bs ix) f ≡ recursive P f

@@ -7,6 +7,7 @@ use native.Mathlib.Omega.{arith}
 use borrow.Author.Tests.{lt-ltb, le-ltb, eqb-true}
 use lib.ListN.{length-map}
 use lib.Dec.{eqb, ltb}
+use Rattle.model.specs.Limits.{mostProcedures}
 use Rattle.model.specs.Lists.{range}
 use Rattle.model.specs.Syntax.{Statement, skip, NOT, sequence, if, qcase, call, Program, count, body}
 use Rattle.model.specs.Reach.{calls, reachesBelow, reaches}
@@ -84,7 +85,7 @@ module _ (p : ℕ) (bs ix : List ℕ) where
     (λ ge. let over : count P < f = rw count-at ge in rw (le-ltb f (suc p) ge, body-out P f over))
 
   -- marked for every body and closed, the matrix is the table of reach
-  pub filled-reach : p ≤ 16 → closed (suc p) (markedBelow (bodyAt p bs ix) (suc p) noMarks) ≡ reachTable P
+  pub filled-reach : p ≤ mostProcedures → closed (suc p) (markedBelow (bodyAt p bs ix) (suc p) noMarks) ≡ reachTable P
   unfolding reachTable
   filled-reach l = shown-digits (reaches P) (closed (suc p) m)
     (subst (λ (n : ℕ). Shows (closed (suc p) m) (reachesBelow P (suc n))) (sym count-at) (shows-closed P m shown (suc p) (suc-le-suc l)))

@@ -10,6 +10,7 @@ use borrow.Author.Needs.{needs}
 use borrow.Author.Tests.{lt-ltb, le-ltb}
 use lib.ListN.{length}
 use lib.Dec.{ltb}
+use Rattle.model.specs.Limits.{mostProcedures, mostDepth}
 use Rattle.model.specs.Meaning.{digit}
 use Rattle.model.specs.Syntax.{Number, Statement}
 use Rattle.model.specs.Reach.{isEmpty, lacksRemoval, width, anyBelow}
@@ -200,7 +201,7 @@ parts-are found bs ix p i r e q = rw (← e) q
 
 -- a width over 1 is told by the width given
 pub wide-is : (m : List ℕ) (p : ℕ) (bs ix : List ℕ) (f root w : ℕ) → root ≡ rootOf ix f →
-    w ≡ min 2 (width (recursiveIn m f) (statementAt p bs ix 32 root)) → ltb 1 w ≡ wideIn m p bs ix f
+    w ≡ min 2 (width (recursiveIn m f) (statementAt p bs ix mostDepth root)) → ltb 1 w ≡ wideIn m p bs ix f
 unfolding wideIn
 wide-is m p bs ix f root w e q = rw (q, e) (over (width (recursiveIn m f) (bodyAt p bs ix f)))
     where
@@ -210,11 +211,11 @@ wide-is m p bs ix f root w e q = rw (q, e) (over (width (recursiveIn m f) (bodyA
         (λ ge. let capped : min 2 n ≤ 1 = omega arith in rw (le-ltb 1 n ge, le-ltb 1 (min 2 n) capped))
 
 pub lacks-is : (m : List ℕ) (p : ℕ) (bs ix : List ℕ) (f root : ℕ) (r : Bool) → root ≡ rootOf ix f →
-    r ≡ lacksRemoval (recursiveIn m f) (statementAt p bs ix 32 root) → r ≡ lacksIn m p bs ix f
+    r ≡ lacksRemoval (recursiveIn m f) (statementAt p bs ix mostDepth root) → r ≡ lacksIn m p bs ix f
 unfolding lacksIn
 lacks-is m p bs ix f root r e q = rw (← e) q
 
-pub body-marked : (p : ℕ) (bs ix : List ℕ) (f root : ℕ) (m n : List ℕ) → root ≡ rootOf ix f → n ≡ marked f (statementAt p bs ix 32 root) m →
+pub body-marked : (p : ℕ) (bs ix : List ℕ) (f root : ℕ) (m n : List ℕ) → root ≡ rootOf ix f → n ≡ marked f (statementAt p bs ix mostDepth root) m →
     n ≡ marked f (bodyAt p bs ix f) m
 body-marked p bs ix f root m n e q = rw (← e) q
 
@@ -252,13 +253,13 @@ module _ (bad : ℕ → Bool) where
 
 -- the matrix filled
 module _ (p : ℕ) (bs ix : List ℕ) where
-  pub fill-many : 16 < p → noMarks ≡ reachAt p bs ix
+  pub fill-many : mostProcedures < p → noMarks ≡ reachAt p bs ix
   unfolding reachAt
-  fill-many l = rw (lt-ltb 16 p l)
+  fill-many l = rw (lt-ltb mostProcedures p l)
 
-  pub fill-closed : (m n : List ℕ) → p ≤ 16 → m ≡ markedBelow (bodyAt p bs ix) (suc p) noMarks → n ≡ closed (suc p) m → n ≡ reachAt p bs ix
+  pub fill-closed : (m n : List ℕ) → p ≤ mostProcedures → m ≡ markedBelow (bodyAt p bs ix) (suc p) noMarks → n ≡ closed (suc p) m → n ≡ reachAt p bs ix
   unfolding reachAt
-  fill-closed m n l e q = rw (le-ltb 16 p l) (q ∙ ap (closed (suc p)) e ∙ filled-reach p bs ix l)
+  fill-closed m n l e q = rw (le-ltb mostProcedures p l) (q ∙ ap (closed (suc p)) e ∙ filled-reach p bs ix l)
 
 pub ruleset removing = (needs, count-none, count-there)
 pub ruleset marking = (needs, marks-spent, marks-none, marks-two, marks-call)

@@ -9,59 +9,61 @@ use borrow.Author.Needs.{needs}
 use borrow.Author.Tests.{lt-ltb, le-ltb}
 use lib.ListN.{getD, set}
 use lib.Dec.{eqb}
+use Rattle.limits.specs.Sizes.{bodyCount, matrixLength}
+use Rattle.model.specs.Limits.{mostProcedures}
 use Rattle.model.proofs.Tests.{not-below}
 use Rattle.reach.specs.Matrix.{cell, markAt, entry, mark, carried, joined, extended, through, closed}
 
 -- a mark is looked for within the matrix only
-pub mark-within : (m : List ℕ) (at : ℕ) → at < 289 → eqb (getD m at 0) 1 ≡ markAt m at
+pub mark-within : (m : List ℕ) (at : ℕ) → at < matrixLength → eqb (getD m at 0) 1 ≡ markAt m at
 unfolding markAt
-mark-within m at l = rw (lt-ltb at 289 l)
+mark-within m at l = rw (lt-ltb at matrixLength l)
 
-pub mark-past : (m : List ℕ) (at : ℕ) → 289 ≤ at → false ≡ markAt m at
+pub mark-past : (m : List ℕ) (at : ℕ) → matrixLength ≤ at → false ≡ markAt m at
 unfolding markAt
-mark-past m at l = rw (le-ltb at 289 l)
+mark-past m at l = rw (le-ltb at matrixLength l)
 
 -- the matrix's cells
 module _ (m : List ℕ) (f g : ℕ) where
-  pub entry-low : 16 < f → false ≡ entry m f g
+  pub entry-low : mostProcedures < f → false ≡ entry m f g
   unfolding entry
-  entry-low l = rw (lt-ltb 16 f l)
+  entry-low l = rw (lt-ltb mostProcedures f l)
 
-  pub mark-low : 16 < f → m ≡ mark f g m
+  pub mark-low : mostProcedures < f → m ≡ mark f g m
   unfolding mark
-  mark-low l = rw (lt-ltb 16 f l)
+  mark-low l = rw (lt-ltb mostProcedures f l)
 
-  module _ (lf : f ≤ 16) where
-    pub entry-right : 16 < g → false ≡ entry m f g
+  module _ (lf : f ≤ mostProcedures) where
+    pub entry-right : mostProcedures < g → false ≡ entry m f g
     unfolding entry
-    entry-right l = rw (le-ltb 16 f lf, lt-ltb 16 g l)
+    entry-right l = rw (le-ltb mostProcedures f lf, lt-ltb mostProcedures g l)
 
-    pub mark-right : 16 < g → m ≡ mark f g m
+    pub mark-right : mostProcedures < g → m ≡ mark f g m
     unfolding mark
-    mark-right l = rw (le-ltb 16 f lf, lt-ltb 16 g l)
+    mark-right l = rw (le-ltb mostProcedures f lf, lt-ltb mostProcedures g l)
 
-    module _ (lg : g ≤ 16) (at : ℕ) (a : at ≡ cell f g) where
+    module _ (lg : g ≤ mostProcedures) (at : ℕ) (a : at ≡ cell f g) where
       pub entry-there : (r : Bool) → r ≡ markAt m at → r ≡ entry m f g
       unfolding entry
-      entry-there r e = rw (le-ltb 16 f lf, le-ltb 16 g lg, ← a) e
+      entry-there r e = rw (le-ltb mostProcedures f lf, le-ltb mostProcedures g lg, ← a) e
 
       pub mark-there : set m at 1 ≡ mark f g m
       unfolding mark
-      mark-there = rw (le-ltb 16 f lf, le-ltb 16 g lg, ← a)
+      mark-there = rw (le-ltb mostProcedures f lf, le-ltb mostProcedures g lg, ← a)
 
 module _ (m : List ℕ) (from to : ℕ) where
-  pub carry-past : 289 ≤ to → m ≡ carried from to m
+  pub carry-past : matrixLength ≤ to → m ≡ carried from to m
   unfolding carried
-  carry-past l = rw (le-ltb to 289 l)
+  carry-past l = rw (le-ltb to matrixLength l)
 
-  module _ (l : to < 289) (b : Bool) (e : b ≡ markAt m from) where
+  module _ (l : to < matrixLength) (b : Bool) (e : b ≡ markAt m from) where
     pub carry-yes : b ≡ true → set m to 1 ≡ carried from to m
     unfolding carried
-    carry-yes y = rw (lt-ltb to 289 l, ← e, y)
+    carry-yes y = rw (lt-ltb to matrixLength l, ← e, y)
 
     pub carry-not : b ≡ false → m ≡ carried from to m
     unfolding carried
-    carry-not n = rw (lt-ltb to 289 l, ← e, n)
+    carry-not n = rw (lt-ltb to matrixLength l, ← e, n)
 
 pub ruleset cells =
     (needs, mark-within, mark-past, entry-low, entry-right, entry-there, mark-low, mark-right, mark-there, carry-past, carry-yes, carry-not)
@@ -72,8 +74,8 @@ module _ (m m₀ : List ℕ) (f v g : ℕ) (q : m ≡ joined g f v m₀) where
   unfolding joined
   join-more from to next a b e = rw (add-one g, ← q, ← a, ← b) e
 
-  pub join-end : 17 ≤ g → g ≤ 17 → m ≡ joined 17 f v m₀
-  join-end l h = let e : g ≡ 17 = omega arith in rw e at q
+  pub join-end : bodyCount ≤ g → g ≤ bodyCount → m ≡ joined bodyCount f v m₀
+  join-end l h = let e : g ≡ bodyCount = omega arith in rw e at q
 
 pub join-start : (m : List ℕ) (f v : ℕ) → m ≡ joined 0 f v m
 unfolding joined
@@ -81,7 +83,7 @@ join-start m f v = refl
 
 -- where f reaches v
 module _ (m : List ℕ) (f v at : ℕ) (b : Bool) (a : at ≡ cell f v) (e : b ≡ markAt m at) where
-  pub extend-yes : (next : List ℕ) → b ≡ true → next ≡ joined 17 f v m → next ≡ extended f v m
+  pub extend-yes : (next : List ℕ) → b ≡ true → next ≡ joined bodyCount f v m → next ≡ extended f v m
   unfolding extended
   extend-yes next y j = rw (← a, ← e, y) j
 
@@ -95,8 +97,8 @@ module _ (m m₀ : List ℕ) (f v : ℕ) (q : m ≡ through f v m₀) where
   unfolding through
   through-more next e = rw (add-one f, ← q) e
 
-  pub through-end : 17 ≤ f → f ≤ 17 → m ≡ through 17 v m₀
-  through-end l h = let e : f ≡ 17 = omega arith in rw e at q
+  pub through-end : bodyCount ≤ f → f ≤ bodyCount → m ≡ through bodyCount v m₀
+  through-end l h = let e : f ≡ bodyCount = omega arith in rw e at q
 
 pub through-start : (m : List ℕ) (v : ℕ) → m ≡ through 0 v m
 unfolding through
@@ -104,11 +106,11 @@ through-start m v = refl
 
 -- one procedure after the other
 module _ (m m₀ : List ℕ) (v : ℕ) (q : m ≡ closed v m₀) where
-  pub close-more : (next : List ℕ) → next ≡ through 17 v m → next ≡ closed (v + 1) m₀
+  pub close-more : (next : List ℕ) → next ≡ through bodyCount v m → next ≡ closed (v + 1) m₀
   unfolding closed
   close-more next e = rw (add-one v, ← q) e
 
-  pub close-last : (p : ℕ) (next : List ℕ) → v ≤ p → p ≤ v → next ≡ through 17 v m → next ≡ closed (suc p) m₀
+  pub close-last : (p : ℕ) (next : List ℕ) → v ≤ p → p ≤ v → next ≡ through bodyCount v m → next ≡ closed (suc p) m₀
   unfolding closed
   close-last p next l h e = let same : p ≡ v = omega arith in rw (same, ← q) e
 

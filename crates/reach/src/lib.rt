@@ -2,6 +2,7 @@
 ghost use mathlib.Core.Path.{_≡_};
 ghost use Prim.Native.Nat.{_+_, suc, min, max};
 ghost use lib.ListN.{length};
+ghost use Rattle.limits.specs.Sizes.{bodyCount};
 ghost use Rattle.model.specs.Meaning.{digit};
 ghost use Rattle.model.specs.Reach as model;
 ghost use Rattle.model.specs.Reach.{lacksRemoval};
@@ -9,14 +10,9 @@ ghost use Rattle.records.specs.Fields.{removalsOf};
 ghost use Rattle.table.specs.Index.{rootOf, statementAt, bodyAt};
 ghost use Rattle.reach.specs.Matrix.{cell, markAt, entry, recursiveIn, mark, carried, joined, extended, through, closed};
 ghost use Rattle.reach.specs.Walk.{partsOf, partsAt, marked, markedBelow, reachAt, lacksIn, wideIn, anyLacksIn, anyWideIn};
+use limits::{BODIES, BODY_COUNT, LIST_LENGTH, MATRIX_LENGTH, MOST_DEPTH, MOST_PROCEDURES, ROOTS_AT};
 use records::byte;
 use step::{Qubits, Step, start, step_at};
-
-// "p, the number of procedures, 0 to 16"
-const MOST_PROCEDURES: u8 = 16;
-
-// "a tree is at most 32 records deep"
-const MOST_DEPTH: u8 = 32;
 
 // What a record is for calls: a statement without parts, one of two parts, which come in turn or of which one is chosen, or a call with the
 // place of its removals.
@@ -30,21 +26,21 @@ pub enum Parts {
 fn cell(f: u8, g: u8) -> usize
     ensures { λ r. ⌜ r ≡ cell f g ⌝ }
 {
-    17 * f as usize + g as usize
+    BODY_COUNT * f as usize + g as usize
 }
 
 // Does a mark stand at a place?
-fn mark_at(matrix: &[u8; 289], at: usize) -> bool
+fn mark_at(matrix: &[u8; MATRIX_LENGTH], at: usize) -> bool
     ensures { λ r. ⌜ r ≡ markAt (now (matrix .entry)) at ⌝ }
 {
-    if at < 289 {
+    if at < MATRIX_LENGTH {
         return matrix[at] == 1;
     }
     false
 }
 
 // Does f reach g?
-fn entry(matrix: &[u8; 289], f: u8, g: u8) -> bool
+fn entry(matrix: &[u8; MATRIX_LENGTH], f: u8, g: u8) -> bool
     ensures { λ r. ⌜ r ≡ entry (now (matrix .entry)) f g ⌝ }
 {
     if MOST_PROCEDURES < f {
@@ -57,14 +53,14 @@ fn entry(matrix: &[u8; 289], f: u8, g: u8) -> bool
 }
 
 // "A call from f to g is recursive if g also reaches f"
-pub fn recursive(matrix: &[u8; 289], f: u8, g: u8) -> bool
+pub fn recursive(matrix: &[u8; MATRIX_LENGTH], f: u8, g: u8) -> bool
     ensures { λ r. ⌜ r ≡ recursiveIn (now (matrix .entry)) f g ⌝ }
 {
     entry(matrix, g, f)
 }
 
 // A mark at row f, column g.
-fn mark(matrix: &mut [u8; 289], f: u8, g: u8)
+fn mark(matrix: &mut [u8; MATRIX_LENGTH], f: u8, g: u8)
     ensures { λ r. ⌜ now (matrix .exit) ≡ mark f g (now (matrix .entry)) ⌝ }
 {
     if MOST_PROCEDURES < f {
@@ -78,10 +74,10 @@ fn mark(matrix: &mut [u8; 289], f: u8, g: u8)
 }
 
 // Where a mark stands at one place, one is set at another.
-fn carry(matrix: &mut [u8; 289], from: usize, to: usize)
+fn carry(matrix: &mut [u8; MATRIX_LENGTH], from: usize, to: usize)
     ensures { λ r. ⌜ now (matrix .exit) ≡ carried from to (now (matrix .entry)) ⌝ }
 {
-    if 289 <= to {
+    if MATRIX_LENGTH <= to {
         return;
     }
     if mark_at(matrix, from) {
@@ -90,16 +86,16 @@ fn carry(matrix: &mut [u8; 289], from: usize, to: usize)
 }
 
 // Row f gets the marks of row v.
-fn join(matrix: &mut [u8; 289], f: u8, v: u8)
-    ensures { λ r. ⌜ now (matrix .exit) ≡ joined 17 f v (now (matrix .entry)) ⌝ }
+fn join(matrix: &mut [u8; MATRIX_LENGTH], f: u8, v: u8)
+    ensures { λ r. ⌜ now (matrix .exit) ≡ joined bodyCount f v (now (matrix .entry)) ⌝ }
 {
-    for g in 0..17 {
+    for g in 0..BODIES {
         carry(matrix, cell(v, g), cell(f, g));
     }
 }
 
 // Where f reaches v, it reaches what v reaches.
-fn extend(matrix: &mut [u8; 289], f: u8, v: u8)
+fn extend(matrix: &mut [u8; MATRIX_LENGTH], f: u8, v: u8)
     ensures { λ r. ⌜ now (matrix .exit) ≡ extended f v (now (matrix .entry)) ⌝ }
 {
     if mark_at(matrix, cell(f, v)) {
@@ -108,16 +104,16 @@ fn extend(matrix: &mut [u8; 289], f: u8, v: u8)
 }
 
 // All rows go through v.
-fn go_through(matrix: &mut [u8; 289], v: u8)
-    ensures { λ r. ⌜ now (matrix .exit) ≡ through 17 v (now (matrix .entry)) ⌝ }
+fn go_through(matrix: &mut [u8; MATRIX_LENGTH], v: u8)
+    ensures { λ r. ⌜ now (matrix .exit) ≡ through bodyCount v (now (matrix .entry)) ⌝ }
 {
-    for f in 0..17 {
+    for f in 0..BODIES {
         extend(matrix, f, v);
     }
 }
 
 // All rows go through main and each procedure, one after the other.
-fn close(matrix: &mut [u8; 289], p: u8)
+fn close(matrix: &mut [u8; MATRIX_LENGTH], p: u8)
     ensures { λ r. ⌜ now (matrix .exit) ≡ closed (suc p) (now (matrix .entry)) ⌝ }
 {
     for v in 0..=p {
@@ -147,7 +143,7 @@ fn parts_of(found: Step) -> Parts
 pub fn parts_at(table: &[u8], index: &[u16], p: u8, i: usize) -> Parts
     ensures { λ r. ⌜ r ≡ partsAt p (now (table .entry)) (now (index .entry)) i ⌝ }
 {
-    let none = Qubits { at: [0; 32], len: 0 };
+    let none = Qubits { at: [0; LIST_LENGTH], len: 0 };
     parts_of(step_at(table, index, p, i, none))
 }
 
@@ -155,7 +151,7 @@ pub fn parts_at(table: &[u8], index: &[u16], p: u8, i: usize) -> Parts
 pub fn root(index: &[u16], f: u8) -> usize
     ensures { λ r. ⌜ r ≡ rootOf (now (index .entry)) f ⌝ }
 {
-    start(index, 512 + f as usize)
+    start(index, ROOTS_AT + f as usize)
 }
 
 // How many removals stand at a place? Place 0 has none.
@@ -166,7 +162,7 @@ pub fn removal_count(table: &[u8], at: usize) -> u8
 }
 
 // Row f is marked for every call in the statement at record i, of at most `depth` records from its root down.
-fn mark_calls(table: &[u8], index: &[u16], p: u8, i: usize, depth: u8, f: u8, matrix: &mut [u8; 289])
+fn mark_calls(table: &[u8], index: &[u16], p: u8, i: usize, depth: u8, f: u8, matrix: &mut [u8; MATRIX_LENGTH])
     ensures { λ r. ⌜ now (matrix .exit) ≡ marked f (statementAt p (now (table .entry)) (now (index .entry)) depth i) (now (matrix .entry)) ⌝ }
 {
     if depth == 0 {
@@ -184,14 +180,14 @@ fn mark_calls(table: &[u8], index: &[u16], p: u8, i: usize, depth: u8, f: u8, ma
 }
 
 // Row f is marked for every call in the body of f.
-fn mark_body(table: &[u8], index: &[u16], p: u8, f: u8, matrix: &mut [u8; 289])
+fn mark_body(table: &[u8], index: &[u16], p: u8, f: u8, matrix: &mut [u8; MATRIX_LENGTH])
     ensures { λ r. ⌜ now (matrix .exit) ≡ marked f (bodyAt p (now (table .entry)) (now (index .entry)) f) (now (matrix .entry)) ⌝ }
 {
     mark_calls(table, index, p, root(index, f), MOST_DEPTH, f, matrix);
 }
 
 // The rows of main and each procedure are marked, each for every call in its body.
-fn mark_bodies(table: &[u8], index: &[u16], p: u8, matrix: &mut [u8; 289])
+fn mark_bodies(table: &[u8], index: &[u16], p: u8, matrix: &mut [u8; MATRIX_LENGTH])
     ensures { λ r. ⌜ now (matrix .exit) ≡ markedBelow (bodyAt p (now (table .entry)) (now (index .entry))) (suc p) (now (matrix .entry)) ⌝ }
 {
     for f in 0..=p {
@@ -200,10 +196,10 @@ fn mark_bodies(table: &[u8], index: &[u16], p: u8, matrix: &mut [u8; 289])
 }
 
 // Which procedure reaches which, in the program of a table with p procedures. It has at most 16; of more, nothing is marked.
-pub fn fill_reach(table: &[u8], index: &[u16], p: u8, matrix: &mut [u8; 289])
+pub fn fill_reach(table: &[u8], index: &[u16], p: u8, matrix: &mut [u8; MATRIX_LENGTH])
     ensures { λ r. ⌜ now (matrix .exit) ≡ reachAt p (now (table .entry)) (now (index .entry)) ⌝ }
 {
-    *matrix = [0; 289];
+    *matrix = [0; MATRIX_LENGTH];
     if MOST_PROCEDURES < p {
         return;
     }
@@ -212,7 +208,7 @@ pub fn fill_reach(table: &[u8], index: &[u16], p: u8, matrix: &mut [u8; 289])
 }
 
 // Does a recursive call in the statement at record i, in the body of f, lack a removal?
-fn lacks_removal(table: &[u8], index: &[u16], p: u8, i: usize, depth: u8, f: u8, matrix: &[u8; 289]) -> bool
+fn lacks_removal(table: &[u8], index: &[u16], p: u8, i: usize, depth: u8, f: u8, matrix: &[u8; MATRIX_LENGTH]) -> bool
     ensures { λ r. ⌜ r ≡ lacksRemoval (recursiveIn (now (matrix .entry)) f) (statementAt p (now (table .entry)) (now (index .entry)) depth i) ⌝ }
 {
     if depth == 0 {
@@ -264,7 +260,7 @@ fn one_if(counts: bool) -> u8
 
 // "Width: skip and NOT 0, sequence the sum, if and qcase the larger, recursive call 1, other call 0": of the statement at record i, in the
 // body of f. More than 2 is given as 2.
-pub fn width(table: &[u8], index: &[u16], p: u8, i: usize, depth: u8, f: u8, matrix: &[u8; 289]) -> u8
+pub fn width(table: &[u8], index: &[u16], p: u8, i: usize, depth: u8, f: u8, matrix: &[u8; MATRIX_LENGTH]) -> u8
     ensures { λ r. ⌜ r ≡ min 2 (model.width (recursiveIn (now (matrix .entry)) f)
         (statementAt p (now (table .entry)) (now (index .entry)) depth i)) ⌝ }
 {
@@ -284,21 +280,21 @@ pub fn width(table: &[u8], index: &[u16], p: u8, i: usize, depth: u8, f: u8, mat
 }
 
 // Does a recursive call in the body of f lack a removal?
-fn body_lacks_removal(table: &[u8], index: &[u16], p: u8, f: u8, matrix: &[u8; 289]) -> bool
+fn body_lacks_removal(table: &[u8], index: &[u16], p: u8, f: u8, matrix: &[u8; MATRIX_LENGTH]) -> bool
     ensures { λ r. ⌜ r ≡ lacksIn (now (matrix .entry)) p (now (table .entry)) (now (index .entry)) f ⌝ }
 {
     lacks_removal(table, index, p, root(index, f), MOST_DEPTH, f, matrix)
 }
 
 // Has the body of f a width over 1?
-fn body_too_wide(table: &[u8], index: &[u16], p: u8, f: u8, matrix: &[u8; 289]) -> bool
+fn body_too_wide(table: &[u8], index: &[u16], p: u8, f: u8, matrix: &[u8; MATRIX_LENGTH]) -> bool
     ensures { λ r. ⌜ r ≡ wideIn (now (matrix .entry)) p (now (table .entry)) (now (index .entry)) f ⌝ }
 {
     1 < width(table, index, p, root(index, f), MOST_DEPTH, f, matrix)
 }
 
 // Refusal 10: does a recursive call in one of the bodies lack a removal?
-pub fn any_lacks_removal(table: &[u8], index: &[u16], p: u8, matrix: &[u8; 289]) -> bool
+pub fn any_lacks_removal(table: &[u8], index: &[u16], p: u8, matrix: &[u8; MATRIX_LENGTH]) -> bool
     ensures { λ r. ⌜ r ≡ anyLacksIn (now (matrix .entry)) p (now (table .entry)) (now (index .entry)) ⌝ }
 {
     for f in 0..=p {
@@ -310,7 +306,7 @@ pub fn any_lacks_removal(table: &[u8], index: &[u16], p: u8, matrix: &[u8; 289])
 }
 
 // Refusal 11: has one of the bodies a width over 1?
-pub fn any_too_wide(table: &[u8], index: &[u16], p: u8, matrix: &[u8; 289]) -> bool
+pub fn any_too_wide(table: &[u8], index: &[u16], p: u8, matrix: &[u8; MATRIX_LENGTH]) -> bool
     ensures { λ r. ⌜ r ≡ anyWideIn (now (matrix .entry)) p (now (table .entry)) (now (index .entry)) ⌝ }
 {
     for f in 0..=p {

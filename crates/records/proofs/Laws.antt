@@ -15,6 +15,8 @@ use mir.Val.{Fits, SFits, toZ, ofZ}
 use mir.Facts.{toZ-pos, toZ-ofZ}
 use types.Run.{OneOf, miss}
 use denote.Enum.Declared.{tagOf}
+use Rattle.limits.specs.Sizes.{placeCount}
+use Rattle.model.specs.Limits.{kindCount}
 use Rattle.model.specs.Reading.{permittedMaps, signed16, requiredMap, optionalMap, permitted, stands}
 use Rattle.model.proofs.Tests.{and-left, and-right}
 use Rattle.records.proofs.Answer.{the-type}
@@ -145,7 +147,7 @@ maps-fit k = let a = at-most 24 permittedMaps k refl in omega arith
 
 -- a map is permitted where it is what its kind requires, or that and what is optional; no other kind has any bit
 module _ (kind map i : ℕ) (e : i ≡ kind) where
-  pub map-none : 12 ≤ i → eqb map 0 ≡ permitted kind map
+  pub map-none : kindCount ≤ i → eqb map 0 ≡ permitted kind map
   map-none l =
       rw (List·getD-eq-default permittedMaps 0 {n = kind} (omega arith))
       (twice (eqb map 0))
@@ -185,13 +187,13 @@ unfolding maybeRemovalsAt
 removals-lack removes bs at e = rw e
 
 -- their place, where it has 16 bits
-pub place-stands : (removes : Bool) (at : ℕ) → removes ≡ true → at < 65536 → at ≡ placeOf removes at
+pub place-stands : (removes : Bool) (at : ℕ) → removes ≡ true → at < placeCount → at ≡ placeOf removes at
 unfolding placeOf
-place-stands removes at e l = rw (e, lt-ltb at 65536 l)
+place-stands removes at e l = rw (e, lt-ltb at placeCount l)
 
-pub place-past : (removes : Bool) (at : ℕ) → removes ≡ true → 65536 ≤ at → 0 ≡ placeOf removes at
+pub place-past : (removes : Bool) (at : ℕ) → removes ≡ true → placeCount ≤ at → 0 ≡ placeOf removes at
 unfolding placeOf
-place-past removes at e l = rw (e, le-ltb at 65536 l)
+place-past removes at e l = rw (e, le-ltb at placeCount l)
 
 pub place-lacks : (removes : Bool) (at : ℕ) → removes ≡ false → 0 ≡ placeOf removes at
 unfolding placeOf
@@ -233,7 +235,7 @@ plain-last k f2 f3 f9 f10 f11 = rw (ne-eqb k 2 f2, ne-eqb k 3 f3, ne-eqb k 9 f9,
 pub required-known : (k i : ℕ) → i ≡ k → requiredMap i ≡ requiredMap k
 required-known k i e = rw e
 
-pub required-none : (k i : ℕ) → i ≡ k → 12 ≤ i → 0 ≡ requiredMap k
+pub required-none : (k i : ℕ) → i ≡ k → kindCount ≤ i → 0 ≡ requiredMap k
 required-none k i e l = rw (List·getD-eq-default permittedMaps 0 {n = k} (omega arith))
 
 -- the fields go by these bits

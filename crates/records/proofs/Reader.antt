@@ -9,7 +9,8 @@ use borrow.Author.Tests.{lt-ltb, le-ltb, le-leb, lt-leb, ne-eqb, eqb-true}
 use lib.ListN.{length}
 use lib.Dec.{eqb}
 use lib.IntN.{ℤ}
-use Rattle.model.specs.Limits.{tableStops, wrongField, mostRemovals}
+use Rattle.limits.specs.Sizes.{placeCount}
+use Rattle.model.specs.Limits.{tableStops, wrongField, mostRemovals, kindCount}
 use Rattle.model.specs.Reading as model
 use Rattle.model.specs.Reading.{Input, inputAt, Parsed, parsed, refused, andThen, provided, byte, number, numbers, removals, procedure}
 use Rattle.model.specs.Reading.{permitted, stands, Fields, optional, fields}
@@ -138,12 +139,12 @@ removals-agree bs (suc at) k z =
 
 -- removals, if any
 behind-agrees :
-    (removes : Bool) (bs : List ℕ) (at k : ℕ) → 0 < at → at < 65536 → at ≤ length bs →
+    (removes : Bool) (bs : List ℕ) (at k : ℕ) → 0 < at → at < placeCount → at ≤ length bs →
     Agree (Within bs at 25 (behindRemovals removes bs at))
     (parsed (removalsOf bs (placeOf removes at)) (inputAt bs (behindRemovals removes bs at) k)) (answer.Place (behindRemovals removes bs at))
     (optional removes removals [] (inputAt bs at k)) (maybeRemovalsAt removes bs at)
 unfolding optional maybeRemovalsAt placeOf removalsOf behindRemovals
-behind-agrees true bs at k z l h = rw (lt-ltb at 65536 l) (removals-agree bs at k z)
+behind-agrees true bs at k z l h = rw (lt-ltb at placeCount l) (removals-agree bs at k z)
 behind-agrees false bs at k z l h = reads (record { low = omega arith; high = omega arith; inside = h })
 
 -- a procedure is a byte
@@ -222,7 +223,7 @@ module _ (p : ℕ) (bs : List ℕ) (at k : ℕ) (h : at ≤ length bs) where
       number-then _ _ _ _ _ _ (number-agrees bs (at + 3) k) λ b.
       reads (refl, record { low = omega arith; high = omega arith; inside = b }))))
 
-  module _ (z : 0 < at) (s : at < 65536) where
+  module _ (z : 0 < at) (s : at < placeCount) where
     -- removals, if any, then number a
     touched-from :
         (j : ℕ) (make : ℕ → Number → Record) → ((place : ℕ) (a : Number) → kindOf (make place a) ≡ j) →
@@ -273,7 +274,7 @@ module _ (p : ℕ) (bs : List ℕ) (at k : ℕ) (h : at ≤ length bs) where
 
 -- the kinds 0 to 11
 by-kinds :
-    (C : ℕ → Type 0) → C 0 → C 1 → C 2 → C 3 → C 4 → C 5 → C 6 → C 7 → C 8 → C 9 → C 10 → C 11 → (j : ℕ) → j < 12 → C j
+    (C : ℕ → Type 0) → C 0 → C 1 → C 2 → C 3 → C 4 → C 5 → C 6 → C 7 → C 8 → C 9 → C 10 → C 11 → (j : ℕ) → j < kindCount → C j
 by-kinds C c0 c1 c2 c3 c4 c5 c6 c7 c8 c9 c10 c11 j l =
     byEq j 0 (λ e. rw e c0) λ f0. let l1 = past 0 j (omega arith) f0 in
     byEq j 1 (λ e. rw e c1) λ f1. let l2 = past 1 j l1 f1 in
@@ -291,10 +292,10 @@ by-kinds C c0 c1 c2 c3 c4 c5 c6 c7 c8 c9 c10 c11 j l =
     past : (n j : ℕ) → n ≤ j → (j ≡ n → ⊥) → n + 1 ≤ j
     past n j l f = omega arith
 
-    last : (j : ℕ) → j < 12 → 11 ≤ j → j ≡ 11
+    last : (j : ℕ) → j < kindCount → 11 ≤ j → j ≡ 11
     last j l m = omega arith
 
-module _ (p j map : ℕ) (bs : List ℕ) (at k : ℕ) (z : 0 < at) (s : at < 65536) (h : at ≤ length bs) (l : j < 12) (t : permitted j map ≡ true) where
+module _ (p j map : ℕ) (bs : List ℕ) (at k : ℕ) (z : 0 < at) (s : at < placeCount) (h : at ≤ length bs) (l : j < kindCount) (t : permitted j map ≡ true) where
   -- the fields of a record are read at a place as the model reads them from the bytes from there on, where the map is permitted
   fields-agree : RecordAgree bs at k j (recordOf p j (stands 0 map) bs at) (fields p map (inputAt bs at k)) (fieldsAt p j (stands 0 map) bs at)
   unfolding fieldsAt recordOf plain touching comparing fieldsOf kindOf

@@ -7,7 +7,8 @@ use mathlib.Core.List.{List, [], _∷_}
 use lib.ListN.{length, getD}
 use lib.Dec.{ltb, leb, eqb}
 use lib.IntN.{ℤ, pos}
-use Rattle.model.specs.Limits.{mostRemovals, tableStops, wrongField}
+use Rattle.limits.specs.Sizes.{placeCount}
+use Rattle.model.specs.Limits.{mostRemovals, tableStops, wrongField, kindCount}
 use Rattle.model.specs.Syntax as syntax
 use Rattle.model.specs.Reading.{inputAt, Parsed, parsed, refused, signed16, requiredMap, permitted, stands, Fields, fields}
 use Rattle.records.specs.declared.Number.{Number}
@@ -92,7 +93,7 @@ maybeRemovalsAt false bs at = answer.Place at
 
 -- the place of the removals' count, 0 where there are none. A place past 16 bits would be passed over: reading comes to none.
 unfoldable pub placeOf : Bool → ℕ → ℕ
-placeOf true at = cond (ltb at 65536) at 0
+placeOf true at = cond (ltb at placeCount) at 0
 placeOf false at = 0
 
 -- the place behind the removals, a count and three bytes each, where bit 0 stands in the map
@@ -225,5 +226,5 @@ fieldsParsed bs k (answer.Procedure f next) = refused tableStops
 -- no record stands, and reading comes to no place past 16 bits.
 unfoldable pub SaysFields : ℕ → ℕ → Bool → List ℕ → ℕ → Answer → Type 0
 SaysFields p kind removes bs at r =
-    (map k : ℕ) → permitted kind map ≡ true → stands 0 map ≡ removes → kind < 12 → 0 < at → at < 65536 → at ≤ length bs →
+    (map k : ℕ) → permitted kind map ≡ true → stands 0 map ≡ removes → kind < kindCount → 0 < at → at < placeCount → at ≤ length bs →
     fieldsParsed bs k r ≡ fields p map (inputAt bs at k)

@@ -6,17 +6,10 @@ ghost use Rattle.model.specs.Reading.{signed16, requiredMap, stands};
 ghost use Rattle.model.specs.Reading as model;
 ghost use Rattle.records.specs.Fields.{byteAt, writtenAt, numberAt, numbersAt, removalsAt, maybeRemovalsAt, placeOf, behindRemovals, procedureAt};
 ghost use Rattle.records.specs.Fields.{plain, touching, comparing, calling, withNumber, withNumbers, withProcedure, fieldsAt, recordAt, SaysFields};
-
-// "1 the table stops too soon"; "6 removal count, base or procedure byte"
-const TABLE_STOPS: u8 = 1;
-
-const WRONG_FIELD: u8 = 6;
-
-// "removals: a count byte 1 to 8"
-const MOST_REMOVALS: u8 = 8;
+use limits::{KIND_COUNT, MOST_REMOVALS, PLACE_COUNT, TABLE_STOPS, WRONG_FIELD};
 
 // "The permitted map of each kind stands in one table of twelve entries": the bits that must stand, and 16 times the bit that may.
-const MAPS: [u8; 12] = [0x00, 0x12, 0x00, 0x00, 0x12, 0x18, 0x06, 0x06, 0x06, 0x00, 0x00, 0x00];
+const MAPS: [u8; KIND_COUNT] = [0x00, 0x12, 0x00, 0x00, 0x12, 0x18, 0x06, 0x06, 0x06, 0x00, 0x00, 0x00];
 
 // "Base 0 is the constant alone; base 1 adds the size of the procedure's whole list."
 pub enum Number {
@@ -162,7 +155,7 @@ fn place(removes: bool, at: usize) -> u16
     ensures { λ r. ⌜ r ≡ placeOf removes at ⌝ }
 {
     if removes {
-        if at < 65536 { at as u16 } else { 0 }
+        if at < PLACE_COUNT { at as u16 } else { 0 }
     } else {
         0
     }
@@ -269,7 +262,7 @@ fn required(kind: u8) -> u8
     ensures { λ r. ⌜ r ≡ requiredMap kind ⌝ }
 {
     let i = kind as usize;
-    if i < 12 { MAPS[i] % 16 } else { 0 }
+    if i < KIND_COUNT { MAPS[i] % 16 } else { 0 }
 }
 
 // "then only the fields whose bit stands in the map, lowest bit first": the record of this kind, whose map has bit 0 or not.
@@ -290,7 +283,7 @@ pub fn permitted(kind: u8, map: u8) -> bool
     ensures { λ r. ⌜ r ≡ model.permitted kind map ⌝ }
 {
     let i = kind as usize;
-    if 12 <= i {
+    if KIND_COUNT <= i {
         return map == 0;
     }
     let required = MAPS[i] % 16;

@@ -7,7 +7,7 @@ use native.Mathlib.Omega.{arith}
 use borrow.Author.Needs.{needs}
 use borrow.Author.Tests.{ltb-true, le-leb, lt-leb, not-true, not-false}
 use lib.Dec.{ltb}
-use Rattle.model.specs.Limits.{mostQubits}
+use Rattle.model.specs.Limits.{mostQubits, leastWorkspace, wrongQubits, highBit, shortWorkspace}
 use Rattle.model.specs.Syntax.{Program}
 use Rattle.model.specs.Answers.{gives, after, require, accepted, run}
 use Rattle.agreement.proofs.Promise.{Accepted, accepted-is}
@@ -16,7 +16,7 @@ use Rattle.verdict.specs.declared.Judged.{Judged}
 use Rattle.verdict.specs.Judging.{judgedAs}
 use Rattle.verdict.proofs.Ways.{refused-judged, accepted-judged}
 use Rattle.run.specs.Words.{ranWord}
-use Rattle.run.specs.Answers.{answerOf}
+use Rattle.answers.specs.Structs.{answerOf}
 use Rattle.run.proofs.Following.{ran-min}
 
 module _ (bs ix : List ℕ) (n word space : ℕ) (j : Judged) (is : judgedAs j bs ix ≡ accepted bs n) where
@@ -36,27 +36,27 @@ module _ (bs ix : List ℕ) (n word space : ℕ) (j : Judged) (is : judgedAs j b
     range = accepted-is bs n P judged
 
     -- an accepted table has at most 32 qubits
-    pub run-many : 32 < n → record { number = 9; value = 0 } ≡ answerOf (run bs n word space)
+    pub run-many : mostQubits < n → record { number = wrongQubits; value = 0 } ≡ answerOf (run bs n word space)
     run-many h = let few = range .few in absurd (beyond few h)
       where
-        beyond : n ≤ mostQubits → 32 < n → ⊥
+        beyond : n ≤ mostQubits → mostQubits < n → ⊥
         beyond few h = omega arith
 
     -- a bit of the word at n or above
-    pub run-high : (b : Bool) → b ≡ ltb word (2 ^ n) → b ≡ false → record { number = 13; value = 0 } ≡ answerOf (run bs n word space)
+    pub run-high : (b : Bool) → b ≡ ltb word (2 ^ n) → b ≡ false → record { number = highBit; value = 0 } ≡ answerOf (run bs n word space)
     unfolding run after require answerOf
     run-high b e f = rw (judged, ← e, f)
 
     module _ (b : Bool) (e : b ≡ ltb word (2 ^ n)) (t : b ≡ true) where
       -- a workspace that is too short
-      pub run-short : space < 32768 → record { number = 21; value = 0 } ≡ answerOf (run bs n word space)
+      pub run-short : space < leastWorkspace → record { number = shortWorkspace; value = 0 } ≡ answerOf (run bs n word space)
       unfolding run after require answerOf
-      run-short h = rw (judged, ← e, t, lt-leb 32768 space h)
+      run-short h = rw (judged, ← e, t, lt-leb leastWorkspace space h)
 
       -- the end word
-      pub run-given : 32768 ≤ space → (value : ℕ) → value ≡ ranWord P (min n 32) word → record { number = 0; value = value } ≡ answerOf (run bs n word space)
+      pub run-given : leastWorkspace ≤ space → (value : ℕ) → value ≡ ranWord P (min n mostQubits) word → record { number = 0; value = value } ≡ answerOf (run bs n word space)
       unfolding run after require answerOf
-      run-given h value v = rw (judged, ← e, t, le-leb 32768 space h,
+      run-given h value v = rw (judged, ← e, t, le-leb leastWorkspace space h,
         ran-min P n word value (range .few) (range .passes12) (ltb-true word (2 ^ n) (sym e ∙ t)) v)
 
 pub ruleset answers = (needs, not-true, not-false, run-refused, run-many, run-high, run-short, run-given)

@@ -2,18 +2,18 @@
 ghost use mathlib.Core.Bool.{cond};
 ghost use mathlib.Core.Path.{_≡_};
 ghost use Prim.Native.Nat.{min};
+ghost use Rattle.model.specs.Limits.{mostQubits};
 ghost use Rattle.table.specs.Index.{programAt};
 ghost use Rattle.step.specs.Steps.{qubitsOf};
 ghost use Rattle.run.specs.Words.{flippedWord, bitOf, walked, called, ranWord};
-ghost use Rattle.run.specs.Answers.{answerOf};
+ghost use Rattle.answers.specs.Structs.{answerOf};
 ghost use Rattle.model.specs.Answers as model;
+use answers::Answer;
+use limits::{HIGH_BIT, INDEX_LENGTH, LEAST_WORKSPACE, MOST_DEPTH, MOST_N, MOST_QUBITS, SHORT_WORKSPACE, WRONG_QUBITS};
 use reach::root;
 use step::{all, chosen, remaining, size, step_at, Qubits, Step};
 use verdict::judge;
 use wires::fits;
-
-const MOST_QUBITS: u8 = 32;
-const MOST_DEPTH: u8 = 32;
 
 // The word with the bit of a qubit flipped: qubit q is bit q - 1. Numbers that are no qubit's change nothing.
 fn flip(word: u64, q: u8) -> u64
@@ -96,40 +96,33 @@ fn call(table: &[u8], index: &[u16], p: u8, f: u8, list: Qubits, fuel: u16, word
 }
 
 // What main makes of a word on n qubits; past 32 there are no more.
-fn end_word(table: &[u8], index: &[u16; 544], p: u8, n: u8, word: u64) -> u64
-    ensures { λ r. ⌜ r ≡ ranWord (programAt p (now (table .entry)) (now (index .entry))) (min n 32) word ⌝ }
+fn end_word(table: &[u8], index: &[u16; INDEX_LENGTH], p: u8, n: u8, word: u64) -> u64
+    ensures { λ r. ⌜ r ≡ ranWord (programAt p (now (table .entry)) (now (index .entry))) (min n mostQubits) word ⌝ }
 {
     let list = all(n);
     walk(table, &index[..], p, root(&index[..], 0), MOST_DEPTH, list, p as u16 + size(list) as u16, word)
-}
-
-// A refusal's number and 0, or 0 and the end word.
-#[repr(C)]
-pub struct Answer {
-    pub number: u32,
-    pub value: u64,
 }
 
 // The run: "9; header 1 .., 2, 3; each record ..; 8; 10 over the whole table, then 11, then 12; 13; 21", then the end word; for a workspace of that length.
 pub fn run(table: &[u8], n: u32, word: u64, space: usize) -> Answer
     ensures { λ r. ⌜ r ≡ answerOf (model.run (now (table .entry)) n word space) ⌝ }
 {
-    let mut index = [0u16; 544];
+    let mut index = [0u16; INDEX_LENGTH];
     let judged = judge(table, n, &mut index);
     let number = judged.number as u32;
     if number != 0 {
         return Answer { number, value: 0 };
     }
     // An accepted table has at most 32 qubits: this way is never taken, and lets n be a byte.
-    if 32 < n {
-        return Answer { number: 9, value: 0 };
+    if MOST_N < n {
+        return Answer { number: WRONG_QUBITS as u32, value: 0 };
     }
     let qubits = n as u8;
     if !fits(word, qubits) {
-        return Answer { number: 13, value: 0 };
+        return Answer { number: HIGH_BIT as u32, value: 0 };
     }
-    if space < 32768 {
-        return Answer { number: 21, value: 0 };
+    if space < LEAST_WORKSPACE {
+        return Answer { number: SHORT_WORKSPACE as u32, value: 0 };
     }
     let value = end_word(table, &index, judged.procedures, qubits, word);
     Answer { number: 0, value }

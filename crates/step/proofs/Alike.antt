@@ -5,6 +5,7 @@ use mathlib.Core.Path.{_≡_, refl, sym, ap, _∙_}
 use mathlib.Core.List.{List}
 use borrow.Author.Tests.{lt-ltb, le-ltb}
 use lib.ListN.{length}
+use Rattle.limits.specs.Sizes.{endsAt}
 use Rattle.model.specs.Syntax.{Condition, Statement}
 use Rattle.model.proofs.Tests.{byLt}
 use Rattle.records.specs.declared.Record.{Record}
@@ -17,7 +18,7 @@ use Rattle.step.proofs.Places.{far-past-end}
 
 -- past the end a record starts at 0, and record 0 is behind it
 behind-alike : (ix : List ℕ) (i j : ℕ) → length ix ≤ i → length ix ≤ j → behindOf ix i ≡ behindOf ix j
-behind-alike ix i j h k = sym (far-past-end ix 256 i h) ∙ far-past-end ix 256 j k
+behind-alike ix i j h k = sym (far-past-end ix endsAt i h) ∙ far-past-end ix endsAt j k
 
 next-in : (ix : List ℕ) (i : ℕ) → i < length ix → nextOf ix i ≡ i + 1
 unfolding nextOf

@@ -8,6 +8,7 @@ use borrow.Author.Tests.{ltb-true, le-ltb}
 use lib.Dec.{ltb}
 use lib.IntN.{pos}
 use lib.Signed.{ltZ}
+use Rattle.model.specs.Limits.{mostConstant}
 use Rattle.model.specs.Reading.{signed16}
 use Rattle.model.specs.Lists.{value}
 use Rattle.model.proofs.Tests.{byBool}
@@ -22,10 +23,10 @@ use Rattle.step.specs.Steps.{valueOf}
 abbrev pub Fair : Number → Type 0
 Fair a = (n : ℕ) → valueOf a n ≡ value (numberOf a) n
 
-signed-small : (low high : ℕ) → ltZ (pos 32767) (signed16 low high) ≡ false
+signed-small : (low high : ℕ) → ltZ (pos mostConstant) (signed16 low high) ≡ false
 unfolding signed16
 signed-small low high = byBool (ltb (low + 256 * high) 32768)
-    (λ e. rw e (le-ltb 32767 (low + 256 * high) (omega (arith, ltb-true (low + 256 * high) 32768 e))))
+    (λ e. rw e (le-ltb mostConstant (low + 256 * high) (omega (arith, ltb-true (low + 256 * high) 32768 e))))
     (λ e. rw e)
 
 -- a number of the table is one

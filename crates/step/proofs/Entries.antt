@@ -12,6 +12,7 @@ use lib.IntN.{ℤ}
 use mir.Syntax.{w32}
 use mir.Val.{SFits, toZ, ofZ}
 use mir.Facts.{toZ-ofZ}
+use Rattle.model.specs.Limits.{mostQubits}
 use Rattle.model.specs.Lists.{range, qubits, position, entry, delete, remove}
 use Rattle.model.proofs.Tests.{byLt}
 use Rattle.model.proofs.ListLaws.{remove-in, remove-out, take-again}
@@ -36,14 +37,14 @@ range-first zero m a h = refl
 range-first (suc n) zero a h = absurd (not-suc-le-zero h)
 range-first (suc n) (suc m) a h = ap (_∷_ a) (range-first n m (suc a) (le-of-suc-le-suc h))
 
-pub qubits-first : (n r : ℕ) → r ≡ min n 32 → take r (qubits 32) ≡ qubits (min n 32)
-qubits-first n r e = rw e (range-first (min n 32) 32 1 (omega arith))
+pub qubits-first : (n r : ℕ) → r ≡ min n mostQubits → take r (qubits mostQubits) ≡ qubits (min n mostQubits)
+qubits-first n r e = rw e (range-first (min n mostQubits) mostQubits 1 (omega arith))
 
 -- up to 32 nothing is cut off
-pub qubits-capped : (n : ℕ) → n ≤ 32 → qubits (min n 32) ≡ qubits n
+pub qubits-capped : (n : ℕ) → n ≤ mostQubits → qubits (min n mostQubits) ≡ qubits n
 qubits-capped n h = ap qubits (least n h)
   where
-    least : (n : ℕ) → n ≤ 32 → min n 32 ≡ n
+    least : (n : ℕ) → n ≤ mostQubits → min n mostQubits ≡ n
     least n h = omega arith
 
 -- a position past the end becomes 0, any other stays
@@ -138,7 +139,7 @@ module _ (m : ℕ) (l : List ℕ) (k : ℤ) (n i : ℕ) (f : SFits w32 k) (size 
   entry-some z = rw (entry-within (take m l) k, ← placed) (entry-at m l i (rw placed (within-le (length (take m l)) k)) z)
 
   -- where the array goes on
-  pub place-inside : length l ≡ 32 → (i ≡ 0 → ⊥) → i - 1 < 32
+  pub place-inside : length l ≡ mostQubits → (i ≡ 0 → ⊥) → i - 1 < mostQubits
   place-inside e z = omega (arith, placed, within-le (length (take m l)) k, take-shorter m l)
 
   -- at place 0 a removal empties the list

@@ -11,6 +11,7 @@ use lib.IntN.{ℤ, pos, negsuc}
 use mir.Syntax.{w32}
 use mir.Val.{SFits, toZ, ofZ}
 use mir.Facts.{toZ-ofZ}
+use Rattle.model.specs.Limits.{mostConstant, mostQubits}
 use Rattle.model.specs.Lists.{value, position, entry, remove, removeAll, remaining}
 use Rattle.model.proofs.Tests.{byLt}
 use Rattle.model.proofs.ListLaws.{remaining-no-longer, take-again}
@@ -70,23 +71,23 @@ remaining-ends bs place zero n l h = refl
 remaining-ends bs place (suc left) n l h = absurd (not-suc-le-zero h)
 
 -- a guarded value is past the end of a list, as the model's is
-entry-guarded : (l : List ℕ) (a : Number) (n : ℕ) → length l ≤ 32767 → entry l (position (valueOf a n)) ≡ entry l (position (value (numberOf a) n))
+entry-guarded : (l : List ℕ) (a : Number) (n : ℕ) → length l ≤ mostConstant → entry l (position (valueOf a n)) ≡ entry l (position (value (numberOf a) n))
 unfolding valueOf numberOf
 entry-guarded l (Constant z) n h = refl
 entry-guarded l (SizePlus (negsuc z)) n h = refl
-entry-guarded l (SizePlus (pos z)) n h = byLt 32767 z
-    (λ g. rw (lt-ltb 32767 z g) (past-end (0 ∷ l) (z + n) (past z g)))
-    (λ g. rw (le-ltb 32767 z g))
+entry-guarded l (SizePlus (pos z)) n h = byLt mostConstant z
+    (λ g. rw (lt-ltb mostConstant z g) (past-end (0 ∷ l) (z + n) (past z g)))
+    (λ g. rw (le-ltb mostConstant z g))
   where
-    past : (z : ℕ) → 32767 < z → suc (length l) ≤ z + n
+    past : (z : ℕ) → mostConstant < z → suc (length l) ≤ z + n
     past z g = omega arith
 
 -- the entry at position a of the remaining list
-pub touched-is : (bs : List ℕ) (at : ℕ) (a : Number) (q rest : Qubits) (n r : ℕ) (z : ℤ) → length (q .at) ≡ 32
+pub touched-is : (bs : List ℕ) (at : ℕ) (a : Number) (q rest : Qubits) (n r : ℕ) (z : ℤ) → length (q .at) ≡ mostQubits
     → qubitsOf rest ≡ remaining (removalsOf bs at) (qubitsOf q) → n ≡ length (qubitsOf q) → SFits w32 z → z ≡ valueOf a n
     → r ≡ entry (qubitsOf rest) (position (toZ w32 (ofZ w32 z))) → r ≡ touchedBy bs at a (qubitsOf q)
 touched-is bs at a q rest n r z long left size f valued entered =
     let l = qubitsOf q in
     let m = remaining (removalsOf bs at) l in
-    let short : length m ≤ 32767 = omega (arith, remaining-no-longer (removalsOf bs at) l, take-shorter (q .len) (q .at)) in
+    let short : length m ≤ mostConstant = omega (arith, remaining-no-longer (removalsOf bs at) l, take-shorter (q .len) (q .at)) in
     entered ∙ rw (left, toZ-ofZ f, valued, size) (entry-guarded m a (length l) short)

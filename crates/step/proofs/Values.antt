@@ -10,6 +10,7 @@ use lib.Signed.{ltZ, leZ, mag, nonNeg}
 use mir.Syntax.{w32, w64}
 use mir.Val.{Fits, SFits, toZ, ofZ}
 use mir.Facts.{toZ-ofZ, toZ-pos, fits-natAbs}
+use Rattle.model.specs.Limits.{mostConstant}
 use Rattle.model.proofs.Tests.{byEq, byLt, eqb-same}
 use Rattle.records.specs.declared.Number.{Number}
 use Rattle.records.specs.declared.Number.the-variants.{Constant, SizePlus}
@@ -20,32 +21,32 @@ pub byte-signed : (n : ℕ) → n < 256 → toZ w32 n ≡ pos n
 byte-signed n h = toZ-pos w32 (omega arith)
 
 -- a sum of at most 32767 and a byte stays in i32
-sum-magnitude : (z : ℤ) (n : ℕ) → mag z < 2147483648 → ltZ (pos 32767) z ≡ false → n < 256 → mag (z +ℤ pos n) < 2147483648
-sum-magnitude (pos a) n f t h = let b : a ≤ 32767 = ltb-false 32767 a t in omega arith
+sum-magnitude : (z : ℤ) (n : ℕ) → mag z < 2147483648 → ltZ (pos mostConstant) z ≡ false → n < 256 → mag (z +ℤ pos n) < 2147483648
+sum-magnitude (pos a) n f t h = let b : a ≤ mostConstant = ltb-false mostConstant a t in omega arith
 sum-magnitude (negsuc a) n f t h = byLt n (suc a)
     (λ l. rw (lt-ltb n (suc a) l) (omega arith))
     (λ l. rw (le-ltb n (suc a) l) (omega arith))
 
-sum-fits : (z : ℤ) (n : ℕ) → SFits w32 z → ltZ (pos 32767) z ≡ false → n < 256 → SFits w32 (z +ℤ pos n)
+sum-fits : (z : ℤ) (n : ℕ) → SFits w32 z → ltZ (pos mostConstant) z ≡ false → n < 256 → SFits w32 (z +ℤ pos n)
 sum-fits z n f t h = record { sfits = sum-magnitude z n (f .sfits) t h }
 
 -- in the machine's terms, which reads signed numbers back from their bits
 module _ (a : Number) (z : ℤ) (n : ℕ) (f : SFits w32 z) (h : n < 256) where
   -- the sum behind the guard fits
-  pub sum-stays : ltZ (pos 32767) (toZ w32 (ofZ w32 z)) ≡ false → SFits w32 (toZ w32 (ofZ w32 z) +ℤ toZ w32 n)
+  pub sum-stays : ltZ (pos mostConstant) (toZ w32 (ofZ w32 z)) ≡ false → SFits w32 (toZ w32 (ofZ w32 z) +ℤ toZ w32 n)
   sum-stays t = rw (byte-signed n h, toZ-ofZ f) (sum-fits z n f (rw (toZ-ofZ f) at t) h)
 
   -- and is the value
-  pub value-sum : a ≡ SizePlus z → ltZ (pos 32767) (toZ w32 (ofZ w32 z)) ≡ false
+  pub value-sum : a ≡ SizePlus z → ltZ (pos mostConstant) (toZ w32 (ofZ w32 z)) ≡ false
     → toZ w32 (ofZ w32 (toZ w32 (ofZ w32 z) +ℤ toZ w32 n)) ≡ valueOf a n
   unfolding valueOf
-  value-sum e t = let s : ltZ (pos 32767) z ≡ false = rw (toZ-ofZ f) at t in
+  value-sum e t = let s : ltZ (pos mostConstant) z ≡ false = rw (toZ-ofZ f) at t in
     rw (toZ-ofZ (sum-stays t)) (rw (byte-signed n h, toZ-ofZ f, e, s))
 
   -- a constant of more than 16 bits has value 0
-  pub value-guarded : a ≡ SizePlus z → ltZ (pos 32767) (toZ w32 (ofZ w32 z)) ≡ true → pos 0 ≡ valueOf a n
+  pub value-guarded : a ≡ SizePlus z → ltZ (pos mostConstant) (toZ w32 (ofZ w32 z)) ≡ true → pos 0 ≡ valueOf a n
   unfolding valueOf
-  value-guarded e t = let s : ltZ (pos 32767) z ≡ true = rw (toZ-ofZ f) at t in rw (e, s)
+  value-guarded e t = let s : ltZ (pos mostConstant) z ≡ true = rw (toZ-ofZ f) at t in rw (e, s)
 
   -- base 0 is the constant alone
   pub value-constant : a ≡ Constant z → toZ w32 (ofZ w32 z) ≡ valueOf a n

@@ -6,6 +6,7 @@ use lib.ListN.{length, take}
 use lib.IntN.{ℤ, pos, _+ℤ_}
 use lib.Dec.{ltb}
 use lib.Signed.{ltZ, leZ}
+use Rattle.model.specs.Limits.{mostConstant}
 use Rattle.model.specs.Lists.{value, position, touched}
 use Rattle.records.specs.declared.Number.{Number}
 use Rattle.records.specs.declared.Number.the-variants as base
@@ -24,7 +25,7 @@ qubitsOf q = take (q .len) (q .at)
 -- the value of a number. A table's constants have 16 bits: for them a law says that the guard, without which a sum could leave i32, never shuts.
 unfoldable pub valueOf : Number → ℕ → ℤ
 valueOf (base.Constant z) size = z
-valueOf (base.SizePlus z) size = cond (ltZ (pos 32767) z) (pos 0) (z +ℤ pos size)
+valueOf (base.SizePlus z) size = cond (ltZ (pos mostConstant) z) (pos 0) (z +ℤ pos size)
 
 -- a position in a list of this size: 0 for one "at or below zero, or past the end"
 unfoldable pub within : ℕ → ℤ → ℕ

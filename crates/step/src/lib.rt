@@ -3,23 +3,22 @@ ghost use mathlib.Core.Bool.{cond};
 ghost use mathlib.Core.Path.{_≡_};
 ghost use Prim.Native.Nat.{min};
 ghost use lib.ListN.{length, take};
+ghost use Rattle.model.specs.Limits.{mostQubits};
 ghost use Rattle.model.specs.Lists.{qubits, entry, remove, remaining, position, holds};
 ghost use Rattle.records.specs.Fields.{removalsOf};
 ghost use Rattle.table.specs.Index.{startOf, behindOf, testAt};
 ghost use Rattle.step.specs.Steps.{qubitsOf, valueOf, within, touchedBy, nextOf, stepAt};
+use limits::{ENDS_AT, LIST_LENGTH, MOST_CONSTANT, MOST_QUBITS};
 use records::{Number, Record, record_at, written_at};
 
-// "a signed 16-bit constant"
-const MOST_CONSTANT: i32 = 32767;
-
 // Qubits 1 to 32.
-const QUBITS: [u8; 32] = [
+const QUBITS: [u8; LIST_LENGTH] = [
     1, 2, 3, 4, 5, 6, 7, 8, 9, 10, 11, 12, 13, 14, 15, 16, 17, 18, 19, 20, 21, 22, 23, 24, 25, 26, 27, 28, 29, 30, 31, 32,
 ];
 
 // A list of qubits: its first `len` entries count.
 pub struct Qubits {
-    pub at: [u8; 32],
+    pub at: [u8; LIST_LENGTH],
     pub len: u8,
 }
 
@@ -49,9 +48,9 @@ pub enum Step {
 
 // A list has at most 32 entries.
 fn capped(n: u8) -> u8
-    ensures { λ r. ⌜ r ≡ min n 32 ⌝ }
+    ensures { λ r. ⌜ r ≡ min n mostQubits ⌝ }
 {
-    if n < 32 { n } else { 32 }
+    if n < MOST_QUBITS { n } else { MOST_QUBITS }
 }
 
 // The length of a list.
@@ -63,7 +62,7 @@ pub fn size(list: Qubits) -> u8
 
 // Main's list: qubits 1 to n.
 pub fn all(n: u8) -> Qubits
-    ensures { λ r. ⌜ qubitsOf r ≡ qubits (min n 32) ⌝ }
+    ensures { λ r. ⌜ qubitsOf r ≡ qubits (min n mostQubits) ⌝ }
 {
     Qubits { at: QUBITS, len: capped(n) }
 }
@@ -109,10 +108,10 @@ pub fn entry(list: Qubits, k: i32) -> u8
 }
 
 // The entry at a position is taken out of the list that stands in an array: its new length. It is empty where there is no such entry.
-fn remove(at: &mut [u8; 32], len: u8, k: i32) -> u8
-    requires { ⌜ length (now at) ≡ 32 ⌝ }
+fn remove(at: &mut [u8; LIST_LENGTH], len: u8, k: i32) -> u8
+    requires { ⌜ length (now at) ≡ mostQubits ⌝ }
     ensures { λ r. ⌜ take r (now (at .exit)) ≡ remove (position k) (take len (now (at .entry))) ⌝ }
-    ensures { λ r. ⌜ length (now (at .exit)) ≡ 32 ⌝ }
+    ensures { λ r. ⌜ length (now (at .exit)) ≡ mostQubits ⌝ }
 {
     let size = capped(len);
     let mut i = within(size, k);
@@ -171,7 +170,7 @@ pub fn behind(index: &[u16], i: usize) -> usize
     if index.len() <= i {
         return 0;
     }
-    start(index, 256 + i)
+    start(index, ENDS_AT + i)
 }
 
 // The first child of record i, where it has one: the next record. Past the end of the index all numbers are alike.

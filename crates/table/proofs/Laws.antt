@@ -10,6 +10,8 @@ use borrow.Author.Tests.{lt-ltb, le-ltb, not-true, not-false}
 use lib.Dec.{ltb}
 use lib.ListN.{length, getD, set, List·getD-eq-default}
 use types.Run.{miss}
+use Rattle.limits.specs.Sizes.{endsAt, rootsAt, indexLength, placeCount}
+use Rattle.model.specs.Limits.{mostRecords, mostDepth, kindCount, firstCondition, tableStops, wrongKind, wrongMap, tooDeep}
 use Rattle.model.proofs.Tests.{byEq}
 use Rattle.model.specs.Reading.{permitted, stands}
 use Rattle.records.proofs.Laws.{Among, bytes-there, bytes-lack}
@@ -25,39 +27,39 @@ use Rattle.table.specs.Reading.{refusal, behindFields, childrenAt, opene
 -- a value for the index
 module _ (ix : List ℕ) (slot value : ℕ) where
   -- at a slot outside it is passed over
-  pub note-out : 544 ≤ slot → ix ≡ noted ix slot value
+  pub note-out : indexLength ≤ slot → ix ≡ noted ix slot value
   unfolding noted
-  note-out h = rw (le-ltb slot 544 h)
+  note-out h = rw (le-ltb slot indexLength h)
 
   -- so is one that is too large
-  pub note-large : slot < 544 → 65536 ≤ value → ix ≡ noted ix slot value
+  pub note-large : slot < indexLength → placeCount ≤ value → ix ≡ noted ix slot value
   unfolding noted
-  note-large h l = rw (lt-ltb slot 544 h, le-ltb value 65536 l)
+  note-large h l = rw (lt-ltb slot indexLength h, le-ltb value placeCount l)
 
   -- any other is stored
-  pub note-in : slot < 544 → value < 65536 → set ix slot value ≡ noted ix slot value
+  pub note-in : slot < indexLength → value < placeCount → set ix slot value ≡ noted ix slot value
   unfolding noted
-  note-in h l = rw (lt-ltb slot 544 h, lt-ltb value 65536 l)
+  note-in h l = rw (lt-ltb slot indexLength h, lt-ltb value placeCount l)
 
 -- a condition's kinds are 6 to 11
-pub wanted-test : (tests : Bool) (kind : ℕ) → tests ≡ true → 6 ≤ kind → ltb kind 12 ≡ wanted tests kind
+pub wanted-test : (tests : Bool) (kind : ℕ) → tests ≡ true → firstCondition ≤ kind → ltb kind kindCount ≡ wanted tests kind
 unfolding wanted
-wanted-test tests kind e h = rw (e, le-ltb kind 6 h)
+wanted-test tests kind e h = rw (e, le-ltb kind firstCondition h)
 
 -- kinds below 6 are no conditions
-pub unwanted-test : (tests : Bool) (kind : ℕ) → tests ≡ true → kind < 6 → false ≡ wanted tests kind
+pub unwanted-test : (tests : Bool) (kind : ℕ) → tests ≡ true → kind < firstCondition → false ≡ wanted tests kind
 unfolding wanted
-unwanted-test tests kind e h = rw (e, lt-ltb kind 6 h)
+unwanted-test tests kind e h = rw (e, lt-ltb kind firstCondition h)
 
 -- a statement's kinds are 0 to 5
-pub wanted-statement : (tests : Bool) (kind : ℕ) → tests ≡ false → ltb kind 6 ≡ wanted tests kind
+pub wanted-statement : (tests : Bool) (kind : ℕ) → tests ≡ false → ltb kind firstCondition ≡ wanted tests kind
 unfolding wanted
 wanted-statement tests kind e = rw e
 
 -- the contents of a record
 module _ (p map kind : ℕ) (bs : List ℕ) (at : ℕ) (b : Bool) (e : b ≡ permitted kind map) where
   -- 5 where its map is not permitted
-  pub contents-wrong : not b ≡ true → field.Refused 5 ≡ contentsAt p map kind bs at
+  pub contents-wrong : not b ≡ true → field.Refused wrongMap ≡ contentsAt p map kind bs at
   unfolding contentsAt
   contents-wrong h = rw (← e, not-true b h)
 
@@ -74,7 +76,7 @@ unfolding refusal
 refusal-goes a k e = rw e
 
 -- any other answer would be taken for the table's end
-pub refusal-none : (a : Answer) → Among (0 ∷ 1 ∷ 2 ∷ 3 ∷ []) a → tree.Refused 1 ≡ refusal a
+pub refusal-none : (a : Answer) → Among (0 ∷ 1 ∷ 2 ∷ 3 ∷ []) a → tree.Refused tableStops ≡ refusal a
 unfolding refusal
 refusal-none (field.Place n) t = refl
 refusal-none (field.Number a n) t = refl
@@ -83,7 +85,7 @@ refusal-none (field.Record r n) t = refl
 refusal-none (field.Refused k) t = absurd (miss (0 ∷ 1 ∷ 2 ∷ 3 ∷ []) 4 tt t)
 
 -- a kind past 11 has no children
-pub parts-none : (tests : Bool) (kind i : ℕ) → i ≡ kind → 12 ≤ i → 0 ≡ parts tests kind
+pub parts-none : (tests : Bool) (kind i : ℕ) → i ≡ kind → kindCount ≤ i → 0 ≡ parts tests kind
 unfolding parts
 parts-none true kind i e h = sym (List·getD-eq-default conditionParts 0 {n = kind} (omega arith))
 parts-none false kind i e h = sym (List·getD-eq-default statementParts 0 {n = kind} (omega arith))
@@ -149,7 +151,7 @@ module _
     (noted₀ : ix₀ ≡ noted ix i at) (tests : n ≡ parts true kind) (read : ran t ix₁ ≡ many (one true) n next (i + 1) ix₀) where
   children-opened : (x : Ran) →
       x ≡ behindTree (ran t ix₁) (λ middle j jx.
-      behindTree (many (one false) (parts false kind) middle j jx) (λ end behind kx. ran (tree.Read end behind) (noted kx (256 + i) behind))) →
+      behindTree (many (one false) (parts false kind) middle j jx) (λ end behind kx. ran (tree.Read end behind) (noted kx (endsAt + i) behind))) →
       x ≡ childrenAt one kind at next i ix
   unfolding childrenAt
   children-opened x q = rw (← noted₀, ← tests, ← read) q
@@ -169,7 +171,7 @@ module _
 
     -- all are read, and the record behind them is noted
     pub children-done :
-        (end behind : ℕ) (ix₃ : List ℕ) → u ≡ tree.Read end behind → ix₃ ≡ noted ix₂ (256 + i) behind →
+        (end behind : ℕ) (ix₃ : List ℕ) → u ≡ tree.Read end behind → ix₃ ≡ noted ix₂ (endsAt + i) behind →
         ran (tree.Read end behind) ix₃ ≡ childrenAt one kind at next i ix
     unfolding behindTree
     children-done end behind ix₃ z q = children-opened _ (rw (e, ← rest, ← read₁, z, q))
@@ -185,7 +187,7 @@ tree-opened p bs (suc d) tests at i ix f = rw sub-one
 
 module _ (p : ℕ) (bs : List ℕ) (d : ℕ) (tests : Bool) (at i : ℕ) (ix : List ℕ) where
   -- 1 where its map is lacking
-  pub tree-none : length bs ≤ at → ran (tree.Refused 1) ix ≡ treeAt p bs d tests at i ix
+  pub tree-none : length bs ≤ at → ran (tree.Refused tableStops) ix ≡ treeAt p bs d tests at i ix
   unfolding treeAt
   tree-none h = byEq d 0
       (λ z. rw (z, treeAt, le-ltb at (length bs) h))
@@ -193,7 +195,7 @@ module _ (p : ℕ) (bs : List ℕ) (d : ℕ) (tests : Bool) (at i : ℕ) (ix : L
 
   module _ (h : at < length bs) where
     -- 1 where its kind is lacking
-    pub tree-short : length bs - at < 2 → ran (tree.Refused 1) ix ≡ treeAt p bs d tests at i ix
+    pub tree-short : length bs - at < 2 → ran (tree.Refused tableStops) ix ≡ treeAt p bs d tests at i ix
     unfolding treeAt
     tree-short l = byEq d 0
         (λ z. rw (z, treeAt, lt-ltb at (length bs) h, bytes-lack at 2 (length bs) h l))
@@ -201,7 +203,7 @@ module _ (p : ℕ) (bs : List ℕ) (d : ℕ) (tests : Bool) (at i : ℕ) (ix : L
 
     module _ (l : 2 ≤ length bs - at) (w : Bool) (e : w ≡ wanted tests (getD bs (at + 1) 0)) where
       -- 4 where its kind is not wanted
-      pub tree-kind : not w ≡ true → ran (tree.Refused 4) ix ≡ treeAt p bs d tests at i ix
+      pub tree-kind : not w ≡ true → ran (tree.Refused wrongKind) ix ≡ treeAt p bs d tests at i ix
       unfolding treeAt
       tree-kind n = byEq d 0
           (λ z. rw (z, treeAt, lt-ltb at (length bs) h, bytes-there at 2 (length bs) h l, ← e, not-true w n))
@@ -209,7 +211,7 @@ module _ (p : ℕ) (bs : List ℕ) (d : ℕ) (tests : Bool) (at i : ℕ) (ix : L
 
       module _ (y : not w ≡ false) where
         -- 7 where it is too deep
-        pub tree-deep : d ≡ 0 → ran (tree.Refused 7) ix ≡ treeAt p bs d tests at i ix
+        pub tree-deep : d ≡ 0 → ran (tree.Refused tooDeep) ix ≡ treeAt p bs d tests at i ix
         unfolding treeAt
         tree-deep z = rw (z, treeAt, lt-ltb at (length bs) h, bytes-there at 2 (length bs) h l, ← e, not-false w y)
 
@@ -219,20 +221,20 @@ module _ (p : ℕ) (bs : List ℕ) (d : ℕ) (tests : Bool) (at i : ℕ) (ix : L
               rw (tree-opened p bs d tests at i ix f, lt-ltb at (length bs) h, bytes-there at 2 (length bs) h l, ← e, not-false w y) q
 
           -- 7 where it would be the 256th record
-          pub tree-many : 255 ≤ i → ran (tree.Refused 7) ix ≡ treeAt p bs d tests at i ix
-          tree-many g = tree-on _ (rw (le-ltb i 255 g))
+          pub tree-many : mostRecords ≤ i → ran (tree.Refused tooDeep) ix ≡ treeAt p bs d tests at i ix
+          tree-many g = tree-on _ (rw (le-ltb i mostRecords g))
 
-          module _ (g : i < 255) (a : Answer) (c : a ≡ contentsAt p (getD bs at 0) (getD bs (at + 1) 0) bs (at + 2)) where
+          module _ (g : i < mostRecords) (a : Answer) (c : a ≡ contentsAt p (getD bs at 0) (getD bs (at + 1) 0) bs (at + 2)) where
             -- the refusal of its fields
             pub tree-fields :
                 (t : Tree) → Among (0 ∷ 1 ∷ 2 ∷ 4 ∷ []) a → t ≡ refusal a → ran t ix ≡ treeAt p bs d tests at i ix
-            tree-fields t o q = tree-on _ (rw (lt-ltb i 255 g, ← c, q) (fields-refused a ix _ o))
+            tree-fields t o q = tree-on _ (rw (lt-ltb i mostRecords g, ← c, q) (fields-refused a ix _ o))
 
             -- else its children
             pub tree-children :
                 (r : Record) (next : ℕ) (x : Ran) → a ≡ field.Record r next →
                 x ≡ childrenAt (treeAt p bs (d - 1)) (getD bs (at + 1) 0) at next i ix → x ≡ treeAt p bs d tests at i ix
-            tree-children r next x o q = tree-on x (rw (lt-ltb i 255 g, ← c) (q ∙ fields-read a ix _ r next o))
+            tree-children r next x o q = tree-on x (rw (lt-ltb i mostRecords g, ← c) (q ∙ fields-read a ix _ r next o))
 
 -- the bodies of procedures f to p
 module _ (p : ℕ) (bs : List ℕ) (f at i : ℕ) (ix : List ℕ) (q : ℕ) (e : q ≡ p) where
@@ -242,8 +244,8 @@ module _ (p : ℕ) (bs : List ℕ) (f at i : ℕ) (ix : List ℕ) (q : ℕ) (e :
   bodies-none h = let z : p + 1 - f ≡ 0 = omega arith in rw z
 
   module _
-      (h : f ≤ q) (ix₀ : List ℕ) (noted₀ : ix₀ ≡ noted ix (512 + f) i) (t : Tree) (ix₁ : List ℕ)
-      (read : ran t ix₁ ≡ treeAt p bs 32 false at i ix₀) where
+      (h : f ≤ q) (ix₀ : List ℕ) (noted₀ : ix₀ ≡ noted ix (rootsAt + f) i) (t : Tree) (ix₁ : List ℕ)
+      (read : ran t ix₁ ≡ treeAt p bs mostDepth false at i ix₀) where
     bodies-opened : (x : Ran) → x ≡ behindTree (ran t ix₁) (λ next j jx. bodiesAt p bs (p + 1 - (f + 1)) (f + 1) next j jx) →
         x ≡ bodiesAt p bs (p + 1 - f) f at i ix
     unfolding bodiesAt

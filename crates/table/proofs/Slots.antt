@@ -9,19 +9,21 @@ use borrow.Author.Tests.{lt-ltb}
 use lib.Dec.{ltb}
 use lib.ListN.{length, getD, set, length-set}
 use lib.Seq.{getD-set-same, getD-set-other}
+use Rattle.limits.specs.Sizes.{endsAt, rootsAt, indexLength, placeCount}
+use Rattle.model.specs.Limits.{mostRecords}
 use Rattle.table.specs.Index.{startOf, behindOf, rootOf}
 use Rattle.table.specs.Reading.{noted}
 
 module _ (ix : List ℕ) (slot value : ℕ) where
   -- a value that is noted stands at its slot
-  pub noted-there : length ix ≡ 544 → slot < 544 → value < 65536 → getD (noted ix slot value) slot 0 ≡ value
+  pub noted-there : length ix ≡ indexLength → slot < indexLength → value < placeCount → getD (noted ix slot value) slot 0 ≡ value
   unfolding noted
-  noted-there n h l = rw (lt-ltb slot 544 h, lt-ltb value 65536 l) (getD-set-same ix slot value 0 (omega arith))
+  noted-there n h l = rw (lt-ltb slot indexLength h, lt-ltb value placeCount l) (getD-set-same ix slot value 0 (omega arith))
 
   -- every other slot holds what it held
   pub noted-other : (s : ℕ) → s ≢ slot → getD (noted ix slot value) s 0 ≡ getD ix s 0
   unfolding noted
-  noted-other s h = by (ltb slot 544) (ltb value 65536)
+  noted-other s h = by (ltb slot indexLength) (ltb value placeCount)
     where
       by : (a b : Bool) → getD (cond a (cond b (set ix slot value) ix) ix) s 0 ≡ getD ix s 0
       by true true = getD-set-other ix slot s value 0 h
@@ -31,7 +33,7 @@ module _ (ix : List ℕ) (slot value : ℕ) where
   -- the index is as long as before
   pub noted-long : length (noted ix slot value) ≡ length ix
   unfolding noted
-  noted-long = by (ltb slot 544) (ltb value 65536)
+  noted-long = by (ltb slot indexLength) (ltb value placeCount)
     where
       by : (a b : Bool) → length (cond a (cond b (set ix slot value) ix) ix) ≡ length ix
       by true true = length-set ix slot value
@@ -78,45 +80,45 @@ kept-then {i} l s t =
     }
 
 -- to note record i's start keeps the records before it
-pub kept-start : (i at : ℕ) (ix : List ℕ) → i < 255 → Kept i ix (noted ix i at)
+pub kept-start : (i at : ℕ) (ix : List ℕ) → i < mostRecords → Kept i ix (noted ix i at)
 kept-start i at ix h =
     record {
       same =
           record {
             starts = λ q a b. noted-other ix i at q (omega arith);
-            behinds = λ q a b. noted-other ix i at (256 + q) (omega arith);
+            behinds = λ q a b. noted-other ix i at (endsAt + q) (omega arith);
           };
-      roots = λ f. noted-other ix i at (512 + f) (omega arith);
+      roots = λ f. noted-other ix i at (rootsAt + f) (omega arith);
       long = noted-long ix i at;
     }
 
 -- the record behind record i's subtree
-module _ (i behind : ℕ) (ix : List ℕ) (h : i < 255) where
+module _ (i behind : ℕ) (ix : List ℕ) (h : i < mostRecords) where
   -- to note it keeps the records before i
-  pub kept-behind : Kept i ix (noted ix (256 + i) behind)
+  pub kept-behind : Kept i ix (noted ix (endsAt + i) behind)
   kept-behind =
       record {
         same =
             record {
-              starts = λ q a b. noted-other ix (256 + i) behind q (omega arith);
-              behinds = λ q a b. noted-other ix (256 + i) behind (256 + q) (omega arith);
+              starts = λ q a b. noted-other ix (endsAt + i) behind q (omega arith);
+              behinds = λ q a b. noted-other ix (endsAt + i) behind (endsAt + q) (omega arith);
             };
-        roots = λ f. noted-other ix (256 + i) behind (512 + f) (omega arith);
-        long = noted-long ix (256 + i) behind;
+        roots = λ f. noted-other ix (endsAt + i) behind (rootsAt + f) (omega arith);
+        long = noted-long ix (endsAt + i) behind;
       }
 
   -- and says the same of those behind i
-  pub same-behind : (j : ℕ) → j ≤ 255 → Same (i + 1) j ix (noted ix (256 + i) behind)
+  pub same-behind : (j : ℕ) → j ≤ mostRecords → Same (i + 1) j ix (noted ix (endsAt + i) behind)
   same-behind j l =
       record {
-        starts = λ q a b. noted-other ix (256 + i) behind q (omega arith);
-        behinds = λ q a b. noted-other ix (256 + i) behind (256 + q) (omega arith);
+        starts = λ q a b. noted-other ix (endsAt + i) behind q (omega arith);
+        behinds = λ q a b. noted-other ix (endsAt + i) behind (endsAt + q) (omega arith);
       }
 
 -- to note a root says the same of every record
-pub same-root : (i f value : ℕ) (ix : List ℕ) → i ≤ 255 → Same 0 i ix (noted ix (512 + f) value)
+pub same-root : (i f value : ℕ) (ix : List ℕ) → i ≤ mostRecords → Same 0 i ix (noted ix (rootsAt + f) value)
 same-root i f value ix h =
     record {
-      starts = λ q a b. noted-other ix (512 + f) value q (omega arith);
-      behinds = λ q a b. noted-other ix (512 + f) value (256 + q) (omega arith);
+      starts = λ q a b. noted-other ix (rootsAt + f) value q (omega arith);
+      behinds = λ q a b. noted-other ix (rootsAt + f) value (endsAt + q) (omega arith);
     }

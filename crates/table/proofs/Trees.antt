@@ -10,6 +10,8 @@ use mathlib.Core.Option.{Option, none, some}
 use borrow.Author.Tests.{lt-ltb, le-ltb, le-leb, lt-leb, ltb-true, ltb-false}
 use lib.Dec.{ltb}
 use lib.ListN.{length, getElem?}
+use Rattle.limits.specs.Sizes.{longestRecord, endsAt, indexLength, placeCount}
+use Rattle.model.specs.Limits.{mostRecords, kindCount, firstCondition, tooDeep}
 use Rattle.model.specs.Syntax.{Condition, conjunction, disjunction, Statement, sequence, if, qcase}
 use Rattle.model.specs.Reading as model
 use Rattle.model.specs.Reading.{Input, inputAt, Parsed, parsed, refused, andThen, provided, Fields, known, opening, contents, permitted, stands, two}
@@ -30,8 +32,8 @@ use Rattle.table.proofs.Slots.{Kept, kept-itself, kept-then, kept-start
 -- where a tree was read from record i on: up to `at` and record j, with `found` leading to it in every index that agrees on its records
 pub record Reached {A : Type 0} (i : ℕ) (ix : List ℕ) (found : List ℕ → A) (a : A) (at j : ℕ) (jx : List ℕ) : Type 0 where
   pub more : i < j
-  pub few : j ≤ 255
-  pub near : at ≤ 2 + 30 * j
+  pub few : j ≤ mostRecords
+  pub near : at ≤ 2 + longestRecord * j
   pub kept : Kept i ix jx
   pub behind : behindOf jx i ≡ j
   pub finds : (kx : List ℕ) → Same i j jx kx → found kx ≡ a
@@ -44,7 +46,7 @@ pub data Agree {A : Type 0} (bs : List ℕ) (i : ℕ) (ix : List ℕ) (found : L
 
 -- a record whose parts are read: its last note
 abbrev finished : ℕ → ℕ → ℕ → List ℕ → Ran
-finished i end behind kx = ran (tree.Read end behind) (noted kx (256 + i) behind)
+finished i end behind kx = ran (tree.Read end behind) (noted kx (endsAt + i) behind)
 
 -- one or two trees, and then what follows
 module _ (one : ℕ → ℕ → List ℕ → Ran) (g : ℕ → ℕ → List ℕ → Ran) (at i : ℕ) (ix : List ℕ) where
@@ -112,10 +114,10 @@ module _ (one : Bool → ℕ → ℕ → List ℕ → Ran) (k at next i : ℕ) (
 -- a record whose first parts are read, up to `at` and record j, and whose start stands in ix
 record Partly (i : ℕ) (ix : List ℕ) (at j : ℕ) (jx : List ℕ) : Type 0 where
   after : i < j
-  few : j ≤ 255
-  near : at ≤ 2 + 30 * j
+  few : j ≤ mostRecords
+  near : at ≤ 2 + longestRecord * j
   kept : Kept (i + 1) ix jx
-  long : length jx ≡ 544
+  long : length jx ≡ indexLength
 
 -- what an index says of a part of record i, from record j on, that ended before record n
 record Part {B : Type 0} (i j : ℕ) (jx : List ℕ) (find : List ℕ → ℕ → B) (b : B) (n : ℕ) (kx : List ℕ) : Type 0 where
@@ -155,22 +157,22 @@ module _ {A B : Type 0} (bs : List ℕ) (i : ℕ) (ix ix₁ : List ℕ) (found :
 -- all parts are read: the record behind them is noted
 finish :
     {A : Type 0} (bs : List ℕ) (i at : ℕ) (ix : List ℕ) (found : List ℕ → A) (a : A) (end j : ℕ) (jx : List ℕ) →
-    i < 255 → at < 65536 → length ix ≡ 544 → Partly i (noted ix i at) end j jx →
+    i < mostRecords → at < placeCount → length ix ≡ indexLength → Partly i (noted ix i at) end j jx →
     ((kx : List ℕ) → startOf kx i ≡ at → Same (i + 1) j jx kx → found kx ≡ a) →
     Agree bs i ix found (parsed a (inputAt bs end j)) (finished i end j jx)
 finish bs i at ix found a end j jx h l n s find =
     let m : i < j = s .after in
-    let few : j ≤ 255 = s .few in
-    reads a end j (noted jx (256 + i) j)
+    let few : j ≤ mostRecords = s .few in
+    reads a end j (noted jx (endsAt + i) j)
     (record {
       more = m;
       few = few;
       near = s .near;
       kept = kept-then {i = i} {j = i} (omega arith) (kept-then (omega arith) (kept-start i at ix h) (s .kept)) (kept-behind i j jx h);
-      behind = noted-there jx (256 + i) j (s .long) (omega arith) (omega arith);
+      behind = noted-there jx (endsAt + i) j (s .long) (omega arith) (omega arith);
       finds =
           λ kx t. find kx
-          (t .starts i (omega arith) m ∙ noted-other jx (256 + i) j i (omega arith) ∙ s .kept .same .starts i (omega arith) (omega arith)
+          (t .starts i (omega arith) m ∙ noted-other jx (endsAt + i) j i (omega arith) ∙ s .kept .same .starts i (omega arith) (omega arith)
           ∙ noted-there ix i at n (omega arith) l)
           (same-then (i + 1) j (omega arith) (omega arith) (omega arith) (omega arith) (same-behind i j jx h j few) t);
     })
@@ -178,13 +180,13 @@ finish bs i at ix found a end j jx h l n s find =
 -- a reader of parts: what it finds at record j
 abbrev pub Reads : {B : Type 0} → List ℕ → (Input → Parsed B) → (ℕ → ℕ → List ℕ → Ran) → (List ℕ → ℕ → B) → Type 0
 Reads bs part one find =
-    (at j : ℕ) (jx : List ℕ) → at ≤ 2 + 30 * j → length jx ≡ 544 → Agree bs j jx (λ kx. find kx j) (part (inputAt bs at j)) (one at j jx)
+    (at j : ℕ) (jx : List ℕ) → at ≤ 2 + longestRecord * j → length jx ≡ indexLength → Agree bs j jx (λ kx. find kx j) (part (inputAt bs at j)) (one at j jx)
 
 -- the last two parts
 two-from :
     {A B : Type 0} (bs : List ℕ) (i at : ℕ) (ix : List ℕ) (found : List ℕ → A) (find : List ℕ → ℕ → B) (part : Input → Parsed B)
     (one : ℕ → ℕ → List ℕ → Ran) (make : B → B → A) (from j : ℕ) (jx : List ℕ) →
-    i < 255 → at < 65536 → length ix ≡ 544 → Reads bs part one find → Partly i (noted ix i at) from j jx →
+    i < mostRecords → at < placeCount → length ix ≡ indexLength → Reads bs part one find → Partly i (noted ix i at) from j jx →
     ((kx : List ℕ) → startOf kx i ≡ at → Same (i + 1) j jx kx → found kx ≡ make (find kx j) (find kx (behindOf kx j))) →
     Agree bs i ix found (two part make (inputAt bs from j)) (behindTree (one from j jx) (λ a n nx. behindTree (one a n nx) (finished i)))
 unfolding two
@@ -211,15 +213,15 @@ entry-lacks (x ∷ l) (suc k) h = entry-lacks l k (omega arith)
 record Sorted {K : Type 0} (tests : Bool) (sort : ℕ → Option K) (k : ℕ) : Type 0 where
   there : wanted tests k ≡ true → sort k ≡ none → ⊥
   lacks : wanted tests k ≡ false → sort k ≡ none
-  small : wanted tests k ≡ true → k < 12
+  small : wanted tests k ≡ true → k < kindCount
 
 statements-sorted : (k : ℕ) → Sorted false statementKind k
 unfolding wanted statementKind
 statements-sorted k =
     record {
-      there = λ w e. entry-there kinds k (ltb-true k 6 w) e;
-      lacks = λ w. entry-lacks kinds k (ltb-false k 6 w);
-      small = λ w. let l = ltb-true k 6 w in omega arith;
+      there = λ w e. entry-there kinds k (ltb-true k firstCondition w) e;
+      lacks = λ w. entry-lacks kinds k (ltb-false k firstCondition w);
+      small = λ w. let l = ltb-true k firstCondition w in omega arith;
     }
   where
     kinds : List model.StatementKind
@@ -227,18 +229,18 @@ statements-sorted k =
 
 conditions-sorted : (k : ℕ) → Sorted true conditionKind k
 unfolding wanted conditionKind
-conditions-sorted k = byLt k 6
+conditions-sorted k = byLt k firstCondition
     (λ l.
     record {
-      there = λ w e. clash w (rw (lt-ltb k 6 l));
-      lacks = λ w. rw (lt-ltb k 6 l);
+      there = λ w e. clash w (rw (lt-ltb k firstCondition l));
+      lacks = λ w. rw (lt-ltb k firstCondition l);
       small = λ w. omega arith;
     })
     (λ l.
     record {
-      there = λ w e. let m = ltb-true k 12 (rw (le-ltb k 6 l) at w) in entry-there kinds (k - 6) (omega arith) (rw (le-ltb k 6 l) at e);
-      lacks = λ w. let m = ltb-false k 12 (rw (le-ltb k 6 l) at w) in rw (le-ltb k 6 l) (entry-lacks kinds (k - 6) (omega arith));
-      small = λ w. ltb-true k 12 (rw (le-ltb k 6 l) at w);
+      there = λ w e. let m = ltb-true k kindCount (rw (le-ltb k firstCondition l) at w) in entry-there kinds (k - firstCondition) (omega arith) (rw (le-ltb k firstCondition l) at e);
+      lacks = λ w. let m = ltb-false k kindCount (rw (le-ltb k firstCondition l) at w) in rw (le-ltb k firstCondition l) (entry-lacks kinds (k - firstCondition) (omega arith));
+      small = λ w. ltb-true k kindCount (rw (le-ltb k firstCondition l) at w);
     })
   where
     kinds : List model.ConditionKind
@@ -247,16 +249,16 @@ conditions-sorted k = byLt k 6
 module _ {A : Type 0} (p : ℕ) (bs : List ℕ) (at i : ℕ) (ix : List ℕ) (found : List ℕ → A) where
   -- a record that was opened: its fields, and its children
   contents-agree :
-      (map k : ℕ) (f : Fields → Input → Parsed A) (g : ℕ → Ran) → at + 2 ≤ length bs → k < 12 → at ≤ 2 + 30 * i →
-      ((r : Record) (next : ℕ) → i < 255 → recordOf p k (stands 0 map) bs (at + 2) ≡ r → kindOf r ≡ k →
-      next ≤ 2 + 30 * (i + 1) →
+      (map k : ℕ) (f : Fields → Input → Parsed A) (g : ℕ → Ran) → at + 2 ≤ length bs → k < kindCount → at ≤ 2 + longestRecord * i →
+      ((r : Record) (next : ℕ) → i < mostRecords → recordOf p k (stands 0 map) bs (at + 2) ≡ r → kindOf r ≡ k →
+      next ≤ 2 + longestRecord * (i + 1) →
       Agree bs i ix found (f (fieldsOf bs r) (inputAt bs next (i + 1))) (g next)) →
       Agree bs i ix found (contents p map k (inputAt bs (at + 2) i) f)
-      (cond (ltb i 255) (behindFields (contentsAt p map k bs (at + 2)) ix g) (ran (tree.Refused 7) ix))
+      (cond (ltb i mostRecords) (behindFields (contentsAt p map k bs (at + 2)) ix g) (ran (tree.Refused tooDeep) ix))
   unfolding contents contentsAt provided andThen behindFields refusal
   contents-agree map k f g inside small near go =
-      byLt i 255
-      (λ l. rw (lt-ltb i 255 l)
+      byLt i mostRecords
+      (λ l. rw (lt-ltb i mostRecords l)
       (byBool (permitted k map)
       (λ t. rw (t, ← add-one i)
       (fields-cases p k map bs (at + 2) (i + 1) (omega arith) (omega arith) inside small t
@@ -264,13 +266,13 @@ module _ {A : Type 0} (p : ℕ) (bs : List ℕ) (at i : ℕ) (ix : List ℕ) (fo
       (λ r next e is w. go r next l e is (omega (arith, w .high)))
       (λ m. refuses m ix)))
       (λ t. rw t (refuses 5 ix))))
-      (λ l. rw (le-ltb i 255 l) (refuses 7 ix))
+      (λ l. rw (le-ltb i mostRecords l) (refuses tooDeep ix))
 
   -- a record's map and kind
   opening-agrees :
       {K : Type 0} (tests : Bool) (sort : ℕ → Option K) (f : ℕ → ℕ → K → Input → Parsed A) (x : Ran) →
       ((k : ℕ) → Sorted tests sort k) →
-      ((what : K) → sort (byteAt bs (at + 1)) ≡ some what → at + 2 ≤ length bs → byteAt bs (at + 1) < 12 →
+      ((what : K) → sort (byteAt bs (at + 1)) ≡ some what → at + 2 ≤ length bs → byteAt bs (at + 1) < kindCount →
       Agree bs i ix found (f (byteAt bs at) (byteAt bs (at + 1)) what (inputAt bs (at + 2) i)) x) →
       Agree bs i ix found (opening sort (inputAt bs at i) f) (opened tests bs at ix x)
   unfolding opening andThen known
@@ -302,8 +304,8 @@ Bodies p bs depth = Reads bs (statement p depth) (treeAt p bs depth false) (λ k
 
 -- record i, at `at`, whose fields were read up to `next`
 module _
-    (p : ℕ) (bs : List ℕ) (depth at i : ℕ) (ix : List ℕ) (h : i < 255) (near : at ≤ 2 + 30 * i) (n : length ix ≡ 544)
-    (next : ℕ) (close : next ≤ 2 + 30 * (i + 1)) where
+    (p : ℕ) (bs : List ℕ) (depth at i : ℕ) (ix : List ℕ) (h : i < mostRecords) (near : at ≤ 2 + longestRecord * i) (n : length ix ≡ indexLength)
+    (next : ℕ) (close : next ≤ 2 + longestRecord * (i + 1)) where
   began : Partly i (noted ix i at) next (i + 1) (noted ix i at)
   began =
       record {
@@ -314,7 +316,7 @@ module _
         long = noted-long ix i at ∙ n;
       }
 
-  fits : at < 65536
+  fits : at < placeCount
   fits = omega arith
 
   -- without children
@@ -425,7 +427,7 @@ settled bs i ix found sort f x k j what q e go =
 pub condition-agrees : (p : ℕ) (bs : List ℕ) (depth : ℕ) → Tests p bs depth
 unfolding condition treeAt
 condition-agrees p bs zero at i ix near n =
-    opening-agrees p bs at i ix _ true conditionKind _ _ conditions-sorted λ what e inside small. refuses 7 ix
+    opening-agrees p bs at i ix _ true conditionKind _ _ conditions-sorted λ what e inside small. refuses tooDeep ix
 condition-agrees p bs (suc depth) at i ix near n =
     opening-agrees p bs at i ix _ true conditionKind _ _ conditions-sorted λ what e inside small.
     contents-agree p bs at i ix _ (byteAt bs at) (byteAt bs (at + 1)) _ _ inside small near λ r next h f q close.
@@ -437,7 +439,7 @@ condition-agrees p bs (suc depth) at i ix near n =
 pub statement-agrees : (p : ℕ) (bs : List ℕ) (depth : ℕ) → Bodies p bs depth
 unfolding statement treeAt
 statement-agrees p bs zero at i ix near n =
-    opening-agrees p bs at i ix _ false statementKind _ _ statements-sorted λ what e inside small. refuses 7 ix
+    opening-agrees p bs at i ix _ false statementKind _ _ statements-sorted λ what e inside small. refuses tooDeep ix
 statement-agrees p bs (suc depth) at i ix near n =
     opening-agrees p bs at i ix _ false statementKind _ _ statements-sorted λ what e inside small.
     contents-agree p bs at i ix _ (byteAt bs at) (byteAt bs (at + 1)) _ _ inside small near λ r next h f q close.

@@ -3,6 +3,7 @@ use Prim.Native.Nat.{ℕ, zero, suc, _+_}
 use mathlib.Core.List.{List, map}
 use lib.ListN.{getD}
 use lib.IntN.{pos}
+use Rattle.limits.specs.Sizes.{endsAt, rootsAt}
 use Rattle.model.specs.Limits.{mostDepth}
 use Rattle.model.specs.Syntax.{constant, Condition, greater, atLeast, equal, conjunction, disjunction, negation}
 use Rattle.model.specs.Syntax.{Statement, skip, NOT, sequence, if, qcase, call, Program}
@@ -19,10 +20,10 @@ abbrev pub startOf : List ℕ → ℕ → ℕ
 startOf ix i = getD ix i 0
 
 abbrev pub behindOf : List ℕ → ℕ → ℕ
-behindOf ix i = getD ix (256 + i) 0
+behindOf ix i = getD ix (endsAt + i) 0
 
 abbrev pub rootOf : List ℕ → ℕ → ℕ
-rootOf ix f = getD ix (512 + f) 0
+rootOf ix f = getD ix (rootsAt + f) 0
 
 -- a condition that stands for what is none
 abbrev pub noTest : Condition

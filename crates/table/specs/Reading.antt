@@ -4,7 +4,8 @@ use mathlib.Core.Bool.{Bool, true, false, cond}
 use mathlib.Core.List.{List, [], _∷_}
 use lib.ListN.{length, getD, set}
 use lib.Dec.{ltb, leb}
-use Rattle.model.specs.Limits.{mostRecords, mostDepth, tableStops, wrongKind, wrongMap, tooDeep}
+use Rattle.limits.specs.Sizes.{endsAt, rootsAt, indexLength, placeCount}
+use Rattle.model.specs.Limits.{mostRecords, mostDepth, tableStops, wrongKind, wrongMap, tooDeep, kindCount, firstCondition}
 use Rattle.model.specs.Reading.{permitted, stands}
 use Rattle.records.specs.declared.Answer.{Answer}
 use Rattle.records.specs.declared.Answer.the-variants as field
@@ -23,12 +24,12 @@ behindTree (ran (tree.Refused k) ix) f = ran (tree.Refused k) ix
 
 -- the index with a value noted at a slot. A slot outside, or a value past 65535, would be passed over: reading comes to neither.
 unfoldable pub noted : List ℕ → ℕ → ℕ → List ℕ
-noted ix slot value = cond (ltb slot 544) (cond (ltb value 65536) (set ix slot value) ix) ix
+noted ix slot value = cond (ltb slot indexLength) (cond (ltb value placeCount) (set ix slot value) ix) ix
 
 -- is this a kind of condition, or else of statement?
 unfoldable pub wanted : Bool → ℕ → Bool
-wanted true kind = cond (ltb kind 6) false (ltb kind 12)
-wanted false kind = ltb kind 6
+wanted true kind = cond (ltb kind firstCondition) false (ltb kind kindCount)
+wanted false kind = ltb kind firstCondition
 
 -- how many conditions, and how many statements, stand behind a record of each kind
 abbrev pub conditionParts : List ℕ
@@ -72,7 +73,7 @@ unfoldable pub childrenAt : (Bool → ℕ → ℕ → List ℕ → Ran) → ℕ 
 childrenAt one kind at next i ix =
     behindTree (many (one true) (parts true kind) next (i + 1) (noted ix i at)) (λ middle j jx.
     behindTree (many (one false) (parts false kind) middle j jx) (λ end behind kx.
-    ran (tree.Read end behind) (noted kx (256 + i) behind)))
+    ran (tree.Read end behind) (noted kx (endsAt + i) behind)))
 
 -- "each record 1 for map and kind, 4": what comes then is given
 abbrev pub opened : Bool → List ℕ → ℕ → List ℕ → Ran → Ran
@@ -101,4 +102,4 @@ treeAt p bs (suc depth) tests at i ix = opened tests bs at ix (behindKind p bs (
 unfoldable pub bodiesAt : ℕ → List ℕ → ℕ → ℕ → ℕ → ℕ → List ℕ → Ran
 bodiesAt p bs zero f at i ix = ran (tree.Read at i) ix
 bodiesAt p bs (suc n) f at i ix =
-    behindTree (treeAt p bs mostDepth false at i (noted ix (512 + f) i)) (λ next j jx. bodiesAt p bs n (f + 1) next j jx)
+    behindTree (treeAt p bs mostDepth false at i (noted ix (rootsAt + f) i)) (λ next j jx. bodiesAt p bs n (f + 1) next j jx)

@@ -1,40 +1,21 @@
 // Whole tables: trees in preorder are read with refusals 1 to 8, and an index is left behind by which a record's parts are found.
 ghost use mathlib.Core.Path.{_≡_};
 ghost use Prim.Native.Nat.{_+_, _-_, _<_};
+ghost use Rattle.model.specs.Limits.{mostRecords};
 ghost use Rattle.model.specs.Reading.{readTable};
 ghost use Rattle.model.specs.Answers.{outcome};
 ghost use Rattle.table.specs.Index.{says};
 ghost use Rattle.table.specs.Reading.{ran, noted, wanted, parts, contentsAt, many, refusal, childrenAt, treeAt, bodiesAt};
+use limits::{
+    BYTES_LEFT, ENDS_AT, FIRST_CONDITION, INDEX_LENGTH, KINDS, KIND_COUNT, MANY_PROCEDURES, MOST_DEPTH, MOST_PROCEDURES, MOST_RECORDS, PLACE_COUNT,
+    ROOTS_AT, TABLE_EDITION, TABLE_STOPS, TOO_DEEP, WRONG_EDITION, WRONG_KIND, WRONG_MAP,
+};
 use records::Answer;
 
-// Refusals 1 to 5, 7 and 8.
-const TABLE_STOPS: u8 = 1;
-
-const WRONG_EDITION: u8 = 2;
-
-const MANY_PROCEDURES: u8 = 3;
-
-const WRONG_KIND: u8 = 4;
-
-const WRONG_MAP: u8 = 5;
-
-const TOO_DEEP: u8 = 7;
-
-const BYTES_LEFT: u8 = 8;
-
-// "Byte 0 is the edition, 1. Byte 1 is p, the number of procedures, 0 to 16." "At most 255 records; a tree is at most 32 records deep."
-const EDITION: u8 = 1;
-
-const MOST_PROCEDURES: u8 = 16;
-
-const MOST_RECORDS: usize = 255;
-
-const MOST_DEPTH: u8 = 32;
-
 // How many conditions, and how many statements, stand behind a record of each kind.
-const CONDITIONS: [u8; 12] = [0, 0, 0, 1, 0, 0, 0, 0, 0, 2, 2, 1];
+const CONDITIONS: [u8; KIND_COUNT] = [0, 0, 0, 1, 0, 0, 0, 0, 0, 2, 2, 1];
 
-const STATEMENTS: [u8; 12] = [0, 0, 2, 2, 2, 0, 0, 0, 0, 0, 0, 0];
+const STATEMENTS: [u8; KIND_COUNT] = [0, 0, 2, 2, 2, 0, 0, 0, 0, 0, 0, 0];
 
 // What reading a tree answers: the place behind it and the number of records so far, or a refusal.
 pub enum Tree {
@@ -49,11 +30,11 @@ pub enum Table {
 }
 
 // Note a value in the index. A slot outside it, or a value past 65535, would be passed over: reading comes to neither.
-fn note(index: &mut [u16; 544], slot: usize, value: usize)
+fn note(index: &mut [u16; INDEX_LENGTH], slot: usize, value: usize)
     ensures { λ r. ⌜ now (index .exit) ≡ noted (now (index .entry)) slot value ⌝ }
 {
-    if slot < 544 {
-        if value < 65536 {
+    if slot < INDEX_LENGTH {
+        if value < PLACE_COUNT {
             index[slot] = value as u16;
         }
     }
@@ -64,9 +45,9 @@ fn wanted(tests: bool, kind: u8) -> bool
     ensures { λ r. ⌜ r ≡ wanted tests kind ⌝ }
 {
     if tests {
-        if kind < 6 { false } else { kind < 12 }
+        if kind < FIRST_CONDITION { false } else { kind < KINDS }
     } else {
-        kind < 6
+        kind < FIRST_CONDITION
     }
 }
 
@@ -75,7 +56,7 @@ fn parts(tests: bool, kind: u8) -> u8
     ensures { λ r. ⌜ r ≡ parts tests kind ⌝ }
 {
     let i = kind as usize;
-    if 12 <= i {
+    if KIND_COUNT <= i {
         return 0;
     }
     if tests { CONDITIONS[i] } else { STATEMENTS[i] }
@@ -109,7 +90,7 @@ fn read_tree(
     p: u8,
     records: usize,
     tests: bool,
-    index: &mut [u16; 544],
+    index: &mut [u16; INDEX_LENGTH],
 ) -> Tree
     ensures { λ r. ⌜ ran r (now (index .exit)) ≡ treeAt p (now (table .entry)) depth tests at records (now (index .entry)) ⌝ }
 {
@@ -147,9 +128,9 @@ fn read_children(
     p: u8,
     records: usize,
     kind: u8,
-    index: &mut [u16; 544],
+    index: &mut [u16; INDEX_LENGTH],
 ) -> Tree
-    requires { ⌜ records < 255 ⌝ }
+    requires { ⌜ records < mostRecords ⌝ }
     ensures { λ r. ⌜ ran r (now (index .exit)) ≡ childrenAt (treeAt p (now (table .entry)) depth) kind at next records (now (index .entry)) ⌝ }
 {
     note(index, records, at);
@@ -163,7 +144,7 @@ fn read_children(
     let Tree::Read(_, behind) = tree else {
         return tree;
     };
-    note(index, 256 + records, behind);
+    note(index, ENDS_AT + records, behind);
     tree
 }
 
@@ -176,7 +157,7 @@ fn read_many(
     records: usize,
     count: u8,
     tests: bool,
-    index: &mut [u16; 544],
+    index: &mut [u16; INDEX_LENGTH],
 ) -> Tree
     ensures { λ r. ⌜ ran r (now (index .exit)) ≡ many (treeAt p (now (table .entry)) depth tests) count at records (now (index .entry)) ⌝ }
 {
@@ -197,14 +178,14 @@ fn read_bodies(
     f: usize,
     p: u8,
     records: usize,
-    index: &mut [u16; 544],
+    index: &mut [u16; INDEX_LENGTH],
 ) -> Tree
     ensures { λ r. ⌜ ran r (now (index .exit)) ≡ bodiesAt p (now (table .entry)) (p + 1 - f) f at records (now (index .entry)) ⌝ }
 {
     if (p as usize) < f {
         return Tree::Read(at, records);
     }
-    note(index, 512 + f, records);
+    note(index, ROOTS_AT + f, records);
     let tree = read_tree(table, at, MOST_DEPTH, p, records, false, index);
     let Tree::Read(next, behind) = tree else {
         return tree;
@@ -214,20 +195,20 @@ fn read_bodies(
 
 // "header 1 (fewer than two bytes), 2, 3", then the main statement and the bodies of procedures 1 to p, then 8 where bytes are left.
 // The index is cleared first. What the answer says, with the index that is left, is what the model reads.
-pub fn read_table(table: &[u8], index: &mut [u16; 544]) -> Table
+pub fn read_table(table: &[u8], index: &mut [u16; INDEX_LENGTH]) -> Table
     ensures { λ r. ⌜ says r (now (table .entry)) (now (index .exit)) ≡ outcome (readTable (now (table .entry))) ⌝ }
 {
     if table.len() < 2 {
         return Table::Refused(TABLE_STOPS);
     }
-    if table[0] != EDITION {
+    if table[0] != TABLE_EDITION {
         return Table::Refused(WRONG_EDITION);
     }
     let p = table[1];
     if MOST_PROCEDURES < p {
         return Table::Refused(MANY_PROCEDURES);
     }
-    *index = [0; 544];
+    *index = [0; INDEX_LENGTH];
     let tree = read_bodies(table, 2, 0, p, 0, index);
     match tree {
         Tree::Refused(k) => Table::Refused(k),

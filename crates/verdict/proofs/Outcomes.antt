@@ -6,7 +6,7 @@ use Prim.Native.Nat.{ℕ, zero, suc, _≤_, _<_}
 use native.Mathlib.Nat.{not-suc-le-zero}
 use native.Mathlib.Omega.{arith}
 use borrow.Author.Tests.{le-leb, lt-leb}
-use Rattle.model.specs.Limits.{noRemoval, tooWide, accessFault}
+use Rattle.model.specs.Limits.{noRemoval, tooWide, accessFault, mostProcedures, mostQubits, wrongQubits}
 use Rattle.model.specs.Syntax.{Program}
 use Rattle.model.specs.Reading.{readTable}
 use Rattle.model.specs.Faults.{programFaults}
@@ -21,31 +21,31 @@ use Rattle.faults.proofs.Refusal.{faults-is}
 use Rattle.verdict.specs.Judging.{judgedAt, outcomeOf}
 
 -- n out of range
-pub few-qubits : (bs : List ℕ) (n : ℕ) (P : Program) → n ≡ 0 → outcomeOf 9 P ≡ accepted bs n
+pub few-qubits : (bs : List ℕ) (n : ℕ) (P : Program) → n ≡ 0 → outcomeOf wrongQubits P ≡ accepted bs n
 unfolding outcomeOf accepted require
 few-qubits bs n P e = rw e
 
-pub many-qubits : (bs : List ℕ) (n : ℕ) (P : Program) → 32 < n → outcomeOf 9 P ≡ accepted bs n
+pub many-qubits : (bs : List ℕ) (n : ℕ) (P : Program) → mostQubits < n → outcomeOf wrongQubits P ≡ accepted bs n
 unfolding outcomeOf accepted require
-many-qubits bs n P h = rw (le-leb 1 n (omega arith), lt-leb n 32 h)
+many-qubits bs n P h = rw (le-leb 1 n (omega arith), lt-leb n mostQubits h)
 
 -- n in range: the table decides
-in-range : (bs : List ℕ) (n : ℕ) → (n ≡ 0 → ⊥) → n ≤ 32 → accepted bs n ≡ after (outcome (readTable bs)) (λ P.
+in-range : (bs : List ℕ) (n : ℕ) → (n ≡ 0 → ⊥) → n ≤ mostQubits → accepted bs n ≡ after (outcome (readTable bs)) (λ P.
     require (not (anyLacksRemoval P)) noRemoval
     (require (not (anyTooWide P)) tooWide
     (require (not (programFaults P n)) accessFault
     (gives P))))
 unfolding accepted require
-in-range bs n z h = rw (le-leb 1 n (omega arith), le-leb n 32 h)
+in-range bs n z h = rw (le-leb 1 n (omega arith), le-leb n mostQubits h)
 
 -- a table that the reader refuses
-pub refused-table : (bs : List ℕ) (n k : ℕ) (P : Program) → (n ≡ 0 → ⊥) → n ≤ 32 → refuses k ≡ outcome (readTable bs) → outcomeOf k P ≡ accepted bs n
+pub refused-table : (bs : List ℕ) (n k : ℕ) (P : Program) → (n ≡ 0 → ⊥) → n ≤ mostQubits → refuses k ≡ outcome (readTable bs) → outcomeOf k P ≡ accepted bs n
 unfolding after outcomeOf
 refused-table bs n zero P z h e = absurd (not-suc-le-zero ((rw (← e) at (outcome-read bs)) .0))
 refused-table bs n (suc k) P z h e = rw (in-range bs n z h, ← e)
 
 -- a table that is read: refusals 10, 11 and 12 of its program
-module _ (bs ix : List ℕ) (p n : ℕ) (few : p ≤ 16) (low : n ≤ 32) where
+module _ (bs ix : List ℕ) (p n : ℕ) (few : p ≤ mostProcedures) (low : n ≤ mostQubits) where
   abbrev P : Program
   P = programAt p bs ix
 
@@ -58,9 +58,9 @@ module _ (bs ix : List ℕ) (p n : ℕ) (few : p ≤ 16) (low : n ≤ 32) where
       (λ q. rw q)
       (λ q. rw (q, faults-is p bs ix few e n low) (byBool (programFaults P n) (λ f. rw f) (λ f. rw f))))))
 
-pub read-table-judged : (bs ix : List ℕ) (p n : ℕ) → (n ≡ 0 → ⊥) → n ≤ 32 → gives (programAt p bs ix) ≡ outcome (readTable bs) →
+pub read-table-judged : (bs ix : List ℕ) (p n : ℕ) → (n ≡ 0 → ⊥) → n ≤ mostQubits → gives (programAt p bs ix) ≡ outcome (readTable bs) →
     outcomeOf (judgedAt p bs ix n) (programAt p bs ix) ≡ accepted bs n
 unfolding after
 read-table-judged bs ix p n z h e =
-    let few : p ≤ 16 = rw (count-at p bs ix) at ((rw (← e) at (outcome-read bs)) .1) in
+    let few : p ≤ mostProcedures = rw (count-at p bs ix) at ((rw (← e) at (outcome-read bs)) .1) in
     decided bs ix p n few h ∙ sym (rw (in-range bs n z h, ← e))

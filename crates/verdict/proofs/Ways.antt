@@ -5,6 +5,7 @@ use mathlib.Core.List.{List}
 use Prim.Native.Nat.{ℕ, zero, suc, _≤_, _<_}
 use borrow.Author.Needs.{needs}
 use borrow.Author.Tests.{le-leb, lt-leb}
+use Rattle.model.specs.Limits.{mostQubits, leastWorkspace, noRemoval, tooWide, accessFault, shortWorkspace}
 use Rattle.model.specs.Reading.{readTable}
 use Rattle.model.specs.Syntax.{Program}
 use Rattle.model.specs.Answers.{Outcome, gives, refuses, after, require, outcome, number, accepted, verdict}
@@ -19,17 +20,17 @@ use Rattle.verdict.proofs.Outcomes.{few-qubits, many-qubits, refused-ta
 
 -- refusals 10, 11 and 12, or none
 module _ (p n : ℕ) (bs ix m : List ℕ) (is : m ≡ reachAt p bs ix) (lacks : Bool) (l : lacks ≡ anyLacksIn m p bs ix) where
-  pub judged-ten : lacks ≡ true → 10 ≡ judgedAt p bs ix n
+  pub judged-ten : lacks ≡ true → noRemoval ≡ judgedAt p bs ix n
   unfolding judgedAt
   judged-ten e = rw (← is, ← l, e)
 
   module _ (e : lacks ≡ false) (wide : Bool) (w : wide ≡ anyWideIn m p bs ix) where
-    pub judged-eleven : wide ≡ true → 11 ≡ judgedAt p bs ix n
+    pub judged-eleven : wide ≡ true → tooWide ≡ judgedAt p bs ix n
     unfolding judgedAt
     judged-eleven q = rw (← is, ← l, e, ← w, q)
 
     module _ (q : wide ≡ false) (faulty : Bool) (f : faulty ≡ faultsAt p bs ix m n) where
-      pub judged-twelve : faulty ≡ true → 12 ≡ judgedAt p bs ix n
+      pub judged-twelve : faulty ≡ true → accessFault ≡ judgedAt p bs ix n
       unfolding judgedAt
       judged-twelve t = rw (← is, ← l, e, ← w, q, ← f, t)
 
@@ -40,7 +41,7 @@ module _ (p n : ℕ) (bs ix m : List ℕ) (is : m ≡ reachAt p bs ix) (lacks : 
 pub ruleset judges = (needs, judged-ten, judged-eleven, judged-twelve, judged-none)
 
 -- the table was refused, or read and judged
-module _ (bs ix : List ℕ) (n : ℕ) (z : n ≡ 0 → ⊥) (h : n ≤ 32) (a : Table) (s : says a bs ix ≡ outcome (readTable bs)) where
+module _ (bs ix : List ℕ) (n : ℕ) (z : n ≡ 0 → ⊥) (h : n ≤ mostQubits) (a : Table) (s : says a bs ix ≡ outcome (readTable bs)) where
   pub judge-refused : (k f : ℕ) → a ≡ answer.Refused k → outcomeOf k (programAt f bs ix) ≡ accepted bs n
   unfolding says
   judge-refused k f e = refused-table bs n k (programAt f bs ix) z h (rw e at s)
@@ -75,12 +76,12 @@ module _ (bs ix : List ℕ) (n space : ℕ) (j : Judged) (is : judgedAs j bs ix 
   unfolding verdict after number
   verdict-refused some = rw (refused-judged some)
 
-  pub verdict-short : j .number ≡ 0 → space < 32768 → 21 ≡ number (verdict bs n space)
+  pub verdict-short : j .number ≡ 0 → space < leastWorkspace → shortWorkspace ≡ number (verdict bs n space)
   unfolding verdict after require number
-  verdict-short none h = rw (accepted-judged none, lt-leb 32768 space h)
+  verdict-short none h = rw (accepted-judged none, lt-leb leastWorkspace space h)
 
-  pub verdict-given : j .number ≡ 0 → 32768 ≤ space → 0 ≡ number (verdict bs n space)
+  pub verdict-given : j .number ≡ 0 → leastWorkspace ≤ space → 0 ≡ number (verdict bs n space)
   unfolding verdict after require number
-  verdict-given none h = rw (accepted-judged none, le-leb 32768 space h)
+  verdict-given none h = rw (accepted-judged none, le-leb leastWorkspace space h)
 
 pub ruleset answers = (needs, verdict-refused, verdict-short, verdict-given)

@@ -3,6 +3,7 @@ ghost use mathlib.Core.Path.{_≡_};
 ghost use Rattle.model.specs.Answers.{accepted};
 ghost use Rattle.model.specs.Answers as model;
 ghost use Rattle.verdict.specs.Judging.{judgedAt, judgedAs};
+use limits::{ACCESS_FAULT, INDEX_LENGTH, LEAST_WORKSPACE, MATRIX_LENGTH, MOST_N, NO_REMOVAL, SHORT_WORKSPACE, TOO_WIDE, WRONG_QUBITS};
 use table::{Table, read_table};
 use reach::{fill_reach, any_lacks_removal, any_too_wide};
 use faults::faults;
@@ -17,29 +18,29 @@ pub struct Judged {
 fn judge_read(table: &[u8], index: &[u16], p: u8, n: u8) -> u8
     ensures { λ r. ⌜ r ≡ judgedAt p (now (table .entry)) (now (index .entry)) n ⌝ }
 {
-    let mut matrix = [0u8; 289];
+    let mut matrix = [0u8; MATRIX_LENGTH];
     fill_reach(table, index, p, &mut matrix);
     if any_lacks_removal(table, index, p, &matrix) {
-        return 10;
+        return NO_REMOVAL;
     }
     if any_too_wide(table, index, p, &matrix) {
-        return 11;
+        return TOO_WIDE;
     }
     if faults(table, index, p, n, &matrix) {
-        return 12;
+        return ACCESS_FAULT;
     }
     0
 }
 
 // "Order: 9; header 1 .., 2, 3; each record ..; 8; 10 over the whole table, then 11, then 12". The index is what walkers of the table need afterwards.
-pub fn judge(table: &[u8], n: u32, index: &mut [u16; 544]) -> Judged
+pub fn judge(table: &[u8], n: u32, index: &mut [u16; INDEX_LENGTH]) -> Judged
     ensures { λ r. ⌜ judgedAs r (now (table .entry)) (now (index .exit)) ≡ accepted (now (table .entry)) n ⌝ }
 {
     if n == 0 {
-        return Judged { number: 9, procedures: 0 };
+        return Judged { number: WRONG_QUBITS, procedures: 0 };
     }
-    if 32 < n {
-        return Judged { number: 9, procedures: 0 };
+    if MOST_N < n {
+        return Judged { number: WRONG_QUBITS, procedures: 0 };
     }
     let answer = read_table(table, index);
     match answer {
@@ -55,14 +56,14 @@ pub fn judge(table: &[u8], n: u32, index: &mut [u16; 544]) -> Judged
 pub fn verdict(table: &[u8], n: u32, space: usize) -> u32
     ensures { λ r. ⌜ r ≡ model.number (model.verdict (now (table .entry)) n space) ⌝ }
 {
-    let mut index = [0u16; 544];
+    let mut index = [0u16; INDEX_LENGTH];
     let judged = judge(table, n, &mut index);
     let number = judged.number as u32;
     if number != 0 {
         return number;
     }
-    if space < 32768 {
-        return 21;
+    if space < LEAST_WORKSPACE {
+        return SHORT_WORKSPACE as u32;
     }
     0
 }

@@ -8,6 +8,7 @@ use native.Mathlib.Omega.{arith}
 use lib.Dec.{lit<}
 use lib.ListN.{length, getD, List·getD-eq-default}
 use lib.Seq.{ext-getD}
+use Rattle.limits.specs.Sizes.{blockBits}
 use Rattle.model.specs.Limits.{blockLength, mostWires}
 use Rattle.model.specs.Meaning.{State, bit, flipped, stateOf, wordFrom}
 use Rattle.model.specs.Gates.{Gate, flip, swap, exchange, renamed, fires, act}
@@ -63,7 +64,7 @@ block-bytes s = record { long = block-length blockLength 1 s; byte = λ i. byLt 
     (λ g. rw (List·getD-eq-default (blockOf s) 0 {n = i} (rw (block-length blockLength 1 s) g)) (lit< tt)) }
 
 -- a block holds what wires 1 to 256 of its state hold
-pub block-wire : (s : State) (w : ℕ) → 1 ≤ w → w ≤ 256 → stateIn (blockOf s) w ≡ s w
+pub block-wire : (s : State) (w : ℕ) → 1 ≤ w → w ≤ blockBits → stateIn (blockOf s) w ≡ s w
 block-wire s zero h l = absurd (omega arith)
 block-wire s (suc k) h l =
     state-at (blockOf s) k
@@ -72,9 +73,9 @@ block-wire s (suc k) h l =
     ∙ ap s (omega arith)
 
 -- 32 bytes are the block of each state that has their bits on wires 1 to 256
-pub block-is : (bytes : List ℕ) → IsBlock bytes → (s : State) → ((w : ℕ) → 1 ≤ w → w ≤ 256 → s w ≡ stateIn bytes w) → blockOf s ≡ bytes
+pub block-is : (bytes : List ℕ) → IsBlock bytes → (s : State) → ((w : ℕ) → 1 ≤ w → w ≤ blockBits → s w ≡ stateIn bytes w) → blockOf s ≡ bytes
 block-is bytes h s e = ext-getD 0 (blockOf s) bytes (block-length blockLength 1 s ∙ sym (h .long)) (λ i l.
-    let low : i < 32 = subst (λ (n : ℕ). i < n) (block-length blockLength 1 s) l in
+    let low : i < blockLength = subst (λ (n : ℕ). i < n) (block-length blockLength 1 s) l in
     block-byte blockLength 1 s i low
     ∙ word-is 8 (1 + 8 * i) s (getD bytes i 0) (h .byte i) (λ k lk.
       ap s (omega arith)
@@ -88,7 +89,7 @@ pub block-of-state : (bytes : List ℕ) → IsBlock bytes → blockOf (stateIn b
 block-of-state bytes h = block-is bytes h (stateIn bytes) (λ w l m. refl)
 
 -- states that agree on wires 1 to 256 have the same block
-pub same-block : (s t : State) → ((w : ℕ) → 1 ≤ w → w ≤ 256 → s w ≡ t w) → blockOf s ≡ blockOf t
+pub same-block : (s t : State) → ((w : ℕ) → 1 ≤ w → w ≤ blockBits → s w ≡ t w) → blockOf s ≡ blockOf t
 same-block s t h = block-is (blockOf t) (block-bytes t) s (λ w l m. h w l m ∙ sym (block-wire t w l m))
 
 -- ---- states that stand in a block whole
@@ -96,13 +97,13 @@ same-block s t h = block-is (blockOf t) (block-bytes t) s (λ w l m. h w l m ∙
 -- only wires 1 to 256 may hold 1
 pub record InBlock (s : State) : Type 0 where
   pub none : s 0 ≡ false
-  pub past : (w : ℕ) → 256 < w → s w ≡ false
+  pub past : (w : ℕ) → blockBits < w → s w ≡ false
 
 -- such a state is the state in its block
 pub state-of-block : (s : State) → InBlock s → stateIn (blockOf s) ≡ s
 state-of-block s h = fun-ext (λ w. byEq w 0
     (λ e. rw e (state-zero (blockOf s) ∙ sym (h .none)))
-    (λ ne. byLt 256 w
+    (λ ne. byLt blockBits w
       (λ g. state-past (blockOf s) w (rw (block-length blockLength 1 s) g) ∙ sym (h .past w g))
       (λ l. block-wire s w (omega arith) l)))
 
@@ -115,7 +116,7 @@ pub word-inside : (word : ℕ) → word < 2 ^ 64 → InBlock (stateOf word)
 unfolding stateOf
 word-inside word h = record { none = refl; past = past }
   where
-  past : (w : ℕ) → 256 < w → stateOf word w ≡ false
+  past : (w : ℕ) → blockBits < w → stateOf word w ≡ false
   past zero g = refl
   past (suc k) g = past-bit 64 word k h (omega arith)
 

@@ -13,6 +13,7 @@ use lib.Dec.{eqb}
 use lib.ListN.{length, getD, set, length-set, replicate, length-replicate, getD-replicate, List·getD-eq-default}
 use lib.Seq.{getD-set-same, getD-set-other}
 use lib.Bits.{bitAnd, bitXor, and-mask, mask-lt}
+use Rattle.limits.specs.Sizes.{blockBits}
 use Rattle.model.specs.Limits.{blockLength}
 use Rattle.model.specs.Meaning.{State, bit, flipped, stateOf}
 use Rattle.model.specs.Gates.{exchange, renamed}
@@ -61,7 +62,7 @@ holds-bit bytes w n =
 abbrev flipAt : List ℕ → ℕ → List ℕ
 flipAt bytes k = set bytes (k / 8) (bitXor (getD bytes (k / 8) 0) (2 ^ (k % 8)))
 
-module _ (bytes : List ℕ) (h : IsBlock bytes) (k : ℕ) (l : k < 256) where
+module _ (bytes : List ℕ) (h : IsBlock bytes) (k : ℕ) (l : k < blockBits) where
   at-byte : getD (flipAt bytes k) (k / 8) 0 ≡ bitXor (getD bytes (k / 8) 0) (2 ^ (k % 8))
   at-byte = getD-set-same bytes (k / 8) (bitXor (getD bytes (k / 8) 0) (2 ^ (k % 8))) 0 (rw (h .long) (omega arith))
 
@@ -89,7 +90,7 @@ module _ (bytes : List ℕ) (h : IsBlock bytes) (k : ℕ) (l : k < 256) where
   flip-bytes : flipAt bytes k ≡ blockOf (flipped (suc k) (stateIn bytes))
   flip-bytes = sym (block-is (flipAt bytes k) flip-is-block (flipped (suc k) (stateIn bytes)) wire)
     where
-    wire : (w : ℕ) → 1 ≤ w → w ≤ 256 → flipped (suc k) (stateIn bytes) w ≡ stateIn (flipAt bytes k) w
+    wire : (w : ℕ) → 1 ≤ w → w ≤ blockBits → flipped (suc k) (stateIn bytes) w ≡ stateIn (flipAt bytes k) w
     wire zero p q = absurd (omega arith)
     wire (suc j) p q = byEq j k
       (λ e. rw e (flipped-same (stateIn bytes) (suc k) ∙ sym flip-wire))
@@ -186,8 +187,8 @@ repeated n j z = byLt j n
     (λ g. List·getD-eq-default (replicate n z) z (rw (length-replicate n z) g))
 
 -- no byte yet
-pub write-none : (word : ℕ) → Written word 0 (replicate 32 0)
-write-none word = record { long = refl; below = λ j l. absurd (omega arith); above = λ j l. repeated 32 j 0 }
+pub write-none : (word : ℕ) → Written word 0 (replicate blockLength 0)
+write-none word = record { long = refl; below = λ j l. absurd (omega arith); above = λ j l. repeated blockLength j 0 }
 
 -- the low byte is a byte
 pub byte-fits : (n : ℕ) → Fits w8 (bitAnd n 255)
@@ -211,7 +212,7 @@ word-block word bytes l h = sym (block-is bytes (record { long = h .long; byte =
   byte i = byLt i 8
     (λ m. rw (h .below i m) (mod-lt (word / 2 ^ (8 * i)) (zero-lt-suc 255)))
     (λ g. rw (h .above i g) (zero-lt-suc 255))
-  wire : (w : ℕ) → 1 ≤ w → w ≤ 256 → stateOf word w ≡ stateIn bytes w
+  wire : (w : ℕ) → 1 ≤ w → w ≤ blockBits → stateOf word w ≡ stateIn bytes w
   wire zero p q = absurd (omega arith)
   wire (suc k) p q = sym (state-at bytes k ∙ byLt (k / 8) 8
     (λ m. rw (h .below (k / 8) m) (byte-bit word (8 * (k / 8)) (k % 8) (omega arith) ∙ ap (bit word) (omega arith)))

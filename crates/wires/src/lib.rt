@@ -5,10 +5,11 @@ ghost use lib.Dec.{ltb};
 ghost use Rattle.model.specs.Meaning.{flipped, stateOf};
 ghost use Rattle.model.specs.Gates.{exchange, renamed};
 ghost use Rattle.wires.specs.States.{stateIn, inState, wiresOf};
+use limits::BLOCK_LENGTH;
 
 // Wire w is bit (w - 1) mod 8 of byte (w - 1) div 8, counted from 0 and from the lowest bit.
 pub struct Wires {
-    pub bits: [u8; 32],
+    pub bits: [u8; BLOCK_LENGTH],
     pub data: u8,
     pub ancillas: u8,
 }
@@ -27,7 +28,7 @@ pub fn fits(word: u64, n: u8) -> bool
 pub fn start(data: u8, ancillas: u8, word: u64) -> Wires
     ensures { λ r. ⌜ r ≡ wiresOf «data» ancillas (stateOf word) ⌝ }
 {
-    let mut bits = [0u8; 32];
+    let mut bits = [0u8; BLOCK_LENGTH];
     for i in 0..8 {
         bits[i] = ((word >> (8 * i)) & 255) as u8;
     }

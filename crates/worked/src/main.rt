@@ -3,11 +3,12 @@
 // number of the verdict, number and end word of the run, number and length of compile.
 ghost use Prim.Native.Nat.{_<_};
 ghost use Rattle.io.specs.Counts.{Counts};
+use answers::Answer;
 use foq::foq_compile;
 use foq::foq_run;
 use foq::foq_verdict;
 use libc::STDOUT_FILENO;
-use run::Answer;
+use limits::LEAST_WORKSPACE;
 
 // What a hexadecimal digit stands for; no other byte is in the files.
 fn digit(byte: u8) -> u8
@@ -76,7 +77,7 @@ fn print_answers(n: u8, word: u8, room: u8, table: &[u8], workspace: &mut [u8]) 
 }
 
 fn print_case(case: &[u8]) {
-    let mut workspace = [0u8; 32768];
+    let mut workspace = [0u8; LEAST_WORKSPACE];
     if 3 <= case.len() {
         print_answers(case[0], case[1], case[2], &case[3..], &mut workspace);
     }

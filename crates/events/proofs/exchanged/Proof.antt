@@ -3,13 +3,14 @@ use Prim.Native.Nat.{_-_}
 use mathlib.Core.Path.{_≡_}
 use mathlib.Core.List.{map}
 use lib.ListN.{length, take}
+use Rattle.model.specs.Limits.{mostQubits}
 use Rattle.model.specs.Gates.{exchange}
 use Rattle.events.proofs.Leaves.{filling}
 use Rattle.events.proofs.exchanged.Statement.{statement}
 use Rattle.events.proofs.exchanged.Tie as tie
 
 abbrev Inv-loop : tie.InvT-loop
-Inv-loop list u v old at₀ i₀ at i = (length at ≡ 32) × (length old ≡ 32) × (take i at ≡ map (exchange u v) (take i old))
+Inv-loop list u v old at₀ i₀ at i = (length at ≡ mostQubits) × (length old ≡ mostQubits) × (take i at ≡ map (exchange u v) (take i old))
 
 abbrev μ-loop : tie.MeasureT-loop
 μ-loop list u v old at₀ i₀ at i = 32 - i

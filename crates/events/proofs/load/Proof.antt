@@ -3,7 +3,9 @@ use Prim.Native.Nat.{_+_, _*_, _-_, _≤_}
 use mathlib.Core.Path.{_≡_}
 use borrow.Author.Needs.{needs}
 use lib.ListN.{length, take}
-use Rattle.events.specs.Scan.{bytesFrom, slotLength}
+use Rattle.limits.specs.Sizes.{slotLength}
+use Rattle.model.specs.Limits.{mostQubits}
+use Rattle.events.specs.Scan.{bytesFrom, slotListLength}
 use native.Mathlib.Omega.{arith}
 use Rattle.events.proofs.Leaves.{load-next, filling}
 use Rattle.events.proofs.load.Statement.{statement}
@@ -11,7 +13,7 @@ use Rattle.events.proofs.load.Tie as tie
 
 abbrev Inv-loop : tie.InvT-loop
 Inv-loop ws a from len at₀ n i₀ at i =
-    (from ≡ 34 * a + 2) × (len ≡ slotLength ws a) × (n ≡ len) × (i ≤ n) × (n ≤ 32) × (length at ≡ 32) × (take i at ≡ bytesFrom ws from i)
+    (from ≡ slotLength * a + 2) × (len ≡ slotListLength ws a) × (n ≡ len) × (i ≤ n) × (n ≤ mostQubits) × (length at ≡ mostQubits) × (take i at ≡ bytesFrom ws from i)
 
 abbrev μ-loop : tie.MeasureT-loop
 μ-loop ws a from len at₀ n i₀ at i = n - i

@@ -1,4 +1,5 @@
 -- `faults::all_ranks` meets its contract: before procedure f the ranks of those below f are there. Assumes nothing.
+use Rattle.limits.specs.Sizes.{bodyCount}
 use Rattle.faults.proofs.Fills.{ranking}
 use Prim.Native.Nat.{_≤_, _-_}
 use mathlib.Core.Path.{_≡_}
@@ -7,7 +8,7 @@ use Rattle.faults.proofs.all_ranks.Statement.{statement}
 use Rattle.faults.proofs.all_ranks.Tie as tie
 
 abbrev Inv-loop : tie.InvT-loop
-Inv-loop matrix p all₀ f₀ all f = (f ≤ 17) × (all ≡ ranksBelow matrix p f)
+Inv-loop matrix p all₀ f₀ all f = (f ≤ bodyCount) × (all ≡ ranksBelow matrix p f)
 
 abbrev μ-loop : tie.MeasureT-loop
 μ-loop matrix p all₀ f₀ all f = 17 - f

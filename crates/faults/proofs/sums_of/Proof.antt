@@ -1,4 +1,5 @@
 -- `faults::sums_of` meets its contract: before j the sums below j are followed. Assumes nothing.
+use Rattle.model.specs.Limits.{mostQubits}
 use Rattle.faults.proofs.Counting.{counting}
 use Prim.Native.Nat.{_≤_, _-_}
 use mathlib.Core.Path.{_≡_}
@@ -8,7 +9,7 @@ use Rattle.faults.proofs.sums_of.Statement.{statement}
 use Rattle.faults.proofs.sums_of.Tie as tie
 
 abbrev Inv-loop : tie.InvT-loop
-Inv-loop counts sums₀ j₀ sums j = (j ≤ 32) × (sums ≡ sumsBelow counts j)
+Inv-loop counts sums₀ j₀ sums j = (j ≤ mostQubits) × (sums ≡ sumsBelow counts j)
 
 abbrev μ-loop : tie.MeasureT-loop
 μ-loop counts sums₀ j₀ sums j = 32 - j

@@ -1,13 +1,14 @@
 -- `reach::join` meets its contract: before column g the columns below g are joined. Assumes nothing.
 use mathlib.Core.Path.{_≡_}
 use Prim.Native.Nat.{_-_, _≤_}
+use Rattle.limits.specs.Sizes.{bodyCount}
 use Rattle.reach.specs.Matrix.{joined}
 use Rattle.reach.proofs.Ways.{rows}
 use Rattle.reach.proofs.join.Statement.{statement}
 use Rattle.reach.proofs.join.Tie as tie
 
 abbrev Inv-loop : tie.InvT-loop
-Inv-loop matrix₀ f v g₀ matrix g = (matrix ≡ joined g f v matrix₀) × (g ≤ 17)
+Inv-loop matrix₀ f v g₀ matrix g = (matrix ≡ joined g f v matrix₀) × (g ≤ bodyCount)
 
 abbrev μ-loop : tie.MeasureT-loop
 μ-loop matrix₀ f v g₀ matrix g = 17 - g

@@ -6,6 +6,7 @@ use borrow.Author.Needs.{needs}
 use lib.ListN.{length, take}
 use mir.Syntax.{w32}
 use mir.Val.{SFits}
+use Rattle.model.specs.Limits.{mostQubits}
 use Rattle.model.specs.Lists.{removeAll}
 use Rattle.records.specs.Fields.{numbersFrom}
 use Rattle.step.proofs.Removals.{remaining-none, remaining-past, remaining-whole, remaining-goes-on, remaining-ends}
@@ -14,7 +15,7 @@ use Rattle.step.proofs.remaining.Tie as tie
 
 abbrev Inv-loop : tie.InvT-loop
 Inv-loop table at whole rest₀ len₀ left₀ place₀ rest len left place =
-    (place + 3 * left < 2 ^ 64) × (length rest ≡ 32)
+    (place + 3 * left < 2 ^ 64) × (length rest ≡ mostQubits)
     × (removeAll whole (numbersFrom left table place) (take len rest) ≡ removeAll whole (numbersFrom left₀ table place₀) (take len₀ rest₀))
 
 abbrev μ-loop : tie.MeasureT-loop
@@ -23,7 +24,7 @@ abbrev μ-loop : tie.MeasureT-loop
 loop-holds : tie.Need-loop-holds Inv-loop μ-loop
 loop-holds c =
     let args = c .before .before .before .before .before .before .args in
-    let long : length (args .list .at) ≡ 32 = search needs in
+    let long : length (args .list .at) ≡ mostQubits = search needs in
     (omega (arith, c .shared-slice-known2 .given (args .at)), long, refl)
 
 loop-again : tie.Need-loop-again Inv-loop μ-loop

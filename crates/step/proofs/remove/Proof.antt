@@ -4,6 +4,7 @@ use mathlib.Core.Path.{_≡_, sym, _∙_}
 use native.Mathlib.Omega.{arith}
 use borrow.Author.Needs.{needs}
 use lib.ListN.{length, take, length-set}
+use Rattle.model.specs.Limits.{mostQubits}
 use Rattle.model.specs.Lists.{delete}
 use Rattle.step.proofs.Entries.{size-of, place-bound, remove-none, remove-some, shifted, shift-starts, shift-goes-on, shift-ends}
 use Rattle.step.proofs.remove.Statement.{statement}
@@ -11,7 +12,7 @@ use Rattle.step.proofs.remove.Tie as tie
 
 abbrev Inv-loop : tie.InvT-loop
 Inv-loop at₀ len k size i₀ at i =
-    (0 < i) × (i ≤ size) × (size ≤ 32) × (length at ≡ 32) × (shifted size i at ≡ delete (i₀ - 1) (take size at₀))
+    (0 < i) × (i ≤ size) × (size ≤ mostQubits) × (length at ≡ mostQubits) × (shifted size i at ≡ delete (i₀ - 1) (take size at₀))
 
 abbrev μ-loop : tie.MeasureT-loop
 μ-loop at₀ len k size i₀ at i = size - i
@@ -20,7 +21,7 @@ returns : tie.Need-returns Inv-loop μ-loop
 returns c =
     let b = c .before .before in
     let array = b .before .args .at .now in
-    (remove-none (b .before .args .len) array _ _ _ (b .before .fits .k) (size-of _ array _ 32 (b .before .pre) (b .capped .ensures))
+    (remove-none (b .before .args .len) array _ _ _ (b .before .fits .k) (size-of _ array _ mostQubits (b .before .pre) (b .capped .ensures))
     (c .before .within .ensures) (c .if1 .taken), b .before .pre)
 
 loop-holds : tie.Need-loop-holds Inv-loop μ-loop
@@ -41,7 +42,7 @@ returns-2 c =
     let b = c .before .before .before .before in
     let array = b .before .args .at .now in
     (sym (shift-ends _ _ (c .before .loop .at) (c .loop-test .left) (h .1)) ∙ h .4
-      ∙ remove-some (b .before .args .len) array _ _ _ (b .before .fits .k) (size-of _ array _ 32 (b .before .pre) (b .capped .ensures))
+      ∙ remove-some (b .before .args .len) array _ _ _ (b .before .fits .k) (size-of _ array _ mostQubits (b .before .pre) (b .capped .ensures))
         (c .before .before .before .within .ensures) (c .before .before .if1 .left), h .3)
 
 pub remove-spec : {M : Type 1} → statement M

@@ -9,5 +9,6 @@ verdict-spec = tie.close (tie.spec
     (λ c κs. search needs)
     (λ c. search needs)
     (λ c. search answers)
+    (λ c. search needs)
     (λ c. search answers)
     (λ c. search answers))

@@ -3,6 +3,7 @@ use mathlib.Core.Path.{_≡_}
 use mathlib.Core.List.{_∷_, _++_}
 use Prim.Native.Nat.{_-_, _≤_, _<_}
 use lib.ListN.{length, take}
+use Rattle.limits.specs.Sizes.{mostControls}
 use Rattle.model.specs.Gates.{insert}
 use Rattle.circuit.specs.Views.{part}
 use Rattle.circuit.proofs.Writing.{inserts}
@@ -11,7 +12,7 @@ use Rattle.circuit.proofs.write.insert.Tie as tie
 
 abbrev Inv-loop : tie.InvT-loop
 Inv-loop wire count wires₀ i₀ carried₀ wires i carried =
-    (count < 33) × (i ≤ count) × (length wires ≡ 33) ×
+    (count < mostControls) × (i ≤ count) × (length wires ≡ mostControls) ×
     (insert wire (take count wires₀) ≡ take i wires ++ (carried ∷ part wires i (count - i)))
 
 abbrev μ-loop : tie.MeasureT-loop

@@ -2,6 +2,7 @@
 use mathlib.Core.Path.{_≡_}
 use Prim.Native.Nat.{_+_, _-_, _≤_}
 use lib.ListN.{length, take}
+use Rattle.limits.specs.Sizes.{mostControls}
 use Rattle.circuit.specs.Views.{part}
 use Rattle.circuit.specs.Writing.{placeFor}
 use Rattle.circuit.proofs.Writing.{places}
@@ -10,7 +11,7 @@ use Rattle.circuit.proofs.write.place_for.Tie as tie
 
 abbrev Inv-loop : tie.InvT-loop
 Inv-loop wire wires count i₀ i =
-    (count ≤ 33) × (length wires ≡ 33) × (placeFor wire (take count wires) ≡ i + placeFor wire (part wires i (count - i)))
+    (count ≤ mostControls) × (length wires ≡ mostControls) × (placeFor wire (take count wires) ≡ i + placeFor wire (part wires i (count - i)))
 
 abbrev μ-loop : tie.MeasureT-loop
 μ-loop wire wires count i₀ i = count - i

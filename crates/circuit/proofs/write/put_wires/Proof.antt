@@ -3,6 +3,7 @@ use mathlib.Core.Path.{_≡_}
 use Prim.Native.Nat.{_-_, _≤_}
 use lib.ListN.{length, take}
 use lib.Seq.{sets}
+use Rattle.limits.specs.Sizes.{mostControls}
 use Rattle.circuit.specs.Views.{part}
 use Rattle.circuit.proofs.Putting.{wired}
 use Rattle.circuit.proofs.write.put_wires.Statement.{statement}
@@ -10,7 +11,7 @@ use Rattle.circuit.proofs.write.put_wires.Tie as tie
 
 abbrev Inv-loop : tie.InvT-loop
 Inv-loop room₀ at wires count place₀ i₀ room place i =
-    (count ≤ 33) × (length wires ≡ 33) × (length room ≡ length room₀) ×
+    (count ≤ mostControls) × (length wires ≡ mostControls) × (length room ≡ length room₀) ×
     (sets room₀ place₀ (take count wires) ≡ sets room place (part wires i (count - i)))
 
 abbrev μ-loop : tie.MeasureT-loop

@@ -1,0 +1,62 @@
+-- Sizes of what the code keeps. Document 01 names none of them; each follows from its limits.
+use Prim.Native.Nat.{ℕ, _+_, _-_, _*_, _^_}
+use Rattle.model.specs.Limits.{mostProcedures, mostRecords, mostDepth, mostRemovals, mostQubits, mostWires, blockLength}
+
+-- the bodies of a table: main and each procedure
+abbrev pub bodyCount : ℕ
+bodyCount = mostProcedures + 1
+
+-- which procedure reaches which: a row of bytes for each body, a byte for each body in it
+abbrev pub matrixLength : ℕ
+matrixLength = bodyCount * bodyCount
+
+-- the lengths of a list of qubits: 0 to the most
+abbrev pub lengthCount : ℕ
+lengthCount = mostQubits + 1
+
+-- what a body touches of a list: a row for each body and each length
+abbrev pub rowCount : ℕ
+rowCount = bodyCount * lengthCount
+
+-- the index of a table: where each record starts, from 0 on; the record after each subtree, from `endsAt` on; the root of each body, from `rootsAt` on.
+-- A record's number, and the number after the last, is below `endsAt`.
+abbrev pub endsAt : ℕ
+endsAt = mostRecords + 1
+
+abbrev pub rootsAt : ℕ
+rootsAt = endsAt + endsAt
+
+abbrev pub indexLength : ℕ
+indexLength = rootsAt + bodyCount
+
+-- the bytes of the longest record: map and kind, the most removals, and a number; a number has three bytes
+abbrev pub longestRecord : ℕ
+longestRecord = 2 + (1 + 3 * mostRemovals) + 3
+
+-- a place in a table is kept in 16 bits: reading comes to none past them
+abbrev pub placeCount : ℕ
+placeCount = 2 ^ 16
+
+-- the controls of a gate that is emitted: the body's ancilla, and one for each record of a tree at most
+abbrev pub mostControls : ℕ
+mostControls = mostDepth + 1
+
+-- the numbers of wires, 0 among them, which is none
+abbrev pub wireCount : ℕ
+wireCount = mostWires + 1
+
+-- what an ancilla keeps of the call that took it: procedure, list length, and the list
+abbrev pub slotLength : ℕ
+slotLength = 2 + mostQubits
+
+-- the slots of all wires, in the workspace
+abbrev pub slotsLength : ℕ
+slotsLength = slotLength * wireCount
+
+-- the calls of a body are counted in 16 bits, and no further
+abbrev pub mostCalls : ℕ
+mostCalls = 2 ^ 16 - 1
+
+-- the wires whose bits stand in a block
+abbrev pub blockBits : ℕ
+blockBits = 8 * blockLength

@@ -1,0 +1,175 @@
+// Document 01's limits and refusals as constants, and the sizes that follow from them. No other crate has a limit of its own.
+ghost use mathlib.Core.Path.{_≡_};
+ghost use mathlib.Core.List.{[], _∷_};
+ghost use Rattle.model.specs.Limits.{
+  tableEdition, mostProcedures, mostRecords, mostDepth, mostRemovals, kindCount, firstCondition, mostConstant, mostQubits, mostWires, circuitEdition, headerLength, mostCircuit,
+  blockLength, leastWorkspace,
+};
+ghost use Rattle.model.specs.Limits.{
+  success, tableStops, wrongEdition, manyProcedures, wrongKind, wrongMap, wrongField, tooDeep, bytesLeft, wrongQubits, noRemoval, tooWide,
+  accessFault, highBit, notWellFormed, shortWorkspace, manyWires, noRoom,
+};
+ghost use Rattle.limits.specs.Sizes.{
+  bodyCount, matrixLength, lengthCount, rowCount, endsAt, rootsAt, indexLength, placeCount, mostControls, slotLength,
+  mostCalls,
+};
+
+// "Byte 0 is the edition, 1." "Byte 1 is p, the number of procedures, 0 to 16."
+pub const TABLE_EDITION: u8 = 1;
+
+pub const MOST_PROCEDURES: u8 = 16;
+
+// "At most 255 records; a tree is at most 32 records deep."
+pub const MOST_RECORDS: usize = 255;
+
+pub const MOST_DEPTH: u8 = 32;
+
+// "removals: a count byte 1 to 8"
+pub const MOST_REMOVALS: u8 = 8;
+
+// "Kinds: 0 skip; .. 5 call, procedure; 6 a > b; .. 11 not, one condition"
+pub const KINDS: u8 = 12;
+
+pub const KIND_COUNT: usize = KINDS as usize;
+
+pub const FIRST_CONDITION: u8 = 6;
+
+// "a signed 16-bit constant": the greatest
+pub const MOST_CONSTANT: i32 = 32767;
+
+// "n is 1 to 32", of a table's run and of a circuit; "that sum is at most 255", of a circuit's wires
+pub const MOST_QUBITS: u8 = 32;
+
+// The same for the n that a host gives.
+pub const MOST_N: u32 = MOST_QUBITS as u32;
+
+pub const MOST_WIRES: u8 = 255;
+
+// The same for the next ancilla, which may be one past it.
+pub const LAST_WIRE: u16 = MOST_WIRES as u16;
+
+// "Edition byte 1, n, ancilla byte .., gate count in 4 bytes little-endian"; "at most 65,536 long"
+pub const CIRCUIT_EDITION: u8 = 1;
+
+pub const HEADER_LENGTH: usize = 7;
+
+pub const MOST_CIRCUIT: usize = 65536;
+
+// A circuit has fewer gates than bytes.
+pub const MOST_GATES: u32 = MOST_CIRCUIT as u32;
+
+// "one block of 32 bytes"
+pub const BLOCK_LENGTH: usize = 32;
+
+// "21 workspace shorter than 32,768 bytes"
+pub const LEAST_WORKSPACE: usize = 32768;
+
+// "Success is number 0"; "Refusals from the input"; "Refusals from the state"
+pub const SUCCESS: u8 = 0;
+
+pub const TABLE_STOPS: u8 = 1;
+
+pub const WRONG_EDITION: u8 = 2;
+
+pub const MANY_PROCEDURES: u8 = 3;
+
+pub const WRONG_KIND: u8 = 4;
+
+pub const WRONG_MAP: u8 = 5;
+
+pub const WRONG_FIELD: u8 = 6;
+
+pub const TOO_DEEP: u8 = 7;
+
+pub const BYTES_LEFT: u8 = 8;
+
+pub const WRONG_QUBITS: u8 = 9;
+
+pub const NO_REMOVAL: u8 = 10;
+
+pub const TOO_WIDE: u8 = 11;
+
+pub const ACCESS_FAULT: u8 = 12;
+
+pub const HIGH_BIT: u8 = 13;
+
+pub const NOT_WELL_FORMED: u8 = 14;
+
+pub const SHORT_WORKSPACE: u8 = 21;
+
+pub const MANY_WIRES: u8 = 22;
+
+pub const NO_ROOM: u8 = 23;
+
+// The bodies of a table: main and each procedure.
+pub const BODIES: u8 = MOST_PROCEDURES + 1;
+
+pub const BODY_COUNT: usize = BODIES as usize;
+
+// Which procedure reaches which: a row of bytes for each body.
+pub const MATRIX_LENGTH: usize = BODY_COUNT * BODY_COUNT;
+
+// As many entries as a list of qubits has room for.
+pub const LIST_LENGTH: usize = MOST_QUBITS as usize;
+
+// The lengths of a list: 0 to the most.
+pub const LENGTH_COUNT: usize = LIST_LENGTH + 1;
+
+// What a body touches of a list: a row for each body and each length.
+pub const ROW_COUNT: usize = BODY_COUNT * LENGTH_COUNT;
+
+// The index of a table: starts of records, ends of subtrees, roots of bodies.
+pub const ENDS_AT: usize = MOST_RECORDS + 1;
+
+pub const ROOTS_AT: usize = ENDS_AT + ENDS_AT;
+
+pub const INDEX_LENGTH: usize = ROOTS_AT + BODY_COUNT;
+
+// A place in a table is kept in 16 bits.
+pub const PLACE_COUNT: usize = 65536;
+
+// The controls of a gate that is emitted: the body's ancilla, and one for each record of a tree at most.
+pub const MOST_CONTROLS: u8 = MOST_DEPTH + 1;
+
+pub const CONTROLS_LENGTH: usize = MOST_CONTROLS as usize;
+
+// What an ancilla keeps of the call that took it: procedure, list length, and the list.
+pub const SLOT_LENGTH: usize = 2 + LIST_LENGTH;
+
+// The calls of a body are counted in 16 bits, and no further.
+pub const MOST_CALLS: u16 = 65535;
+
+// Each limit is the definition's.
+fn limits() -> [usize; 15]
+    ensures {
+        λ r. ⌜ r ≡ tableEdition ∷ mostProcedures ∷ mostRecords ∷ mostDepth ∷ mostRemovals ∷ kindCount ∷ firstCondition ∷ mostConstant ∷ mostQubits ∷ mostWires ∷ circuitEdition ∷
+            headerLength ∷ mostCircuit ∷ blockLength ∷ leastWorkspace ∷ [] ⌝
+    }
+{
+    [
+        TABLE_EDITION as usize, MOST_PROCEDURES as usize, MOST_RECORDS, MOST_DEPTH as usize, MOST_REMOVALS as usize, KIND_COUNT,
+        FIRST_CONDITION as usize, MOST_CONSTANT as usize, MOST_QUBITS as usize, MOST_WIRES as usize, CIRCUIT_EDITION as usize, HEADER_LENGTH, MOST_CIRCUIT, BLOCK_LENGTH, LEAST_WORKSPACE,
+    ]
+}
+
+// Each number of an answer is the definition's.
+fn numbers() -> [u8; 18]
+    ensures {
+        λ r. ⌜ r ≡ success ∷ tableStops ∷ wrongEdition ∷ manyProcedures ∷ wrongKind ∷ wrongMap ∷ wrongField ∷ tooDeep ∷ bytesLeft ∷ wrongQubits ∷
+            noRemoval ∷ tooWide ∷ accessFault ∷ highBit ∷ notWellFormed ∷ shortWorkspace ∷ manyWires ∷ noRoom ∷ [] ⌝
+    }
+{
+    [
+        SUCCESS, TABLE_STOPS, WRONG_EDITION, MANY_PROCEDURES, WRONG_KIND, WRONG_MAP, WRONG_FIELD, TOO_DEEP, BYTES_LEFT, WRONG_QUBITS, NO_REMOVAL,
+        TOO_WIDE, ACCESS_FAULT, HIGH_BIT, NOT_WELL_FORMED, SHORT_WORKSPACE, MANY_WIRES, NO_ROOM,
+    ]
+}
+
+// Each size is the one that follows from the definitions' limits.
+fn sizes() -> [usize; 11]
+    ensures {
+        λ r. ⌜ r ≡ bodyCount ∷ matrixLength ∷ lengthCount ∷ rowCount ∷ endsAt ∷ rootsAt ∷ indexLength ∷ placeCount ∷ mostControls ∷ slotLength ∷ mostCalls ∷ [] ⌝
+    }
+{
+    [BODY_COUNT, MATRIX_LENGTH, LENGTH_COUNT, ROW_COUNT, ENDS_AT, ROOTS_AT, INDEX_LENGTH, PLACE_COUNT, CONTROLS_LENGTH, SLOT_LENGTH, MOST_CALLS as usize]
+}
