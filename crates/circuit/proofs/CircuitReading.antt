@@ -12,7 +12,7 @@ use Rattle.model.specs.Limits.{notWellFormed, tableStops, mostQubits, mostWires
 use Rattle.model.specs.Reading.{Input, Parsed, parsed, refused, andThen, provided, byte}
 use Rattle.model.specs.Gates.{Gate}
 use Rattle.model.specs.Circuit.{Circuit, readGate, readGates, fourByteNumber, wholeCircuit, circuitOf, readCircuit}
-use Rattle.model.specs.Answers.{Outcome, gives, refuses, number, wellFormed, circuitRead}
+use Rattle.model.specs.Answers.{refuses, number, wellFormed, circuitRead}
 use Rattle.model.proofs.Tests.{byLt}
 use Rattle.model.proofs.Places.{byte-there, byte-past}
 use Rattle.circuit.specs.Views.{inputAt, fills}
@@ -22,12 +22,6 @@ use Rattle.answers.specs.declared.CircuitHeader.{CircuitHeader}
 use Rattle.circuit.specs.declared.Header.{Header}
 use Rattle.circuit.specs.declared.HeaderRead.{HeaderRead}
 use Rattle.circuit.specs.declared.HeaderRead.the-variants.{Opened, NoHeader}
-
--- the header's number is the answer's
-pub header-number : (o : Outcome Circuit) → headerOf o .number ≡ number o
-unfolding headerOf number
-header-number (gives c) = refl
-header-number (refuses k) = refl
 
 -- a reading that needs a byte which is not there is refused, whatever it makes of it
 byte-lacks : (bs : List ℕ) (at : ℕ) (f : ℕ → Input → Parsed Circuit) →

@@ -5,10 +5,8 @@ use mathlib.Core.List.{List, [], _∷_, _++_}
 use Prim.Native.Nat.{ℕ, suc, _+_, _-_, _<_}
 use native.Mathlib.Omega.{arith}
 use borrow.Author.Needs.{needs}
-use borrow.Author.Tests.{lt-ltb}
 use lib.ListN.{length}
 use lib.Dec.{ltb}
-use Rattle.limits.specs.Sizes.{mostControls}
 use Rattle.model.specs.Syntax.{Number, Statement, skip, NOT, sequence, qcase, call}
 use Rattle.model.specs.Lists.{remaining, touched, holds}
 use Rattle.model.specs.Gates.{Controls, asking, insert, flip}
@@ -16,7 +14,7 @@ use Rattle.model.specs.Emission.{places, Chains, startChain, whole, invocations
 use Rattle.model.proofs.Tests.{byBool}
 use Rattle.agreement.proofs.Peak.{StackedChains, whole-stacked, left-stacked, right-stacked, chains-stacked}
 use Rattle.agreement.proofs.Clauses.{whole-yes, whole-no}
-use Rattle.circuit.specs.Writing.{insertWithin, askingWithin}
+use Rattle.circuit.specs.Writing.{askingWithin}
 use Rattle.records.specs.Fields.{removalsOf}
 use Rattle.table.specs.Index.{testAt, statementAt, programAt}
 use Rattle.step.specs.declared.Step.{Step}
@@ -28,6 +26,7 @@ use Rattle.events.specs.declared.Emit.{Emit}
 use Rattle.events.specs.Scan.{seen, scan}
 use Rattle.events.specs.Follows.{Follows}
 use Rattle.emit.specs.Walks.{Ready, Roomy, chainsIn, Whole, walks-whole, Call, walks-call}
+use Rattle.circuit.proofs.Writing.{asking-takes}
 use Rattle.events.proofs.ScanLaws.{nextAfter, stacked-after}
 use Rattle.events.proofs.Following.{follows-none, follows-stopped, follows-gates, follows-next, follows-if, follows-as, follows-append}
 use Rattle.emit.proofs.Stepping.{ready-then}
@@ -40,9 +39,7 @@ insert-length w (x ∷ l) = byBool (ltb w x) (λ e. rw (e, insert)) (λ e. rw (e
 
 module _ {depth : ℕ} {cs : Controls} (nz : depth ≡ 0 → ⊥) (C : Roomy depth cs) where
   pub within-is : (w : ℕ) (b : Bool) → askingWithin w b cs ≡ asking w b cs
-  unfolding askingWithin insertWithin asking
-  within-is w true = rw (lt-ltb (length (cs .ones)) mostControls (omega (arith, C .ones)), insertWithin)
-  within-is w false = rw (lt-ltb (length (cs .zeros)) mostControls (omega (arith, C .zeros)), insertWithin)
+  within-is w b = asking-takes w b cs (omega (arith, C .ones)) (omega (arith, C .zeros))
 
   pub roomy-less : Roomy (depth - 1) cs
   roomy-less = record { ones = omega (arith, C .ones); zeros = omega (arith, C .zeros) }

@@ -389,10 +389,6 @@ module _ (P : Program) (N : Named P) (passes10 : anyLacksRemoval P ≡ false) wh
           (λ ne. shorter g m′ hg hc n some′ (omega arith))) t ∙
     enough-touches (suc (rank P f + m)) (rank P f + m) f m some (omega arith) (omega arith) t
 
-  -- what a procedure touches is what its body touches
-  pub touchesOf-body : (f m : ℕ) → 0 < m → (t : ℕ) → touchesOf P f m t ≡ touches (touchesOf P) (body P f) m t
-  touchesOf-body f m some t = sym (fill-touches (touchesOf P) f m some (λ g m′ a b n c d u lu. refl) (λ g a b c u lu. refl) t)
-
   -- refusal 12 by a table that has every procedure at every length that main's calls lead to
   pub main-touches : (o : CallTouches) (n : ℕ) →
       ((g m : ℕ) → 0 < g → g ≤ count P → removalCounts (P .main) (n - m) ≡ true → 0 < m → m ≤ n → SameTouches o (touchesOf P) g m) →

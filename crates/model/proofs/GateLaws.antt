@@ -239,14 +239,6 @@ act-twice (swap cs u v) s n = byBool (fires cs s)
     (λ h. rw (swap-rests cs u v s h) (swap-rests cs u v s h))
 
 -- gates in order
-pub acts-nil : (s : State) → acts [] s ≡ s
-unfolding acts
-acts-nil s = refl
-
-pub acts-cons : (g : Gate) (gs : List Gate) (s : State) → acts (g ∷ gs) s ≡ acts gs (act g s)
-unfolding acts
-acts-cons g gs s = refl
-
 pub acts-append : (xs ys : List Gate) (s : State) → acts (xs ++ ys) s ≡ acts ys (acts xs s)
 unfolding acts
 acts-append [] ys s = refl

@@ -12,11 +12,10 @@ use Rattle.model.specs.Limits.{mostQubits, mostWires, mostCircuit, heade
 use Rattle.model.specs.Reading.{Input, Parsed, parsed, refused, andThen, provided, byteOf, optional, stands}
 use Rattle.model.specs.Gates.{Controls, Gate, flip, swap}
 use Rattle.model.specs.Circuit.{Circuit, listBit, listBytes, controlMap, controlBytes, encode, encodeAll, fourBytes, write}
-use Rattle.model.specs.Circuit.{wires, controlsOf, ascends, distinct, within, lowerFirst, gateIsWellFormed}
+use Rattle.model.specs.Circuit.{gateIsWellFormed}
 use Rattle.model.specs.Circuit.{bytes, wireList, gateOf, readGate, readGates, fourByteNumber, circuitOf, readCircuit}
 use Rattle.model.specs.Answers.{gives, wellFormed, circuitRead}
 use Rattle.model.proofs.Tests.{and-left, and-right}
-use Rattle.model.proofs.WireLists.{within-head, within-tail, within-append}
 use Rattle.model.proofs.Inversion.{Reads, reads-then, reads-provided, reads-less, after-byte, Anyhow, valued, no-bytes}
 
 -- these bytes are left, behind k records
@@ -324,117 +323,3 @@ write-circuitRead bs {c} = go (readCircuit bs) (reads-circuit bs)
         let same : d ≡ c = cc in
         (subst (λ (x : Circuit). WellFormed x) same (r .0), λ ok. subst (λ (x : Circuit). write x ≡ bs) same (r .1 ok))
     go (refused k) r e = let z : _≡_ {A = ℕ} 0 1 = cc in absurd (omega arith)
-
--- The bytes of a well-formed circuit are below 256.
-
-bytes-nil : Bytes []
-bytes-nil i = omega arith
-
-bytes-cons : (b : ℕ) (bs : List ℕ) → b < 256 → Bytes bs → Bytes (b ∷ bs)
-bytes-cons b bs h t zero = h
-bytes-cons b bs h t (suc i) = t i
-
-bytes-append : (xs ys : List ℕ) → Bytes xs → Bytes ys → Bytes (xs ++ ys)
-bytes-append [] ys hx hy i = hy i
-bytes-append (x ∷ xs) ys hx hy zero = hx 0
-bytes-append (x ∷ xs) ys hx hy (suc i) = bytes-append xs ys (λ j. hx (suc j)) hy i
-
--- wires 1 to most are bytes
-within-bytes : (most : ℕ) (l : List ℕ) → most ≤ mostWires → within most l ≡ true → Bytes l
-within-bytes most [] few h = bytes-nil
-within-bytes most (w ∷ l) few h =
-    let top = within-head most w l h in
-    bytes-cons w l (omega (arith, top .1)) (within-bytes most l few (within-tail most w l h))
-
--- ascending wires up to most are at most as many
-ascending-room : (most w : ℕ) (l : List ℕ) → ascends (w ∷ l) ≡ true → within most (w ∷ l) ≡ true → w + length l ≤ most
-unfolding ascends
-ascending-room most w [] up h = let top = within-head most w [] h in omega (arith, top .1)
-ascending-room most v (w ∷ l) up h =
-    let less = ltb-true v w (and-left (ltb v w) (ascends (w ∷ l)) up) in
-    let rest = ascending-room most w l (and-right (ltb v w) (ascends (w ∷ l)) up) (within-tail most v (w ∷ l) h) in
-    omega arith
-
-listBytes-bytes : (most : ℕ) (l : List ℕ) → most ≤ mostWires → ascends l ≡ true → within most l ≡ true → Bytes (listBytes l)
-unfolding listBytes
-listBytes-bytes most [] few up h = bytes-nil
-listBytes-bytes most (w ∷ l) few up h =
-    let top = within-head most w l h in let room = ascending-room most w l up h in
-    bytes-cons (suc (length l)) (w ∷ l) (omega (arith, top .0)) (within-bytes most (w ∷ l) few h)
-
-controlBytes-bytes : (most : ℕ) (cs : Controls) → most ≤ mostWires → ascends (cs .ones) ≡ true → ascends (cs .zeros) ≡ true →
-    within most (cs .ones ++ cs .zeros) ≡ true → Bytes (controlBytes cs)
-controlBytes-bytes most cs few up₁ up₀ h =
-    let both = sym (within-append most (cs .ones) (cs .zeros)) ∙ h in
-    bytes-append (listBytes (cs .ones)) (listBytes (cs .zeros))
-      (listBytes-bytes most (cs .ones) few up₁ (and-left (within most (cs .ones)) (within most (cs .zeros)) both))
-      (listBytes-bytes most (cs .zeros) few up₀ (and-right (within most (cs .ones)) (within most (cs .zeros)) both))
-
--- what a well-formed gate keeps to, part by part
-pub record Formed (most : ℕ) (g : Gate) : Type 0 where
-  pub ones-ascend : ascends (controlsOf g .ones) ≡ true
-  pub zeros-ascend : ascends (controlsOf g .zeros) ≡ true
-  pub apart : distinct (wires g) ≡ true
-  pub inside : within most (wires g) ≡ true
-  pub lower : lowerFirst g ≡ true
-
--- its test gives all of them
-pub formed : (most : ℕ) (g : Gate) → gateIsWellFormed most g ≡ true → Formed most g
-unfolding gateIsWellFormed
-formed most g ok =
-    let up₁ = ascends (controlsOf g .ones) in let up₀ = ascends (controlsOf g .zeros) in
-    let d = distinct (wires g) in let w = within most (wires g) in
-    let four = and-left (up₁ && up₀ && d && w) (lowerFirst g) ok in
-    let three = and-left (up₁ && up₀ && d) w four in
-    let two = and-left (up₁ && up₀) d three in
-    record {
-      ones-ascend = and-left up₁ up₀ two;
-      zeros-ascend = and-right up₁ up₀ two;
-      apart = and-right (up₁ && up₀) d three;
-      inside = and-right (up₁ && up₀ && d) w four;
-      lower = and-right (up₁ && up₀ && d && w) (lowerFirst g) ok }
-
--- the bytes of a gate that is well formed over at most 255 wires are below 256
-pub encode-bytes : (most : ℕ) (g : Gate) → most ≤ mostWires → gateIsWellFormed most g ≡ true → Bytes (encode g)
-unfolding encode wires controlsOf
-encode-bytes most (flip cs t) few ok =
-    let f = formed most (flip cs t) ok in
-    let small = ltb-true (controlMap cs) 8 (flip-says (cs .ones) (cs .zeros) .0) in
-    let target = within-head most t (cs .ones ++ cs .zeros) (f .inside) in
-    bytes-cons (controlMap cs) (t ∷ controlBytes cs) (omega arith) (bytes-cons t (controlBytes cs) (omega (arith, target .1))
-    (controlBytes-bytes most cs few (f .ones-ascend) (f .zeros-ascend) (within-tail most t (cs .ones ++ cs .zeros) (f .inside))))
-encode-bytes most (swap cs u v) few ok =
-    let f = formed most (swap cs u v) ok in
-    let small = ltb-true (controlMap cs + 4) 8 (swap-says (cs .ones) (cs .zeros) .0) in
-    let target = within-head most u (v ∷ (cs .ones ++ cs .zeros)) (f .inside) in
-    let others = within-tail most u (v ∷ (cs .ones ++ cs .zeros)) (f .inside) in
-    let second = within-head most v (cs .ones ++ cs .zeros) others in
-    bytes-cons (controlMap cs + 4) (u ∷ (controlBytes cs ++ (v ∷ []))) (omega arith)
-    (bytes-cons u (controlBytes cs ++ (v ∷ [])) (omega (arith, target .1))
-    (bytes-append (controlBytes cs) (v ∷ [])
-      (controlBytes-bytes most cs few (f .ones-ascend) (f .zeros-ascend) (within-tail most v (cs .ones ++ cs .zeros) others))
-      (bytes-cons v [] (omega (arith, second .1)) bytes-nil)))
-
-encodeAll-bytes : (most : ℕ) (gs : List Gate) → most ≤ mostWires → AllWellFormed most gs → Bytes (encodeAll gs)
-unfolding encodeAll
-encodeAll-bytes most [] few ok = bytes-nil
-encodeAll-bytes most (g ∷ gs) few ok = bytes-append (encode g) (encodeAll gs) (encode-bytes most g few (ok .0)) (encodeAll-bytes most gs few (ok .1))
-
-fourBytes-bytes : (n : ℕ) → Bytes (fourBytes n)
-unfolding fourBytes
-fourBytes-bytes n zero = omega arith
-fourBytes-bytes n (suc zero) = omega arith
-fourBytes-bytes n (suc (suc zero)) = omega arith
-fourBytes-bytes n (suc (suc (suc zero))) = omega arith
-fourBytes-bytes n (suc (suc (suc (suc i)))) = omega arith
-
--- so are those of a well-formed circuit
-pub write-bytes : (c : Circuit) → WellFormed c → Bytes (write c)
-unfolding write
-write-bytes c w =
-    let n = c .dataWires in let a = c .ancillas in let gs = c .gates in
-    let all = fourBytes (length gs) ++ encodeAll gs in
-    let rest : Bytes all = bytes-append (fourBytes (length gs)) (encodeAll gs)
-          (fourBytes-bytes (length gs)) (encodeAll-bytes (n + a) gs (w .few-wires) (w .all-gates)) in
-    bytes-cons circuitEdition (n ∷ a ∷ all) (omega arith)
-    (bytes-cons n (a ∷ all) (omega (arith, w .few-data)) (bytes-cons a all (omega (arith, w .few-wires)) rest))

@@ -59,10 +59,6 @@ pub and-both : (a b : Bool) → a ≡ true → b ≡ true → a && b ≡ true
 and-both true b e f = f
 and-both false b e f = e
 
-pub and-false-left : (a b : Bool) → a ≡ false → a && b ≡ false
-and-false-left true b e = absurd (true≢false e)
-and-false-left false b e = refl
-
 pub and-false-right : (a b : Bool) → b ≡ false → a && b ≡ false
 and-false-right true b e = e
 and-false-right false b e = refl

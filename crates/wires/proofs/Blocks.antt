@@ -138,17 +138,6 @@ exchanged-inside s u v h lu mu lv mv = record
 pub start-state : (word : ℕ) → word < 2 ^ 64 → stateIn (blockOf (stateOf word)) ≡ stateOf word
 start-state word h = state-of-block (stateOf word) (word-inside word h)
 
--- flip's wires are those given, one flipped
-pub flip-state : (bytes : List ℕ) → IsBlock bytes → (w : ℕ) → 1 ≤ w → w ≤ mostWires
-    → stateIn (blockOf (flipped w (stateIn bytes))) ≡ flipped w (stateIn bytes)
-flip-state bytes h w l m = state-of-block (flipped w (stateIn bytes)) (flipped-inside (stateIn bytes) w (bytes-inside bytes h) l m)
-
--- swap's wires are those given, two exchanged
-pub swap-state : (bytes : List ℕ) → IsBlock bytes → (u v : ℕ) → 1 ≤ u → u ≤ mostWires → 1 ≤ v → v ≤ mostWires
-    → stateIn (blockOf (renamed (exchange u v) (stateIn bytes))) ≡ renamed (exchange u v) (stateIn bytes)
-swap-state bytes h u v lu mu lv mv =
-    state-of-block (renamed (exchange u v) (stateIn bytes)) (exchanged-inside (stateIn bytes) u v (bytes-inside bytes h) lu mu lv mv)
-
 -- ---- a gate over the wires of a circuit
 
 -- a gate over wires 1 to 255 keeps the state within its block
