@@ -13,16 +13,16 @@ use Rattle.model.specs.Meaning.{State, CallDoes, does, callDoesWithin, endState
 use Rattle.model.specs.Reach.{recursive, anyLacksRemoval, anyTooWide}
 use Rattle.model.specs.Gates.{noControls, acts}
 use Rattle.model.specs.Emission.{chainsWithin, emission, gates}
-use Rattle.model.proofs.Tests.{byLt}
+use Rattle.model.proofs.BooleanLaws.{byLt}
 use Rattle.model.proofs.ListLaws.{qubits-data, range-distinct, range-length, data-off}
 use Rattle.model.proofs.GateLaws.{fires-none}
-use Rattle.model.proofs.Calls.{Named, body-out, Ranked, rank, rank-positive, rank-all, main-unreached, all-ranked, all-narrow}
-use Rattle.model.proofs.Fuel.{does-agree, faults-agree, fuel-does, fuel-faults}
-use Rattle.agreement.proofs.Events.{effect, effect-gates}
-use Rattle.agreement.proofs.Clauses.{Low}
-use Rattle.agreement.proofs.World.{Safely, Safe, World, Zero, ranked-up, asked-in-none, below-none}
-use Rattle.agreement.proofs.Frame.{NoFault, safe-of, does-stays, stays-within, outside-within, keeps-within, weakens-within, same-within}
-use Rattle.agreement.proofs.Whole.{whole-fires}
+use Rattle.model.proofs.ReachAndRank.{Named, body-out, Ranked, rank, rank-positive, rank-all, main-unreached, all-ranked, all-narrow}
+use Rattle.model.proofs.EnoughFuel.{does-agree, faults-agree, fuel-does, fuel-faults}
+use Rattle.agreement.proofs.EffectOfEvents.{effect, effect-gates}
+use Rattle.agreement.proofs.EmissionClauses.{Low}
+use Rattle.agreement.proofs.ProgramFacts.{Safely, Safe, World, Zero, ranked-up, asked-in-none, below-none}
+use Rattle.agreement.proofs.FrameAndRenaming.{NoFault, safe-of, does-stays, stays-within, outside-within, keeps-within, weakens-within, same-within}
+use Rattle.agreement.proofs.WholeStatement.{whole-fires}
 use Rattle.agreement.proofs.NestedBodies.{chains-served}
 
 -- calls with all the fuel that they need: what they do, which of them fault, which are safe

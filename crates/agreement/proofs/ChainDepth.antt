@@ -13,13 +13,13 @@ use Rattle.model.specs.Reach.{recursive, width, anyTooWide}
 use Rattle.model.specs.Gates.{Controls, noControls, asking}
 use Rattle.model.specs.Emission.{Chains, startChain, whole, Invocation, invocation, invoked, isWide, invocations, left, right, under, isFirst}
 use Rattle.model.specs.Emission.{Emitted, bodyInvocations, around, bodies, bodiesFrom, chainsWithin, emission}
-use Rattle.model.proofs.Tests.{byBool, not-zero}
-use Rattle.model.proofs.Calls.{Named, reach-call, rank, rank-positive, rank-most, rank-reach, rank-falls, all-narrow}
-use Rattle.agreement.proofs.Clauses.{whole-yes, whole-no, invocations-wide, invocations-thin, invocations-yes, invocations-no}
-use Rattle.agreement.proofs.Clauses.{invocations-recursive, invocations-other, left-wide, left-thin, left-yes, left-no, left-recursive}
-use Rattle.agreement.proofs.Clauses.{left-other, right-wide, right-thin, right-yes, right-no, width-sequence}
-use Rattle.agreement.proofs.Clauses.{width-if, width-qcase, thin-width, wide-width, bodies-here, bodies-past}
-use Rattle.agreement.proofs.Depth.{Each, each-call}
+use Rattle.model.proofs.BooleanLaws.{byBool, not-zero}
+use Rattle.model.proofs.ReachAndRank.{Named, reach-call, rank, rank-positive, rank-most, rank-reach, rank-falls, all-narrow}
+use Rattle.agreement.proofs.EmissionClauses.{whole-yes, whole-no, invocations-wide, invocations-thin, invocations-yes, invocations-no}
+use Rattle.agreement.proofs.EmissionClauses.{invocations-recursive, invocations-other, left-wide, left-thin, left-yes, left-no, left-recursive}
+use Rattle.agreement.proofs.EmissionClauses.{left-other, right-wide, right-thin, right-yes, right-no, width-sequence}
+use Rattle.agreement.proofs.EmissionClauses.{width-if, width-qcase, thin-width, wide-width, bodies-here, bodies-past}
+use Rattle.agreement.proofs.ClassesOnALine.{Each, each-call}
 
 -- two accounts of chains agree on the procedures of which Q holds
 abbrev Agree : (ℕ → Type 0) → Chains → Chains → Type 0

@@ -16,22 +16,22 @@ use Rattle.model.specs.Reach.{recursive}
 use Rattle.model.specs.Gates.{renamed}
 use Rattle.model.specs.Emission.{Event, Chains, Invocation, invocation, left, right, under, samePair, allEntryGates, Emitted, bodyInvocations, around, isFirst}
 use Rattle.model.specs.Emission.{bodies, bodiesFrom, chainsWithin}
-use Rattle.model.proofs.Tests.{byBool, byEq, eqb-same, clash, not-true-false, not-not, and-left, and-right, and-both}
+use Rattle.model.proofs.BooleanLaws.{byBool, byEq, eqb-same, clash, not-true-false, not-not, and-left, and-right, and-both}
 use Rattle.model.proofs.ListLaws.{Data, data-off, member-cases, member-skip, member-nil, not-head, not-tail}
 use Rattle.model.proofs.GateLaws.{flipped-same, flipped-other, renamed-at}
-use Rattle.model.proofs.Calls.{Ranked}
-use Rattle.agreement.proofs.Events.{effect, effect-nil, effect-append}
-use Rattle.agreement.proofs.World.{Safely, Safe, World, Zero, zero-up, zero-flip, asked-in-under, below-under, Fine, Served, ranked-up}
-use Rattle.agreement.proofs.Invocations.{Mem, mem-left, mem-right, onMem, invocations-range, DistinctAncillas, distinct-append}
-use Rattle.agreement.proofs.Invocations.{invocations-distinct, New, invocations-new}
-use Rattle.agreement.proofs.Frame.{safe-weaken}
-use Rattle.agreement.proofs.Clauses.{bodies-here, bodies-past}
-use Rattle.agreement.proofs.Whole.{zero-call}
-use Rattle.agreement.proofs.Halves.{left-rests, right-rests}
-use Rattle.agreement.proofs.Split.{Split, split}
-use Rattle.agreement.proofs.Track.{fires-under}
-use Rattle.agreement.proofs.Entry.{same-procedure, same-length, same-pair, effect-back, Entrant, Entrants, moves, entered, moves-above}
-use Rattle.agreement.proofs.Entry.{moves-renames, moves-list, entered-above, entries-clear, entries-rest, entries-fire}
+use Rattle.model.proofs.ReachAndRank.{Ranked}
+use Rattle.agreement.proofs.EffectOfEvents.{effect, effect-nil, effect-append}
+use Rattle.agreement.proofs.ProgramFacts.{Safely, Safe, World, Zero, zero-up, zero-flip, asked-in-under, below-under, Fine, Served, ranked-up}
+use Rattle.agreement.proofs.InvocationsOfABody.{Mem, mem-left, mem-right, onMem, invocations-range, DistinctAncillas, distinct-append}
+use Rattle.agreement.proofs.InvocationsOfABody.{invocations-distinct, New, invocations-new}
+use Rattle.agreement.proofs.FrameAndRenaming.{safe-weaken}
+use Rattle.agreement.proofs.EmissionClauses.{bodies-here, bodies-past}
+use Rattle.agreement.proofs.WholeStatement.{zero-call}
+use Rattle.agreement.proofs.IdleParts.{left-rests, right-rests}
+use Rattle.agreement.proofs.SplitAtTheCall.{Split, split}
+use Rattle.agreement.proofs.TrackedSwaps.{fires-under}
+use Rattle.agreement.proofs.EntryGates.{same-procedure, same-length, same-pair, effect-back, Entrant, Entrants, moves, entered, moves-above}
+use Rattle.agreement.proofs.EntryGates.{moves-renames, moves-list, entered-above, entries-clear, entries-rest, entries-fire}
 
 -- an invocation that waits in a chain whose next wire is `next`, at a rank of at most k
 pub record Good (rank : ℕ → ℕ) (G : Safely) (n k next : ℕ) (d : Invocation) : Type 0 where

@@ -13,9 +13,9 @@ use Rattle.model.specs.Reading.{Input, Parsed, parsed, refused, andThen, provid
 use Rattle.model.specs.Gates.{Gate}
 use Rattle.model.specs.Circuit.{Circuit, readGate, readGates, fourByteNumber, wholeCircuit, circuitOf, readCircuit}
 use Rattle.model.specs.Answers.{refuses, number, wellFormed, circuitRead}
-use Rattle.model.proofs.Tests.{byLt}
-use Rattle.model.proofs.Places.{byte-there, byte-past}
-use Rattle.circuit.specs.Views.{inputAt, fills}
+use Rattle.model.proofs.BooleanLaws.{byLt}
+use Rattle.model.proofs.ByteAtAPlace.{byte-there, byte-past}
+use Rattle.circuit.specs.GatesInBytes.{inputAt, fills}
 use Rattle.circuit.specs.Header.{gatesBehind, circuitBehind}
 use Rattle.answers.specs.Structs.{headerOf, refusedHeader}
 use Rattle.answers.specs.declared.CircuitHeader.{CircuitHeader}

@@ -14,9 +14,9 @@ use Rattle.model.specs.Limits.{notWellFormed}
 use Rattle.model.specs.Reading.{Input, Parsed, parsed, refused, andThen, provided, optional}
 use Rattle.model.specs.Gates.{Gate}
 use Rattle.model.specs.Circuit.{wireList, gateOf, gateIsWellFormed, readGate, readGates}
-use Rattle.model.proofs.Tests.{byBool, byLt}
-use Rattle.model.proofs.Places.{byte-there, byte-past}
-use Rattle.circuit.specs.Views.{inputAt, settled, fills, listIn, listSeen, gateIn, gateSeen, judged, gateEnd}
+use Rattle.model.proofs.BooleanLaws.{byBool, byLt}
+use Rattle.model.proofs.ByteAtAPlace.{byte-there, byte-past}
+use Rattle.circuit.specs.GatesInBytes.{inputAt, settled, fills, listIn, listSeen, gateIn, gateSeen, judged, gateEnd}
 use Rattle.circuit.specs.declared.WireList.{WireList}
 use Rattle.circuit.specs.declared.ListRead.{ListRead}
 use Rattle.circuit.specs.declared.ListRead.the-variants.{Wires, NoWires}

@@ -1,10 +1,10 @@
 -- What the proofs of several functions, and of callers, use.
-pub mod Parts
-mod WellFormed
-mod Tidy
-mod CheckLaws
-pub mod Reading
+pub mod LoopsOverWires
+mod WellFormedGate
+mod WellFormedControls
+mod GateCheckLaws
+pub mod WireListReading
 pub mod GateReading
 pub mod CircuitReading
-pub mod Writing
-pub mod Putting
+pub mod ControlInsertion
+pub mod GateBytes

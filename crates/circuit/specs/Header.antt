@@ -6,7 +6,7 @@ use Rattle.model.specs.Reading.{Parsed}
 use Rattle.model.specs.Gates.{Gate}
 use Rattle.model.specs.Circuit.{Circuit, readGates, wholeCircuit}
 use Rattle.model.specs.Answers.{Outcome, refuses, wellFormed}
-use Rattle.circuit.specs.Views.{inputAt}
+use Rattle.circuit.specs.GatesInBytes.{inputAt}
 use Rattle.circuit.specs.declared.Header.{Header}
 use Rattle.circuit.specs.declared.HeaderRead.{HeaderRead}
 use Rattle.circuit.specs.declared.HeaderRead.the-variants.{Opened, NoHeader}

@@ -1,4 +1,4 @@
-pub mod Views
-pub mod Checks
+pub mod GatesInBytes
+pub mod GateChecks
 pub mod Header
-pub mod Writing
+pub mod GatesToWrite

@@ -5,7 +5,7 @@ ghost use lib.ListN.{length, set};
 ghost use lib.Seq.{sets};
 ghost use Rattle.model.specs.Gates.{noControls, flip, swapOf};
 ghost use Rattle.model.specs.Circuit.{listBit, listBytes, encode, controlBytes, fourBytes};
-ghost use Rattle.circuit.specs.Writing.{placeFor, insertWithin, askingWithin, wiresOf, controlsFrom, gateFrom, mapOf, headerBytes};
+ghost use Rattle.circuit.specs.GatesToWrite.{placeFor, insertWithin, askingWithin, wiresOf, controlsFrom, gateFrom, mapOf, headerBytes};
 use limits::{CIRCUIT_EDITION, CONTROLS_LENGTH, MOST_CONTROLS};
 
 // Wires in ascending order: the first `count` of `wires`. Around a statement stand fewer qcases than its tree is deep, and the body's ancilla beside them.

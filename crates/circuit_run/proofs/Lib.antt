@@ -1,4 +1,4 @@
 -- What the proofs of several functions use.
-mod Acting
-mod Running
-mod Answering
+mod GateAction
+mod RunOfGates
+mod CircuitRunAnswer

@@ -1,3 +1,3 @@
-pub mod Numbered
-pub mod Passes
-pub mod Ways
+pub mod RefusalNumbers
+pub mod PassLaws
+pub mod CompileAnswer

@@ -11,7 +11,7 @@ use Rattle.model.specs.Emission.{emission}
 use Rattle.model.specs.Circuit.{write}
 use Rattle.model.specs.Answers.{Outcome, gives, require, fitted, fit, circuit, usable, number, valueOr, roomAfter}
 use Rattle.table.specs.Index.{programAt}
-use Rattle.reach.specs.Walk.{reachAt}
+use Rattle.reach.specs.CallsInATable.{reachAt}
 use Rattle.events.specs.declared.Emit.{Emit}
 use Rattle.events.specs.Scan.{emissionEnd}
 use Rattle.compile.specs.declared.Compiled.{Compiled}

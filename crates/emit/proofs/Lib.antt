@@ -1,8 +1,8 @@
-pub mod Stepping
-pub mod Counting
-pub mod Walking
-pub mod Lefts
-pub mod Rights
-pub mod Seeking
-pub mod Chaining
-pub mod Main
+pub mod WalkPreconditions
+pub mod CallCounts
+pub mod WholeStatement
+pub mod LeftPart
+pub mod RightPart
+pub mod NextBody
+pub mod ChainsAndBodies
+pub mod EmissionOfMain

@@ -1,5 +1,5 @@
-pub mod ScanLaws
-pub mod Leaves
-pub mod Entering
-pub mod Following
-pub mod Invoking
+pub mod ScanOfEvents
+pub mod GatesAndSlots
+pub mod EntryGates
+pub mod ConsecutiveWalks
+pub mod CallAncilla

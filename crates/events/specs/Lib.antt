@@ -1,3 +1,3 @@
 pub mod Scan
 pub mod Slots
-pub mod Follows
+pub mod FollowedEvents

@@ -1,8 +1,8 @@
 pub mod RowLaws
-pub mod LengthLaws
-pub mod TouchLaws
-pub mod Ways
-pub mod Walk
-pub mod Counting
-pub mod Fills
-pub mod Refusal
+pub mod CallLengthLaws
+pub mod FaultsByPosition
+pub mod RowOperations
+pub mod RowOfAStatement
+pub mod RemovalCounts
+pub mod RowTableFill
+pub mod Refusal12

@@ -14,9 +14,9 @@ use lib.Dec.{eqb}
 use Rattle.model.specs.Lists.{entry}
 use Rattle.model.specs.Reach.{anyBelow}
 use Rattle.model.specs.Meaning.{bit, digit, wordFrom}
-use Rattle.model.proofs.Tests.{byBool, byEq, byLt}
-use Rattle.model.proofs.Words.{flip-same, flip-other, zero-bit, past-bit, word-bit, word-below, word-is}
-use Rattle.faults.specs.Touches.{Touched, touchesNone, touchesOne, joined, closes, callTouches}
+use Rattle.model.proofs.BooleanLaws.{byBool, byEq, byLt}
+use Rattle.model.proofs.WordBits.{flip-same, flip-other, zero-bit, past-bit, word-bit, word-below, word-is}
+use Rattle.faults.specs.TouchedPositions.{Touched, touchesNone, touchesOne, joined, closes, callTouches}
 use Rattle.faults.specs.Rows.{rowOf, rowIs, marked, closedRow, knownTouches, carriedOn}
 
 -- a bit of two words joined

@@ -1,4 +1,4 @@
-pub mod Touches
+pub mod TouchedPositions
 pub mod Rows
-pub mod Lengths
-pub mod Filling
+pub mod CallLengths
+pub mod RowTable

@@ -8,7 +8,7 @@ use lib.Dec.{ltb}
 use Rattle.limits.specs.Sizes.{lengthCount, rowCount}
 use Rattle.model.specs.Lists.{entry}
 use Rattle.model.specs.Meaning.{bit, wordFrom}
-use Rattle.faults.specs.Touches.{Touched, CallTouches}
+use Rattle.faults.specs.TouchedPositions.{Touched, CallTouches}
 
 -- the word of a set
 abbrev pub rowOf : Touched → ℕ

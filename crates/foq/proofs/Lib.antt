@@ -1,1 +1,1 @@
-mod Delivering
+mod CompileExport

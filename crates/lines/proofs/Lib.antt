@@ -1,7 +1,7 @@
 -- What the proofs of several functions, and of callers, use.
-pub mod Putting
-mod Digits
-mod Controls
-mod Lines
-mod Circuits
-pub mod Lengths
+pub mod AppendLaws
+mod DecimalText
+mod ControlText
+mod WholeLines
+mod CircuitListing
+pub mod CircuitListingLength

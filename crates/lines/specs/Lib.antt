@@ -1,2 +1,2 @@
-pub mod Puts
-pub mod Rows
+pub mod AppendedBytes
+pub mod ListingRows

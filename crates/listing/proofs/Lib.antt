@@ -1,4 +1,4 @@
 -- What the proofs of several functions use, and that no more of the input is needed than is read.
-mod Reading
-mod Lengths
-mod Ways
+mod InputPrefix
+mod ListingLength
+mod ListingText

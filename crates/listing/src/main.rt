@@ -6,7 +6,7 @@ ghost use lib.ListN.{length, take, drop};
 ghost use Rattle.model.specs.Answers.{circuitRead};
 ghost use Rattle.model.specs.Listing.{listed, listingOf, listing};
 ghost use Rattle.io.specs.Counts.{Counts};
-ghost use Rattle.lines.specs.Puts.{written, puts};
+ghost use Rattle.lines.specs.AppendedBytes.{written, puts};
 use compile::compile;
 use lines::list_circuit;
 use lines::refusal_line;

@@ -13,7 +13,7 @@ use Rattle.model.specs.Syntax.{Condition, greater, atLeast, equal, conju
 use Rattle.model.specs.Lists.{value, position, delete, remove, removeAll, remaining, entry, touched, holds}
 use Rattle.model.specs.Rules.{NumberIs, cst, size, ConditionIs, gt, ge, eq, con, dis, neg}
 use Rattle.model.specs.Rules.{Inside, SetIs, var, rmIn, rmOut, QubitIs, quIn, quOut}
-use Rattle.model.proofs.Tests.{byLt}
+use Rattle.model.proofs.BooleanLaws.{byLt}
 use Rattle.model.proofs.ListLaws.{remove-in, remove-out}
 
 -- every number has a derivation of its value

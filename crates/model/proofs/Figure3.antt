@@ -15,12 +15,12 @@ use Rattle.model.specs.Meaning.{State, flipped, stateOf, wordOf, CallDoe
 use Rattle.model.specs.Reach.{recursive, anyLacksRemoval}
 use Rattle.model.specs.Rules.{ConditionIs, SetIs, QubitIs, Ending, top, bottom, without, anyBottom, Derives, RunDerives}
 use Rattle.model.specs.Rules.{skips, asgBottom, asgTop, seq, seqBottom, ifYes, ifNo, caseTop, caseBottom, caseOut, calls, callsNil}
-use Rattle.model.proofs.Tests.{byBool, byEq, clash}
+use Rattle.model.proofs.BooleanLaws.{byBool, byEq, clash}
 use Rattle.model.proofs.ListLaws.{member-head, member-tail, member-nil, member-cases, member-skip, member-differs, Subset, remaining-subset}
 use Rattle.model.proofs.ListLaws.{touched-member, Data, data-zero, qubits-data, range-length}
 use Rattle.model.proofs.GateLaws.{flipped-other}
-use Rattle.model.proofs.Calls.{Named, Ranked, rank, rank-all, all-ranked}
-use Rattle.model.proofs.Fuel.{does-yes, does-no, does-zero, does-one, faults-yes, faults-no, call-falls, no-fuel}
+use Rattle.model.proofs.ReachAndRank.{Named, Ranked, rank, rank-all, all-ranked}
+use Rattle.model.proofs.EnoughFuel.{does-yes, does-no, does-zero, does-one, faults-yes, faults-no, call-falls, no-fuel}
 use Rattle.model.proofs.Figure2.{condition-is, set-derived, qubit-derived, condition-one, set-one, qubit-one}
 
 -- A \ {q}: the clauses of `without` by their test

@@ -10,7 +10,7 @@ use lib.Dec.{ltb}
 use Rattle.model.specs.Lists.{member}
 use Rattle.model.specs.Meaning.{State, update, flipped}
 use Rattle.model.specs.Gates.{Controls, noControls, insert, asking, Gate, flip, swap, swapOf, exchange, renamed, allOne, allZero, fires, act, acts}
-use Rattle.model.proofs.Tests.{byBool, byEq, byLt, eqb-same, not-not, or-cases, or-left, or-right}
+use Rattle.model.proofs.BooleanLaws.{byBool, byEq, byLt, eqb-same, not-not, or-cases, or-left, or-right}
 use Rattle.model.proofs.ListLaws.{member-head, member-tail, member-nil, member-cases, not-head, not-tail}
 
 -- one bit of a state

@@ -12,7 +12,7 @@ use lib.Seq.{take-nil}
 use lib.Dec.{eqb, ltb}
 use Rattle.model.specs.Syntax.{Number}
 use Rattle.model.specs.Lists.{range, qubits, value, position, delete, remove, removeAll, remaining, touched, member}
-use Rattle.model.proofs.Tests.{byBool, eqb-same, clash, not-true-false, or-cases, or-false, or-right, or-false-right}
+use Rattle.model.proofs.BooleanLaws.{byBool, eqb-same, clash, not-true-false, or-cases, or-false, or-right, or-false-right}
 
 -- membership
 pub member-head : (w : ℕ) (l : List ℕ) → member w (w ∷ l) ≡ true

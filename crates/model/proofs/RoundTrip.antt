@@ -15,8 +15,8 @@ use Rattle.model.specs.Circuit.{Circuit, listBit, listBytes, controlMap,
 use Rattle.model.specs.Circuit.{gateIsWellFormed}
 use Rattle.model.specs.Circuit.{bytes, wireList, gateOf, readGate, readGates, fourByteNumber, circuitOf, readCircuit}
 use Rattle.model.specs.Answers.{gives, wellFormed, circuitRead}
-use Rattle.model.proofs.Tests.{and-left, and-right}
-use Rattle.model.proofs.Inversion.{Reads, reads-then, reads-provided, reads-less, after-byte, Anyhow, valued, no-bytes}
+use Rattle.model.proofs.BooleanLaws.{and-left, and-right}
+use Rattle.model.proofs.ReadingLaws.{Reads, reads-then, reads-provided, reads-less, after-byte, Anyhow, valued, no-bytes}
 
 -- these bytes are left, behind k records
 abbrev pub left : List ℕ → ℕ → Input

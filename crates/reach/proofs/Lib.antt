@@ -1,8 +1,8 @@
 -- What the proofs of several functions use, and what the code's matrix is for the program of a table.
-pub mod Shown
-pub mod Marks
-pub mod Ways
-pub mod Seen
-pub mod Walks
-pub mod Named
-pub mod Filled
+pub mod MatrixRelation
+pub mod MatrixOfAProgram
+pub mod MatrixOperations
+pub mod PartsOfARecord
+pub mod CallsAndWidths
+pub mod CalledProcedures
+pub mod ReachByMatrix

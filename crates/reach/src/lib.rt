@@ -9,7 +9,7 @@ ghost use Rattle.model.specs.Reach.{lacksRemoval};
 ghost use Rattle.records.specs.Fields.{removalsOf};
 ghost use Rattle.table.specs.Index.{rootOf, statementAt, bodyAt};
 ghost use Rattle.reach.specs.Matrix.{cell, markAt, entry, recursiveIn, mark, carried, joined, extended, through, closed};
-ghost use Rattle.reach.specs.Walk.{partsOf, partsAt, marked, markedBelow, reachAt, lacksIn, wideIn, anyLacksIn, anyWideIn};
+ghost use Rattle.reach.specs.CallsInATable.{partsOf, partsAt, marked, markedBelow, reachAt, lacksIn, wideIn, anyLacksIn, anyWideIn};
 use limits::{BODIES, BODY_COUNT, LIST_LENGTH, MATRIX_LENGTH, MOST_DEPTH, MOST_PROCEDURES, ROOTS_AT};
 use records::byte;
 use step::{Qubits, Step, start, step_at};

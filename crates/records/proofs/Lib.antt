@@ -1,4 +1,4 @@
 -- What the proofs of several functions use.
-pub mod Laws
-pub mod Reader
-pub mod Written
+pub mod FieldLaws
+pub mod ReadingAtAPlace
+pub mod RecordKinds

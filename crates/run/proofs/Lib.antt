@@ -1,4 +1,4 @@
-pub mod Clauses
-pub mod Following
-pub mod Walks
-pub mod Answering
+pub mod WordClauses
+pub mod WordsAndStates
+pub mod WalkOfAWord
+pub mod RunAnswer

@@ -5,7 +5,7 @@ ghost use Prim.Native.Nat.{min};
 ghost use Rattle.model.specs.Limits.{mostQubits};
 ghost use Rattle.table.specs.Index.{programAt};
 ghost use Rattle.step.specs.Steps.{qubitsOf};
-ghost use Rattle.run.specs.Words.{flippedWord, bitOf, walked, called, ranWord};
+ghost use Rattle.run.specs.RunOnWords.{flippedWord, bitOf, walked, called, ranWord};
 ghost use Rattle.answers.specs.Structs.{answerOf};
 ghost use Rattle.model.specs.Answers as model;
 use answers::Answer;

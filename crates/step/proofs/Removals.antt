@@ -13,17 +13,17 @@ use mir.Val.{SFits, toZ, ofZ}
 use mir.Facts.{toZ-ofZ}
 use Rattle.model.specs.Limits.{mostConstant, mostQubits}
 use Rattle.model.specs.Lists.{value, position, entry, remove, removeAll, remaining}
-use Rattle.model.proofs.Tests.{byLt}
+use Rattle.model.proofs.BooleanLaws.{byLt}
 use Rattle.model.proofs.ListLaws.{remaining-no-longer, take-again}
 use Rattle.records.specs.declared.Number.{Number}
 use Rattle.records.specs.declared.Number.the-variants.{Constant, SizePlus}
 use Rattle.records.specs.Fields.{byteAt, writtenAt, numberOf, numbersFrom, removalsOf}
 use Rattle.step.specs.declared.Qubits.{Qubits}
 use Rattle.step.specs.Steps.{qubitsOf, valueOf, touchedBy}
-use Rattle.records.proofs.Laws.{past-end}
-use Rattle.step.proofs.Places.{less-one}
-use Rattle.step.proofs.Entries.{take-shorter}
-use Rattle.step.proofs.Constants.{written-fair}
+use Rattle.records.proofs.FieldLaws.{past-end}
+use Rattle.step.proofs.PlacesPastTheEnd.{less-one}
+use Rattle.step.proofs.ListsInAnArray.{take-shorter}
+use Rattle.step.proofs.ConstantRange.{written-fair}
 
 -- at place 0 there are no removals
 pub remaining-none : (bs : List ℕ) (at : ℕ) (l : List ℕ) → at ≡ 0 → l ≡ remaining (removalsOf bs at) l

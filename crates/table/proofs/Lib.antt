@@ -1,5 +1,5 @@
 -- What the proofs of several functions use, and what is proved of a table that was read.
-pub mod Laws
-pub mod Slots
-pub mod Trees
-pub mod Tables
+pub mod TreeReadingLaws
+pub mod IndexSlots
+pub mod IndexedTrees
+pub mod WholeTable

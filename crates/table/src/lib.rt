@@ -5,7 +5,7 @@ ghost use Rattle.model.specs.Limits.{mostRecords};
 ghost use Rattle.model.specs.Reading.{readTable};
 ghost use Rattle.model.specs.Answers.{outcome};
 ghost use Rattle.table.specs.Index.{says};
-ghost use Rattle.table.specs.Reading.{ran, noted, wanted, parts, contentsAt, many, refusal, childrenAt, treeAt, bodiesAt};
+ghost use Rattle.table.specs.TreeReading.{ran, noted, wanted, parts, contentsAt, many, refusal, childrenAt, treeAt, bodiesAt};
 use limits::{
     BYTES_LEFT, ENDS_AT, FIRST_CONDITION, INDEX_LENGTH, KINDS, KIND_COUNT, MANY_PROCEDURES, MOST_DEPTH, MOST_PROCEDURES, MOST_RECORDS, PLACE_COUNT,
     ROOTS_AT, TABLE_EDITION, TABLE_STOPS, TOO_DEEP, WRONG_EDITION, WRONG_KIND, WRONG_MAP,

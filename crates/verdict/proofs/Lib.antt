@@ -1,2 +1,2 @@
-pub mod Outcomes
-pub mod Ways
+pub mod RefusalOrder
+pub mod AcceptanceAndRefusal

@@ -2,7 +2,7 @@
 ghost use mathlib.Core.Path.{_≡_};
 ghost use Rattle.model.specs.Answers.{accepted};
 ghost use Rattle.model.specs.Answers as model;
-ghost use Rattle.verdict.specs.Judging.{judgedAt, judgedAs};
+ghost use Rattle.verdict.specs.VerdictAnswers.{judgedAt, judgedAs};
 use limits::{ACCESS_FAULT, INDEX_LENGTH, LEAST_WORKSPACE, MATRIX_LENGTH, MOST_N, NO_REMOVAL, SHORT_WORKSPACE, TOO_WIDE, WRONG_QUBITS};
 use table::{Table, read_table};
 use reach::{fill_reach, any_lacks_removal, any_too_wide};

@@ -1,4 +1,4 @@
-pub mod Bits
-pub mod Blocks
-pub mod Steps
-pub mod Fitting
+pub mod ByteBits
+pub mod BlocksAndStates
+pub mod WireOperations
+pub mod WordRange

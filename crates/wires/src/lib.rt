@@ -4,7 +4,7 @@ ghost use Prim.Native.Nat.{_^_};
 ghost use lib.Dec.{ltb};
 ghost use Rattle.model.specs.Meaning.{flipped, stateOf};
 ghost use Rattle.model.specs.Gates.{exchange, renamed};
-ghost use Rattle.wires.specs.States.{stateIn, inState, wiresOf};
+ghost use Rattle.wires.specs.StateOfABlock.{stateIn, inState, wiresOf};
 use limits::BLOCK_LENGTH;
 
 // Wire w is bit (w - 1) mod 8 of byte (w - 1) div 8, counted from 0 and from the lowest bit.

@@ -1,2 +1,2 @@
 -- What the proof of `spelled` uses.
-mod Counting
+mod ByteCount

@@ -1,9 +1,9 @@
 -- `are_tidy` meets its contract. The loop keeps: both lists are tidy from the start exactly where what is left of them is tidy above the last wire.
 use Prim.Native.Nat.{_+_}
 use mathlib.Core.Path.{_≡_}
-use Rattle.circuit.specs.Checks.{tidy}
-use Rattle.circuit.specs.Views.{part}
-use Rattle.circuit.proofs.Tidy.{tidies}
+use Rattle.circuit.specs.GateChecks.{tidy}
+use Rattle.circuit.specs.GatesInBytes.{part}
+use Rattle.circuit.proofs.WellFormedControls.{tidies}
 use Rattle.circuit.proofs.are_tidy.Statement.{statement}
 use Rattle.circuit.proofs.are_tidy.Tie as tie
 

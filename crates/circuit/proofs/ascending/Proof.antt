@@ -1,8 +1,8 @@
 -- `ascending` meets its contract. The loop keeps: the whole part rises from above `floor` exactly if what is left rises from above the last wire.
 use mathlib.Core.Path.{_≡_}
-use Rattle.circuit.specs.Checks.{rising}
-use Rattle.circuit.specs.Views.{part}
-use Rattle.circuit.proofs.Parts.{ascended}
+use Rattle.circuit.specs.GateChecks.{rising}
+use Rattle.circuit.specs.GatesInBytes.{part}
+use Rattle.circuit.proofs.LoopsOverWires.{ascended}
 use Rattle.circuit.proofs.ascending.Statement.{statement}
 use Rattle.circuit.proofs.ascending.Tie as tie
 

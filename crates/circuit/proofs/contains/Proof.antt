@@ -1,8 +1,8 @@
 -- `contains` meets its contract. The loop keeps: the wire is in the whole part exactly if it is in what is left of it. What is left falls.
 use mathlib.Core.Path.{_≡_}
 use Rattle.model.specs.Lists.{member}
-use Rattle.circuit.specs.Views.{part}
-use Rattle.circuit.proofs.Parts.{contained}
+use Rattle.circuit.specs.GatesInBytes.{part}
+use Rattle.circuit.proofs.LoopsOverWires.{contained}
 use Rattle.circuit.proofs.contains.Statement.{statement}
 use Rattle.circuit.proofs.contains.Tie as tie
 

@@ -1,7 +1,7 @@
 -- `gates_fill` meets its contract. The loop keeps: all gates fill the bytes exactly if those that are left do. What is left falls.
 use mathlib.Core.Path.{_≡_}
 use Rattle.model.specs.Circuit.{readGates}
-use Rattle.circuit.specs.Views.{inputAt, fills}
+use Rattle.circuit.specs.GatesInBytes.{inputAt, fills}
 use Rattle.circuit.proofs.GateReading.{filled}
 use Rattle.circuit.proofs.gates_fill.Statement.{statement}
 use Rattle.circuit.proofs.gates_fill.Tie as tie

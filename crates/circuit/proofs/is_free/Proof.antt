@@ -1,6 +1,6 @@
 -- `is_free` meets its contract.
 use borrow.Author.Needs.{needs}
-use Rattle.circuit.proofs.CheckLaws.{frees}
+use Rattle.circuit.proofs.GateCheckLaws.{frees}
 use Rattle.circuit.proofs.is_free.Statement.{statement}
 use Rattle.circuit.proofs.is_free.Tie as tie
 

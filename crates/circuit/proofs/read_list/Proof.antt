@@ -1,7 +1,7 @@
 -- `read_list` meets its contract.
 use native.Mathlib.Omega.{arith}
 use borrow.Author.Needs.{needs}
-use Rattle.circuit.proofs.Reading.{lists}
+use Rattle.circuit.proofs.WireListReading.{lists}
 use Rattle.circuit.proofs.read_list.Statement.{statement}
 use Rattle.circuit.proofs.read_list.Tie as tie
 

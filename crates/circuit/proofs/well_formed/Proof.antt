@@ -1,6 +1,6 @@
 -- `well_formed` meets its contract.
 use borrow.Author.Needs.{needs}
-use Rattle.circuit.proofs.CheckLaws.{forms}
+use Rattle.circuit.proofs.GateCheckLaws.{forms}
 use Rattle.circuit.proofs.well_formed.Statement.{statement}
 use Rattle.circuit.proofs.well_formed.Tie as tie
 

@@ -1,6 +1,6 @@
 -- `act` lets a gate act where it fires.
 use borrow.Author.Needs.{needs}
-use Rattle.circuit_run.proofs.Acting.{acting}
+use Rattle.circuit_run.proofs.GateAction.{acting}
 use Rattle.circuit_run.proofs.act.Statement.{statement}
 use Rattle.circuit_run.proofs.act.Tie as tie
 

@@ -1,9 +1,9 @@
 -- `all_hold`: whether all the wires hold the bit is whether those that are left do.
 use mathlib.Core.Path.{_≡_}
-use Rattle.wires.specs.States.{stateIn}
-use Rattle.circuit.specs.Views.{part}
-use Rattle.circuit_run.specs.Runs.{allHold}
-use Rattle.circuit_run.proofs.Acting.{held}
+use Rattle.wires.specs.StateOfABlock.{stateIn}
+use Rattle.circuit.specs.GatesInBytes.{part}
+use Rattle.circuit_run.specs.RunAnswers.{allHold}
+use Rattle.circuit_run.proofs.GateAction.{held}
 use Rattle.circuit_run.proofs.all_hold.Statement.{statement}
 use Rattle.circuit_run.proofs.all_hold.Tie as tie
 

@@ -1,6 +1,6 @@
 -- `answer` gives 14 before 13.
 use borrow.Author.Needs.{needs}
-use Rattle.circuit_run.proofs.Answering.{answering}
+use Rattle.circuit_run.proofs.CircuitRunAnswer.{answering}
 use Rattle.circuit_run.proofs.answer.Statement.{statement}
 use Rattle.circuit_run.proofs.answer.Tie as tie
 

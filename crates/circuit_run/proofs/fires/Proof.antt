@@ -1,6 +1,6 @@
 -- `fires` asks both lists of controls.
 use borrow.Author.Needs.{needs}
-use Rattle.circuit_run.proofs.Acting.{firing}
+use Rattle.circuit_run.proofs.GateAction.{firing}
 use Rattle.circuit_run.proofs.fires.Statement.{statement}
 use Rattle.circuit_run.proofs.fires.Tie as tie
 

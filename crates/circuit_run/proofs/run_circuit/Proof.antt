@@ -1,6 +1,6 @@
 -- `run_circuit` reads the header, and then answers what the run of the gates gave.
 use borrow.Author.Needs.{needs}
-use Rattle.circuit_run.proofs.Answering.{runs}
+use Rattle.circuit_run.proofs.CircuitRunAnswer.{runs}
 use Rattle.circuit_run.proofs.run_circuit.Statement.{statement}
 use Rattle.circuit_run.proofs.run_circuit.Tie as tie
 

@@ -1,10 +1,10 @@
 -- `run_gates`: the whole run is the run of the gates that are left, on the wires as they are.
 use mathlib.Core.Path.{_≡_}
 use Rattle.model.specs.Circuit.{readGates}
-use Rattle.wires.proofs.Blocks.{IsBlock}
-use Rattle.circuit.specs.Views.{inputAt}
-use Rattle.circuit_run.specs.Runs.{ranOf}
-use Rattle.circuit_run.proofs.Running.{running}
+use Rattle.wires.proofs.BlocksAndStates.{IsBlock}
+use Rattle.circuit.specs.GatesInBytes.{inputAt}
+use Rattle.circuit_run.specs.RunAnswers.{ranOf}
+use Rattle.circuit_run.proofs.RunOfGates.{running}
 use Rattle.circuit_run.proofs.run_gates.Statement.{statement}
 use Rattle.circuit_run.proofs.run_gates.Tie as tie
 

@@ -1,6 +1,6 @@
 -- `compile_judged` meets its contract.
 use borrow.Author.Needs.{needs}
-use Rattle.compile.proofs.Ways.{judged-compiles}
+use Rattle.compile.proofs.CompileAnswer.{judged-compiles}
 use Rattle.compile.proofs.compile_judged.Statement.{statement}
 use Rattle.compile.proofs.compile_judged.Tie as tie
 

@@ -1,6 +1,6 @@
 -- `translate` meets its contract.
 use borrow.Author.Needs.{needs}
-use Rattle.compile.proofs.Ways.{answers}
+use Rattle.compile.proofs.CompileAnswer.{answers}
 use Rattle.compile.proofs.translate.Statement.{statement}
 use Rattle.compile.proofs.translate.Tie as tie
 

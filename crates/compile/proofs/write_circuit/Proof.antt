@@ -1,5 +1,5 @@
 -- `write_circuit` meets its contract: each way out is one law.
-use Rattle.compile.proofs.Passes.{passes}
+use Rattle.compile.proofs.PassLaws.{passes}
 use borrow.Author.Needs.{needs}
 use Rattle.compile.proofs.write_circuit.Statement.{statement}
 use Rattle.compile.proofs.write_circuit.Tie as tie

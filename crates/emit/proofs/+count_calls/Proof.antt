@@ -1,6 +1,6 @@
 -- `count_calls` meets its contract: each way out is one law.
 use Prim.Native.Nat.{ℕ, _<_}
-use Rattle.emit.proofs.Counting.{counting}
+use Rattle.emit.proofs.CallCounts.{counting}
 use borrow.Fn.Kinds.{In}
 use borrow.Fn.PlainCycle.{Measures, is, falls, and}
 use Rattle.emit.proofs.count_calls.Reads as count-calls

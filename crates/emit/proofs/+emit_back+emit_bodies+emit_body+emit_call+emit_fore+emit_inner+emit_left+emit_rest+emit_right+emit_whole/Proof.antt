@@ -1,11 +1,11 @@
 -- The walkers meet their contracts: each way out is one law; class rank, list length, slot and depth fall.
 use borrow.Author.Needs.{needs}
 use Prim.Native.Nat.{ℕ, _+_, _-_, _*_, _<_}
-use Rattle.emit.proofs.Seeking.{seek-le}
-use Rattle.emit.proofs.Walking.{wholes, whole-branches}
-use Rattle.emit.proofs.Lefts.{lefts, left-second, left-branches}
-use Rattle.emit.proofs.Rights.{rights, right-first, right-branches}
-use Rattle.emit.proofs.Chaining.{chaining, call-chain}
+use Rattle.emit.proofs.NextBody.{seek-le}
+use Rattle.emit.proofs.WholeStatement.{wholes, whole-branches}
+use Rattle.emit.proofs.LeftPart.{lefts, left-second, left-branches}
+use Rattle.emit.proofs.RightPart.{rights, right-first, right-branches}
+use Rattle.emit.proofs.ChainsAndBodies.{chaining, call-chain}
 use borrow.Fn.Kinds.{In}
 use borrow.Fn.PlainCycle.{Measures, is, falls, and}
 use Rattle.emit.proofs.emit_back.Reads as emit-back

@@ -1,5 +1,5 @@
 -- `body_depth` meets its contract: each way out is one law.
-use Rattle.emit.proofs.Main.{depths}
+use Rattle.emit.proofs.EmissionOfMain.{depths}
 use Rattle.emit.proofs.body_depth.Statement.{statement}
 use Rattle.emit.proofs.body_depth.Tie as tie
 

@@ -1,5 +1,5 @@
 -- `emit_main` meets its contract: each way out is one law.
-use Rattle.emit.proofs.Main.{emitting}
+use Rattle.emit.proofs.EmissionOfMain.{emitting}
 use borrow.Author.Needs.{needs}
 use Rattle.emit.proofs.emit_main.Statement.{statement}
 use Rattle.emit.proofs.emit_main.Tie as tie

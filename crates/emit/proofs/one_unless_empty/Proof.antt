@@ -1,5 +1,5 @@
 -- `one_unless_empty` meets its contract: each way out is one law.
-use Rattle.emit.proofs.Counting.{counting}
+use Rattle.emit.proofs.CallCounts.{counting}
 use borrow.Author.Needs.{needs}
 use Rattle.emit.proofs.one_unless_empty.Statement.{statement}
 use Rattle.emit.proofs.one_unless_empty.Tie as tie

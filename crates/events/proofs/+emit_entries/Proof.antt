@@ -1,6 +1,6 @@
 -- `emit_entries` meets its contract: each way out is one law.
 use Prim.Native.Nat.{_-_, ℕ, _<_}
-use Rattle.events.proofs.Entering.{entering}
+use Rattle.events.proofs.EntryGates.{entering}
 use borrow.Fn.Kinds.{In}
 use borrow.Fn.PlainCycle.{Measures, is, falls, and}
 use Rattle.events.proofs.emit_entries.Reads as emit-entries

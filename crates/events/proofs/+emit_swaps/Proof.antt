@@ -1,6 +1,6 @@
 -- `emit_swaps` meets its contract: each way out is one law.
 use Prim.Native.Nat.{_-_, ℕ, _<_}
-use Rattle.events.proofs.Entering.{swapping}
+use Rattle.events.proofs.EntryGates.{swapping}
 use borrow.Fn.Kinds.{In}
 use borrow.Fn.PlainCycle.{Measures, is, falls, and}
 use Rattle.events.proofs.emit_swaps.Reads as emit-swaps

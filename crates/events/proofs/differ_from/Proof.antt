@@ -4,7 +4,7 @@ use mathlib.Core.Path.{_≡_}
 use borrow.Author.Needs.{needs}
 use lib.ListN.{length}
 use Rattle.step.specs.Steps.{qubitsOf}
-use Rattle.events.proofs.Entering.{Same, same-on, differing}
+use Rattle.events.proofs.EntryGates.{Same, same-on, differing}
 use Rattle.events.proofs.differ_from.Statement.{statement}
 use Rattle.events.proofs.differ_from.Tie as tie
 

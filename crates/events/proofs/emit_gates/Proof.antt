@@ -1,5 +1,5 @@
 -- `emit_gates` meets its contract: each way out is one law.
-use Rattle.events.proofs.Entering.{gating}
+use Rattle.events.proofs.EntryGates.{gating}
 use borrow.Author.Needs.{needs}
 use Rattle.events.proofs.emit_gates.Statement.{statement}
 use Rattle.events.proofs.emit_gates.Tie as tie

@@ -1,5 +1,5 @@
 -- `entry_at` meets its contract: each way out is one law.
-use Rattle.events.proofs.Leaves.{entries}
+use Rattle.events.proofs.GatesAndSlots.{entries}
 use borrow.Author.Needs.{needs}
 use Rattle.events.proofs.entry_at.Statement.{statement}
 use Rattle.events.proofs.entry_at.Tie as tie

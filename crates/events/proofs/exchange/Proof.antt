@@ -1,5 +1,5 @@
 -- `exchange` meets its contract: each way out is one law.
-use Rattle.events.proofs.Leaves.{exchanging}
+use Rattle.events.proofs.GatesAndSlots.{exchanging}
 use Rattle.events.proofs.exchange.Statement.{statement}
 use Rattle.events.proofs.exchange.Tie as tie
 

@@ -5,7 +5,7 @@ use mathlib.Core.List.{map}
 use lib.ListN.{length, take}
 use Rattle.model.specs.Limits.{mostQubits}
 use Rattle.model.specs.Gates.{exchange}
-use Rattle.events.proofs.Leaves.{filling}
+use Rattle.events.proofs.GatesAndSlots.{filling}
 use Rattle.events.proofs.exchanged.Statement.{statement}
 use Rattle.events.proofs.exchanged.Tie as tie
 

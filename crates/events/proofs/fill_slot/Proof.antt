@@ -1,5 +1,5 @@
 -- `fill_slot` meets its contract: each way out is one law.
-use Rattle.events.proofs.Leaves.{entries}
+use Rattle.events.proofs.GatesAndSlots.{entries}
 use borrow.Author.Needs.{needs}
 use Rattle.events.proofs.fill_slot.Statement.{statement}
 use Rattle.events.proofs.fill_slot.Tie as tie

@@ -1,5 +1,5 @@
 -- `give_back` meets its contract: each way out is one law.
-use Rattle.events.proofs.Leaves.{takings}
+use Rattle.events.proofs.GatesAndSlots.{takings}
 use Rattle.events.proofs.give_back.Statement.{statement}
 use Rattle.events.proofs.give_back.Tie as tie
 

@@ -1,5 +1,5 @@
 -- `in_room` meets its contract: each way out is one law.
-use Rattle.events.proofs.Leaves.{rooms}
+use Rattle.events.proofs.GatesAndSlots.{rooms}
 use borrow.Author.Needs.{needs}
 use Rattle.events.proofs.in_room.Statement.{statement}
 use Rattle.events.proofs.in_room.Tie as tie

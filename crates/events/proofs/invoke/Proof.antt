@@ -1,5 +1,5 @@
 -- `invoke` meets its contract: each way out is one law.
-use Rattle.events.proofs.Invoking.{invoking}
+use Rattle.events.proofs.CallAncilla.{invoking}
 use borrow.Author.Needs.{needs}
 use Rattle.events.proofs.invoke.Statement.{statement}
 use Rattle.events.proofs.invoke.Tie as tie

@@ -7,7 +7,7 @@ use Rattle.limits.specs.Sizes.{slotLength}
 use Rattle.model.specs.Limits.{mostQubits}
 use Rattle.events.specs.Scan.{bytesFrom, slotListLength}
 use native.Mathlib.Omega.{arith}
-use Rattle.events.proofs.Leaves.{load-next, filling}
+use Rattle.events.proofs.GatesAndSlots.{load-next, filling}
 use Rattle.events.proofs.load.Statement.{statement}
 use Rattle.events.proofs.load.Tie as tie
 

@@ -1,5 +1,5 @@
 -- `opens` meets its contract: each way out is one law.
-use Rattle.events.proofs.Leaves.{seeking}
+use Rattle.events.proofs.GatesAndSlots.{seeking}
 use borrow.Author.Needs.{needs}
 use Rattle.events.proofs.opens.Statement.{statement}
 use Rattle.events.proofs.opens.Tie as tie

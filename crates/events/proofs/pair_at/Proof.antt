@@ -1,5 +1,5 @@
 -- `pair_at` meets its contract: each way out is one law.
-use Rattle.events.proofs.Leaves.{seeking}
+use Rattle.events.proofs.GatesAndSlots.{seeking}
 use borrow.Author.Needs.{needs}
 use Rattle.events.proofs.pair_at.Statement.{statement}
 use Rattle.events.proofs.pair_at.Tie as tie

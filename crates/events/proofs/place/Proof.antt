@@ -1,5 +1,5 @@
 -- `place` meets its contract: each way out is one law.
-use Rattle.events.proofs.Leaves.{placing}
+use Rattle.events.proofs.GatesAndSlots.{placing}
 use borrow.Author.Needs.{needs}
 use Rattle.events.proofs.place.Statement.{statement}
 use Rattle.events.proofs.place.Tie as tie

@@ -3,7 +3,7 @@ use Prim.Native.Nat.{_-_}
 use mathlib.Core.Path.{_≡_}
 use lib.ListN.{length}
 use Rattle.step.specs.Steps.{qubitsOf}
-use Rattle.events.proofs.Leaves.{Storing, storing}
+use Rattle.events.proofs.GatesAndSlots.{Storing, storing}
 use Rattle.events.proofs.put_entries.Statement.{statement}
 use Rattle.events.proofs.put_entries.Tie as tie
 

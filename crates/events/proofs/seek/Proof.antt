@@ -2,7 +2,7 @@
 use Prim.Native.Nat.{_-_}
 use mathlib.Core.Path.{_≡_}
 use Rattle.events.specs.Slots.{seekOf}
-use Rattle.events.proofs.Leaves.{seeking}
+use Rattle.events.proofs.GatesAndSlots.{seeking}
 use Rattle.events.proofs.seek.Statement.{statement}
 use Rattle.events.proofs.seek.Tie as tie
 

@@ -1,5 +1,5 @@
 -- `take` meets its contract: each way out is one law.
-use Rattle.events.proofs.Leaves.{takings}
+use Rattle.events.proofs.GatesAndSlots.{takings}
 use borrow.Author.Needs.{needs}
 use Rattle.events.proofs.take.Statement.{statement}
 use Rattle.events.proofs.take.Tie as tie

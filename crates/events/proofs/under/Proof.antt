@@ -1,5 +1,5 @@
 -- `under` meets its contract: each way out is one law.
-use Rattle.events.proofs.Leaves.{exchanging}
+use Rattle.events.proofs.GatesAndSlots.{exchanging}
 use borrow.Author.Needs.{needs}
 use Rattle.events.proofs.under.Statement.{statement}
 use Rattle.events.proofs.under.Tie as tie

@@ -1,5 +1,5 @@
 -- `wire` meets its contract: each way out is one law.
-use Rattle.events.proofs.Leaves.{reading}
+use Rattle.events.proofs.GatesAndSlots.{reading}
 use borrow.Author.Needs.{needs}
 use Rattle.events.proofs.wire.Statement.{statement}
 use Rattle.events.proofs.wire.Tie as tie

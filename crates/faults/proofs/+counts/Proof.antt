@@ -1,5 +1,5 @@
 -- `faults::counts` meets its contract: each way out is one law, and the depth falls. Assumes nothing.
-use Rattle.faults.proofs.Counting.{counting}
+use Rattle.faults.proofs.RemovalCounts.{counting}
 use Prim.Native.Nat.{ℕ, _<_}
 use borrow.Fn.Kinds.{In}
 use borrow.Fn.PlainCycle.{Measures, is, falls, and}

@@ -1,5 +1,5 @@
 -- `faults::touches` meets its contract: each step of the walk is the record's, and the depth falls. Assumes nothing.
-use Rattle.faults.proofs.Walk.{walking}
+use Rattle.faults.proofs.RowOfAStatement.{walking}
 use Prim.Native.Nat.{ℕ, _<_}
 use borrow.Fn.Kinds.{In}
 use borrow.Fn.PlainCycle.{Measures, is, falls, and}

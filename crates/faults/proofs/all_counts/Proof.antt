@@ -1,8 +1,8 @@
 -- `faults::all_counts` meets its contract: before body f those below f are counted. Assumes nothing.
-use Rattle.faults.proofs.Counting.{counting}
+use Rattle.faults.proofs.RemovalCounts.{counting}
 use Prim.Native.Nat.{_≤_, _-_}
 use mathlib.Core.Path.{_≡_}
-use Rattle.faults.specs.Lengths.{countsBelow}
+use Rattle.faults.specs.CallLengths.{countsBelow}
 use Rattle.faults.proofs.all_counts.Statement.{statement}
 use Rattle.faults.proofs.all_counts.Tie as tie
 

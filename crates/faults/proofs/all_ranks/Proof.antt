@@ -1,9 +1,9 @@
 -- `faults::all_ranks` meets its contract: before procedure f the ranks of those below f are there. Assumes nothing.
 use Rattle.limits.specs.Sizes.{bodyCount}
-use Rattle.faults.proofs.Fills.{ranking}
+use Rattle.faults.proofs.RowTableFill.{ranking}
 use Prim.Native.Nat.{_≤_, _-_}
 use mathlib.Core.Path.{_≡_}
-use Rattle.faults.specs.Filling.{ranksBelow}
+use Rattle.faults.specs.RowTable.{ranksBelow}
 use Rattle.faults.proofs.all_ranks.Statement.{statement}
 use Rattle.faults.proofs.all_ranks.Tie as tie
 

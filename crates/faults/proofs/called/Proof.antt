@@ -1,5 +1,5 @@
 -- `faults::called` meets its contract: before position u the row has what is carried from those below u. Assumes nothing.
-use Rattle.faults.proofs.Ways.{carrying}
+use Rattle.faults.proofs.RowOperations.{carrying}
 use Prim.Native.Nat.{_≤_, _-_}
 use mathlib.Core.Path.{_≡_}
 use Rattle.step.specs.Steps.{qubitsOf}

@@ -1,5 +1,5 @@
 -- `faults::carry` meets its contract: position u of the callee, where it is touched. Assumes nothing.
-use Rattle.faults.proofs.Ways.{carrying}
+use Rattle.faults.proofs.RowOperations.{carrying}
 use Rattle.faults.proofs.carry.Statement.{statement}
 use Rattle.faults.proofs.carry.Tie as tie
 

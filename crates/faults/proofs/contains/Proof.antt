@@ -1,5 +1,5 @@
 -- `faults::contains` meets its contract: a word says nothing past its end. Assumes nothing.
-use Rattle.faults.proofs.Ways.{rows}
+use Rattle.faults.proofs.RowOperations.{rows}
 use Rattle.faults.proofs.contains.Statement.{statement}
 use Rattle.faults.proofs.contains.Tie as tie
 

@@ -1,5 +1,5 @@
 -- `faults::faults` meets its contract: main is walked by the whole table. Assumes nothing.
-use Rattle.faults.proofs.Fills.{filling}
+use Rattle.faults.proofs.RowTableFill.{filling}
 use Rattle.faults.proofs.faults.Statement.{statement}
 use Rattle.faults.proofs.faults.Tie as tie
 

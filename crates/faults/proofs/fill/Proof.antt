@@ -1,8 +1,8 @@
 -- `faults::fill` meets its contract: lengths 1 to m are filled. Assumes nothing.
-use Rattle.faults.proofs.Fills.{filling}
+use Rattle.faults.proofs.RowTableFill.{filling}
 use Prim.Native.Nat.{_≤_, _-_}
 use mathlib.Core.Path.{_≡_}
-use Rattle.faults.specs.Filling.{filled}
+use Rattle.faults.specs.RowTable.{filled}
 use Rattle.faults.proofs.fill.Statement.{statement}
 use Rattle.faults.proofs.fill.Tie as tie
 

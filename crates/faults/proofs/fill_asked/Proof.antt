@@ -1,5 +1,5 @@
 -- `faults::fill_asked` meets its contract: the length is filled where calls can lead to it. Assumes nothing.
-use Rattle.faults.proofs.Fills.{filling}
+use Rattle.faults.proofs.RowTableFill.{filling}
 use Rattle.faults.proofs.fill_asked.Statement.{statement}
 use Rattle.faults.proofs.fill_asked.Tie as tie
 

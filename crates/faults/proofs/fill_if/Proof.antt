@@ -1,5 +1,5 @@
 -- `faults::fill_if` meets its contract: the row is filled where the rank is k. Assumes nothing.
-use Rattle.faults.proofs.Fills.{filling}
+use Rattle.faults.proofs.RowTableFill.{filling}
 use Rattle.faults.proofs.fill_if.Statement.{statement}
 use Rattle.faults.proofs.fill_if.Tie as tie
 

@@ -1,8 +1,8 @@
 -- `faults::fill_length` meets its contract: ranks 1 to k are filled. Assumes nothing.
-use Rattle.faults.proofs.Fills.{filling}
+use Rattle.faults.proofs.RowTableFill.{filling}
 use Prim.Native.Nat.{_≤_, _-_}
 use mathlib.Core.Path.{_≡_}
-use Rattle.faults.specs.Filling.{filledLength}
+use Rattle.faults.specs.RowTable.{filledLength}
 use Rattle.faults.proofs.fill_length.Statement.{statement}
 use Rattle.faults.proofs.fill_length.Tie as tie
 

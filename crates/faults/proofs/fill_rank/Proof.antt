@@ -1,8 +1,8 @@
 -- `faults::fill_rank` meets its contract: procedures 1 to f are filled. Assumes nothing.
-use Rattle.faults.proofs.Fills.{filling}
+use Rattle.faults.proofs.RowTableFill.{filling}
 use Prim.Native.Nat.{_≤_, _-_}
 use mathlib.Core.Path.{_≡_}
-use Rattle.faults.specs.Filling.{filledRank}
+use Rattle.faults.specs.RowTable.{filledRank}
 use Rattle.faults.proofs.fill_rank.Statement.{statement}
 use Rattle.faults.proofs.fill_rank.Tie as tie
 

@@ -1,5 +1,5 @@
 -- `faults::mark` meets its contract: one number more, which stands in the word or past it. Assumes nothing.
-use Rattle.faults.proofs.Ways.{rows}
+use Rattle.faults.proofs.RowOperations.{rows}
 use Rattle.faults.proofs.mark.Statement.{statement}
 use Rattle.faults.proofs.mark.Tie as tie
 

@@ -1,8 +1,8 @@
 -- `faults::rank` meets its contract: before body x those below x are counted. Assumes nothing.
-use Rattle.faults.proofs.Fills.{ranking}
+use Rattle.faults.proofs.RowTableFill.{ranking}
 use Prim.Native.Nat.{_≤_, _-_}
 use mathlib.Core.Path.{_≡_}
-use Rattle.faults.specs.Filling.{rankBelow}
+use Rattle.faults.specs.RowTable.{rankBelow}
 use Rattle.faults.proofs.rank.Statement.{statement}
 use Rattle.faults.proofs.rank.Tie as tie
 

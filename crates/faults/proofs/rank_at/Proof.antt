@@ -1,5 +1,5 @@
 -- `faults::rank_at` meets its contract: there is no rank past 16. Assumes nothing.
-use Rattle.faults.proofs.Fills.{ranking}
+use Rattle.faults.proofs.RowTableFill.{ranking}
 use Rattle.faults.proofs.rank_at.Statement.{statement}
 use Rattle.faults.proofs.rank_at.Tie as tie
 

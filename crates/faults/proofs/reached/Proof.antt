@@ -1,5 +1,5 @@
 -- `faults::reached` meets its contract: f itself, what it reaches, and what it does not. Assumes nothing.
-use Rattle.faults.proofs.Fills.{ranking}
+use Rattle.faults.proofs.RowTableFill.{ranking}
 use Rattle.faults.proofs.reached.Statement.{statement}
 use Rattle.faults.proofs.reached.Tie as tie
 

@@ -1,5 +1,5 @@
 -- `faults::row_at` meets its contract: the table says nothing past its end. Assumes nothing.
-use Rattle.faults.proofs.Ways.{rows}
+use Rattle.faults.proofs.RowOperations.{rows}
 use Rattle.faults.proofs.row_at.Statement.{statement}
 use Rattle.faults.proofs.row_at.Tie as tie
 

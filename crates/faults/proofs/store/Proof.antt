@@ -1,5 +1,5 @@
 -- `faults::store` meets its contract: the table has no row past its end. Assumes nothing.
-use Rattle.faults.proofs.Fills.{filling}
+use Rattle.faults.proofs.RowTableFill.{filling}
 use Rattle.faults.proofs.store.Statement.{statement}
 use Rattle.faults.proofs.store.Tie as tie
 

@@ -1,10 +1,10 @@
 -- `faults::sums_of` meets its contract: before j the sums below j are followed. Assumes nothing.
 use Rattle.model.specs.Limits.{mostQubits}
-use Rattle.faults.proofs.Counting.{counting}
+use Rattle.faults.proofs.RemovalCounts.{counting}
 use Prim.Native.Nat.{_≤_, _-_}
 use mathlib.Core.Path.{_≡_}
 use mathlib.Core.Logic.{⊎-elim}
-use Rattle.faults.specs.Lengths.{sumsBelow}
+use Rattle.faults.specs.CallLengths.{sumsBelow}
 use Rattle.faults.proofs.sums_of.Statement.{statement}
 use Rattle.faults.proofs.sums_of.Tie as tie
 

@@ -1,6 +1,6 @@
 -- `foq_compile` meets its contract.
 use borrow.Author.Needs.{needs}
-use Rattle.foq.proofs.Delivering.{delivering}
+use Rattle.foq.proofs.CompileExport.{delivering}
 use Rattle.foq.proofs.foq_compile.Statement.{statement}
 use Rattle.foq.proofs.foq_compile.Tie as tie
 

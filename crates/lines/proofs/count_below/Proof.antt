@@ -1,10 +1,10 @@
 -- `count_below` meets its contract. The loop keeps: the wires below are those counted, and those that will be of what is left.
 use mathlib.Core.Path.{_≡_}
 use Prim.Native.Nat.{_+_}
-use Rattle.circuit.specs.Views.{part}
-use Rattle.lines.specs.Rows.{lower}
+use Rattle.circuit.specs.GatesInBytes.{part}
+use Rattle.lines.specs.ListingRows.{lower}
 use borrow.Author.Needs.{needs}
-use Rattle.lines.proofs.Controls.{counting}
+use Rattle.lines.proofs.ControlText.{counting}
 use Rattle.lines.proofs.count_below.Statement.{statement}
 use Rattle.lines.proofs.count_below.Tie as tie
 

@@ -1,6 +1,6 @@
 -- `first_line` meets its contract.
 use borrow.Author.Needs.{needs}
-use Rattle.lines.proofs.Lines.{lining}
+use Rattle.lines.proofs.WholeLines.{lining}
 use Rattle.lines.proofs.first_line.Statement.{statement}
 use Rattle.lines.proofs.first_line.Tie as tie
 

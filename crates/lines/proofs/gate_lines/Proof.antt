@@ -2,11 +2,11 @@
 use Prim.Native.Nat.{_+_}
 use mathlib.Core.Path.{_≡_}
 use lib.ListN.{length}
-use Rattle.circuit.specs.Views.{inputAt}
-use Rattle.lines.specs.Puts.{puts}
-use Rattle.lines.specs.Rows.{linesRead}
+use Rattle.circuit.specs.GatesInBytes.{inputAt}
+use Rattle.lines.specs.AppendedBytes.{puts}
+use Rattle.lines.specs.ListingRows.{linesRead}
 use borrow.Author.Needs.{needs}
-use Rattle.lines.proofs.Circuits.{gating}
+use Rattle.lines.proofs.CircuitListing.{gating}
 use Rattle.lines.proofs.gate_lines.Statement.{statement}
 use Rattle.lines.proofs.gate_lines.Tie as tie
 

@@ -1,6 +1,6 @@
 -- `list_circuit` meets its contract.
 use borrow.Author.Needs.{needs}
-use Rattle.lines.proofs.Circuits.{circuits}
+use Rattle.lines.proofs.CircuitListing.{circuits}
 use Rattle.lines.proofs.list_circuit.Statement.{statement}
 use Rattle.lines.proofs.list_circuit.Tie as tie
 

@@ -1,6 +1,6 @@
 -- `put` meets its contract.
 use borrow.Author.Needs.{needs}
-use Rattle.lines.proofs.Putting.{putting}
+use Rattle.lines.proofs.AppendLaws.{putting}
 use Rattle.lines.proofs.put.Statement.{statement}
 use Rattle.lines.proofs.put.Tie as tie
 

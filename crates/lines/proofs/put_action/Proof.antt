@@ -1,6 +1,6 @@
 -- `put_action` meets its contract.
 use borrow.Author.Needs.{needs}
-use Rattle.lines.proofs.Lines.{actions}
+use Rattle.lines.proofs.WholeLines.{actions}
 use Rattle.lines.proofs.put_action.Statement.{statement}
 use Rattle.lines.proofs.put_action.Tie as tie
 

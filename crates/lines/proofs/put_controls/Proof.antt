@@ -3,10 +3,10 @@ use Prim.Native.Nat.{_^_, _<_}
 use mathlib.Core.Path.{_≡_}
 use lib.ListN.{length}
 use Rattle.model.specs.Listing.{controlText}
-use Rattle.circuit.specs.Views.{part}
-use Rattle.lines.specs.Puts.{puts}
+use Rattle.circuit.specs.GatesInBytes.{part}
+use Rattle.lines.specs.AppendedBytes.{puts}
 use borrow.Author.Needs.{needs}
-use Rattle.lines.proofs.Controls.{controlling}
+use Rattle.lines.proofs.ControlText.{controlling}
 use Rattle.lines.proofs.put_controls.Statement.{statement}
 use Rattle.lines.proofs.put_controls.Tie as tie
 

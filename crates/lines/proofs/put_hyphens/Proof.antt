@@ -2,10 +2,10 @@
 use mathlib.Core.Path.{_≡_}
 use lib.ListN.{length}
 use Rattle.model.specs.Listing.{hyphens}
-use Rattle.circuit.specs.Views.{part}
-use Rattle.lines.specs.Puts.{puts}
+use Rattle.circuit.specs.GatesInBytes.{part}
+use Rattle.lines.specs.AppendedBytes.{puts}
 use borrow.Author.Needs.{needs}
-use Rattle.lines.proofs.Controls.{hyphening}
+use Rattle.lines.proofs.ControlText.{hyphening}
 use Rattle.lines.proofs.put_hyphens.Statement.{statement}
 use Rattle.lines.proofs.put_hyphens.Tie as tie
 

@@ -1,6 +1,6 @@
 -- `refusal_line` meets its contract.
 use borrow.Author.Needs.{needs}
-use Rattle.lines.proofs.Lines.{lining}
+use Rattle.lines.proofs.WholeLines.{lining}
 use Rattle.lines.proofs.refusal_line.Statement.{statement}
 use Rattle.lines.proofs.refusal_line.Tie as tie
 

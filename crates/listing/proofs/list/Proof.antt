@@ -1,5 +1,5 @@
 -- `list` meets its contract.
-use Rattle.listing.proofs.Ways.{lists}
+use Rattle.listing.proofs.ListingText.{lists}
 use Rattle.listing.proofs.list.Statement.{statement}
 use Rattle.listing.proofs.list.Tie as tie
 

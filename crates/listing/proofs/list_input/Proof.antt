@@ -1,5 +1,5 @@
 -- `list_input` meets its contract.
-use Rattle.listing.proofs.Ways.{inputs}
+use Rattle.listing.proofs.ListingText.{inputs}
 use Rattle.listing.proofs.list_input.Statement.{statement}
 use Rattle.listing.proofs.list_input.Tie as tie
 

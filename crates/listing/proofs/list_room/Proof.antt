@@ -1,5 +1,5 @@
 -- `list_room` meets its contract.
-use Rattle.listing.proofs.Ways.{fronts}
+use Rattle.listing.proofs.ListingText.{fronts}
 use Rattle.listing.proofs.list_room.Statement.{statement}
 use Rattle.listing.proofs.list_room.Tie as tie
 

@@ -1,5 +1,5 @@
 -- `list_table` meets its contract.
-use Rattle.listing.proofs.Ways.{tables}
+use Rattle.listing.proofs.ListingText.{tables}
 use Rattle.listing.proofs.list_table.Statement.{statement}
 use Rattle.listing.proofs.list_table.Tie as tie
 

@@ -2,7 +2,7 @@
 use Prim.Native.Nat.{ℕ, _<_}
 use borrow.Fn.Kinds.{In}
 use borrow.Fn.PlainCycle.{Measures, is, falls, and}
-use Rattle.reach.proofs.Walks.{lacking}
+use Rattle.reach.proofs.CallsAndWidths.{lacking}
 use Rattle.reach.proofs.lacks_removal.Reads as lacks-removal
 use Rattle.reach.proofs.lacks_removal.Kinds as lacks-removal-kinds
 use Rattle.reach.proofs.+lacks_removal.Lts-lacks_removal as lacks-removal-lts

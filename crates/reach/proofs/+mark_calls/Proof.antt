@@ -2,7 +2,7 @@
 use Prim.Native.Nat.{ℕ, _<_}
 use borrow.Fn.Kinds.{In}
 use borrow.Fn.PlainCycle.{Measures, is, falls, and}
-use Rattle.reach.proofs.Walks.{marking}
+use Rattle.reach.proofs.CallsAndWidths.{marking}
 use Rattle.reach.proofs.mark_calls.Reads as mark-calls
 use Rattle.reach.proofs.mark_calls.Kinds as mark-calls-kinds
 use Rattle.reach.proofs.+mark_calls.Lts-mark_calls as mark-calls-lts

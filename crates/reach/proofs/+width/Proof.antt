@@ -2,7 +2,7 @@
 use Prim.Native.Nat.{ℕ, _<_}
 use borrow.Fn.Kinds.{In}
 use borrow.Fn.PlainCycle.{Measures, is, falls, and}
-use Rattle.reach.proofs.Walks.{widening}
+use Rattle.reach.proofs.CallsAndWidths.{widening}
 use Rattle.reach.proofs.width.Reads as width
 use Rattle.reach.proofs.width.Kinds as width-kinds
 use Rattle.reach.proofs.+width.Lts-width as width-lts

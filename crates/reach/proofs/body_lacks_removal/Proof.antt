@@ -1,6 +1,6 @@
 -- `reach::body_lacks_removal` meets its contract: the body of f is the statement at its root. Assumes nothing.
 use borrow.Author.Needs.{needs}
-use Rattle.reach.proofs.Walks.{bodies}
+use Rattle.reach.proofs.CallsAndWidths.{bodies}
 use Rattle.reach.proofs.body_lacks_removal.Statement.{statement}
 use Rattle.reach.proofs.body_lacks_removal.Tie as tie
 

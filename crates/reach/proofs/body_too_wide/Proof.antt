@@ -1,6 +1,6 @@
 -- `reach::body_too_wide` meets its contract: a width over 1 is given as 2. Assumes nothing.
 use borrow.Author.Needs.{needs}
-use Rattle.reach.proofs.Walks.{bodies}
+use Rattle.reach.proofs.CallsAndWidths.{bodies}
 use Rattle.reach.proofs.body_too_wide.Statement.{statement}
 use Rattle.reach.proofs.body_too_wide.Tie as tie
 

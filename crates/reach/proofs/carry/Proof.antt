@@ -1,6 +1,6 @@
 -- `reach::carry` meets its contract: one law for each way out. Assumes nothing.
 use borrow.Author.Needs.{needs}
-use Rattle.reach.proofs.Ways.{cells}
+use Rattle.reach.proofs.MatrixOperations.{cells}
 use Rattle.reach.proofs.carry.Statement.{statement}
 use Rattle.reach.proofs.carry.Tie as tie
 

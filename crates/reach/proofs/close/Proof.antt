@@ -2,7 +2,7 @@
 use mathlib.Core.Path.{_≡_}
 use Prim.Native.Nat.{_-_, _≤_}
 use Rattle.reach.specs.Matrix.{closed}
-use Rattle.reach.proofs.Ways.{rows}
+use Rattle.reach.proofs.MatrixOperations.{rows}
 use Rattle.reach.proofs.close.Statement.{statement}
 use Rattle.reach.proofs.close.Tie as tie
 

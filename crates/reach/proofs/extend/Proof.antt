@@ -1,6 +1,6 @@
 -- `reach::extend` meets its contract: by its test. Assumes nothing.
 use borrow.Author.Needs.{needs}
-use Rattle.reach.proofs.Ways.{rows}
+use Rattle.reach.proofs.MatrixOperations.{rows}
 use Rattle.reach.proofs.extend.Statement.{statement}
 use Rattle.reach.proofs.extend.Tie as tie
 

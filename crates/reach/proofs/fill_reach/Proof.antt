@@ -1,6 +1,6 @@
 -- `reach::fill_reach` meets its contract: marked and closed, the matrix is the table of reach. Assumes nothing.
 use borrow.Author.Needs.{needs}
-use Rattle.reach.proofs.Walks.{bodies}
+use Rattle.reach.proofs.CallsAndWidths.{bodies}
 use Rattle.reach.proofs.fill_reach.Statement.{statement}
 use Rattle.reach.proofs.fill_reach.Tie as tie
 

@@ -3,7 +3,7 @@ use mathlib.Core.Path.{_≡_}
 use Prim.Native.Nat.{_-_, _≤_}
 use Rattle.limits.specs.Sizes.{bodyCount}
 use Rattle.reach.specs.Matrix.{joined}
-use Rattle.reach.proofs.Ways.{rows}
+use Rattle.reach.proofs.MatrixOperations.{rows}
 use Rattle.reach.proofs.join.Statement.{statement}
 use Rattle.reach.proofs.join.Tie as tie
 

@@ -1,6 +1,6 @@
 -- `reach::mark_at` meets its contract: a mark is looked for within the matrix only. Assumes nothing.
 use borrow.Author.Needs.{needs}
-use Rattle.reach.proofs.Ways.{cells}
+use Rattle.reach.proofs.MatrixOperations.{cells}
 use Rattle.reach.proofs.mark_at.Statement.{statement}
 use Rattle.reach.proofs.mark_at.Tie as tie
 

@@ -2,8 +2,8 @@
 use mathlib.Core.Path.{_≡_}
 use Prim.Native.Nat.{_-_, _≤_}
 use Rattle.table.specs.Index.{bodyAt}
-use Rattle.reach.specs.Walk.{markedBelow}
-use Rattle.reach.proofs.Walks.{bodies}
+use Rattle.reach.specs.CallsInATable.{markedBelow}
+use Rattle.reach.proofs.CallsAndWidths.{bodies}
 use Rattle.reach.proofs.mark_bodies.Statement.{statement}
 use Rattle.reach.proofs.mark_bodies.Tie as tie
 

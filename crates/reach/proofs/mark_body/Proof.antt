@@ -1,6 +1,6 @@
 -- `reach::mark_body` meets its contract: the body of f is the statement at its root. Assumes nothing.
 use borrow.Author.Needs.{needs}
-use Rattle.reach.proofs.Walks.{bodies}
+use Rattle.reach.proofs.CallsAndWidths.{bodies}
 use Rattle.reach.proofs.mark_body.Statement.{statement}
 use Rattle.reach.proofs.mark_body.Tie as tie
 

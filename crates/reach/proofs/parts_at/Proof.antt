@@ -1,6 +1,6 @@
 -- `reach::parts_at` meets its contract: the step of the record is taken on an empty list. Assumes nothing.
 use borrow.Author.Needs.{needs}
-use Rattle.reach.proofs.Walks.{looking}
+use Rattle.reach.proofs.CallsAndWidths.{looking}
 use Rattle.reach.proofs.parts_at.Statement.{statement}
 use Rattle.reach.proofs.parts_at.Tie as tie
 

@@ -1,6 +1,6 @@
 -- `reach::removal_count` meets its contract: one law for each way out. Assumes nothing.
 use borrow.Author.Needs.{needs}
-use Rattle.reach.proofs.Walks.{removing}
+use Rattle.reach.proofs.CallsAndWidths.{removing}
 use Rattle.reach.proofs.removal_count.Statement.{statement}
 use Rattle.reach.proofs.removal_count.Tie as tie
 

@@ -1,5 +1,5 @@
 -- `records::read_numbers` meets its contract: the count falls. Assumes nothing.
-use Rattle.records.proofs.Laws.{reading}
+use Rattle.records.proofs.FieldLaws.{reading}
 use Prim.Native.Nat.{ℕ, _<_}
 use borrow.Fn.Kinds.{In}
 use borrow.Fn.PlainCycle.{Measures, is, falls, and}

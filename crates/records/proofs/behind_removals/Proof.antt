@@ -1,6 +1,6 @@
 -- `records::behind_removals` meets its contract: a count is a byte, so the sum fits. Assumes nothing.
 use borrow.Author.Needs.{needs}
-use Rattle.records.proofs.Laws.{written}
+use Rattle.records.proofs.FieldLaws.{written}
 use Rattle.records.proofs.behind_removals.Statement.{statement}
 use Rattle.records.proofs.behind_removals.Tie as tie
 

@@ -1,6 +1,6 @@
 -- `records::byte` meets its contract: past the end getD is 0. Assumes nothing.
 use borrow.Author.Needs.{needs}
-use Rattle.records.proofs.Laws.{written}
+use Rattle.records.proofs.FieldLaws.{written}
 use Rattle.records.proofs.byte.Statement.{statement}
 use Rattle.records.proofs.byte.Tie as tie
 

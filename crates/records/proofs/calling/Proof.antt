@@ -1,5 +1,5 @@
 -- `records::calling` meets its contract: each way out by the tests before it. Assumes nothing.
-use Rattle.records.proofs.Laws.{tests}
+use Rattle.records.proofs.FieldLaws.{tests}
 use Rattle.records.specs.Fields.{calling}
 use Rattle.records.proofs.calling.Statement.{statement}
 use Rattle.records.proofs.calling.Tie as tie

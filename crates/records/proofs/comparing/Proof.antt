@@ -1,5 +1,5 @@
 -- `records::comparing` meets its contract: each way out by the tests before it. Assumes nothing.
-use Rattle.records.proofs.Laws.{tests}
+use Rattle.records.proofs.FieldLaws.{tests}
 use Rattle.records.specs.Fields.{comparing}
 use Rattle.records.proofs.comparing.Statement.{statement}
 use Rattle.records.proofs.comparing.Tie as tie

@@ -1,6 +1,6 @@
 -- `records::maybe_removals` meets its contract: each way out by the test before it. Assumes nothing.
 use borrow.Author.Needs.{needs}
-use Rattle.records.proofs.Laws.{reading}
+use Rattle.records.proofs.FieldLaws.{reading}
 use Rattle.records.proofs.maybe_removals.Statement.{statement}
 use Rattle.records.proofs.maybe_removals.Tie as tie
 

@@ -1,7 +1,7 @@
 -- `records::permitted` meets its contract: by the entries of the table, whose sum fits a byte. Assumes nothing.
 use native.Mathlib.Omega.{arith}
 use borrow.Author.Needs.{needs}
-use Rattle.records.proofs.Laws.{maps, maps-fit}
+use Rattle.records.proofs.FieldLaws.{maps, maps-fit}
 use Rattle.records.proofs.permitted.Statement.{statement}
 use Rattle.records.proofs.permitted.Tie as tie
 

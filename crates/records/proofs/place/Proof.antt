@@ -1,6 +1,6 @@
 -- `records::place` meets its contract: each way out by the tests before it. Assumes nothing.
 use borrow.Author.Needs.{needs}
-use Rattle.records.proofs.Laws.{written}
+use Rattle.records.proofs.FieldLaws.{written}
 use Rattle.records.proofs.place.Statement.{statement}
 use Rattle.records.proofs.place.Tie as tie
 

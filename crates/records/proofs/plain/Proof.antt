@@ -1,5 +1,5 @@
 -- `records::plain` meets its contract: each way out by the tests before it. Assumes nothing.
-use Rattle.records.proofs.Laws.{kinds}
+use Rattle.records.proofs.FieldLaws.{kinds}
 use Rattle.records.specs.Fields.{plain}
 use Rattle.records.proofs.plain.Statement.{statement}
 use Rattle.records.proofs.plain.Tie as tie

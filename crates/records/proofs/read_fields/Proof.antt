@@ -1,7 +1,7 @@
 -- `records::read_fields` meets its contract: by the bits that the map of the kind must have. Assumes nothing.
 use borrow.Author.Needs.{needs}
-use Rattle.records.proofs.Laws.{kinds}
-use Rattle.records.proofs.Reader.{fields-said}
+use Rattle.records.proofs.FieldLaws.{kinds}
+use Rattle.records.proofs.ReadingAtAPlace.{fields-said}
 use Rattle.records.proofs.read_fields.Statement.{statement}
 use Rattle.records.proofs.read_fields.Tie as tie
 

@@ -1,6 +1,6 @@
 -- `records::record_at` meets its contract: by the bits that the map of its kind must have. Assumes nothing.
 use borrow.Author.Needs.{needs}
-use Rattle.records.proofs.Laws.{kinds}
+use Rattle.records.proofs.FieldLaws.{kinds}
 use Rattle.records.proofs.record_at.Statement.{statement}
 use Rattle.records.proofs.record_at.Tie as tie
 

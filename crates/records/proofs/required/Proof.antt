@@ -1,6 +1,6 @@
 -- `records::required` meets its contract: by the entries of the table. Assumes nothing.
 use borrow.Author.Needs.{needs}
-use Rattle.records.proofs.Laws.{kinds}
+use Rattle.records.proofs.FieldLaws.{kinds}
 use Rattle.records.proofs.required.Statement.{statement}
 use Rattle.records.proofs.required.Tie as tie
 

@@ -1,6 +1,6 @@
 -- `records::signed` meets its contract: the bits of the two bytes, 65536 less from 32768 on. Assumes nothing.
 use borrow.Author.Needs.{needs}
-use Rattle.records.proofs.Laws.{signs}
+use Rattle.records.proofs.FieldLaws.{signs}
 use Rattle.records.proofs.signed.Statement.{statement}
 use Rattle.records.proofs.signed.Tie as tie
 

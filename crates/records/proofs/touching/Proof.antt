@@ -1,5 +1,5 @@
 -- `records::touching` meets its contract: each way out by the test before it. Assumes nothing.
-use Rattle.records.proofs.Laws.{tests}
+use Rattle.records.proofs.FieldLaws.{tests}
 use Rattle.records.specs.Fields.{touching}
 use Rattle.records.proofs.touching.Statement.{statement}
 use Rattle.records.proofs.touching.Tie as tie

@@ -1,6 +1,6 @@
 -- `records::with_procedure` meets its contract: each field behind the one before it. Assumes nothing.
 use borrow.Author.Needs.{needs}
-use Rattle.records.proofs.Laws.{reading}
+use Rattle.records.proofs.FieldLaws.{reading}
 use Rattle.records.specs.Fields.{withProcedure}
 use Rattle.records.proofs.with_procedure.Statement.{statement}
 use Rattle.records.proofs.with_procedure.Tie as tie

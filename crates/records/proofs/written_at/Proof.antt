@@ -1,6 +1,6 @@
 -- `records::written_at` meets its contract: past the end all three bytes are 0. Assumes nothing.
 use borrow.Author.Needs.{needs}
-use Rattle.records.proofs.Laws.{written}
+use Rattle.records.proofs.FieldLaws.{written}
 use Rattle.records.proofs.written_at.Statement.{statement}
 use Rattle.records.proofs.written_at.Tie as tie
 

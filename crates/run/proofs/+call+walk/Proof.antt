@@ -5,8 +5,8 @@ use Prim.Native.Nat.{ℕ, _+_, _*_, _≤_, _<_}
 use borrow.Fn.Kinds.{In}
 use borrow.Fn.PlainCycle.{Measures, is, falls, and}
 use Rattle.step.specs.Steps.{qubitsOf}
-use Rattle.run.specs.Words.{walked}
-use Rattle.run.proofs.Walks.{calling, walking}
+use Rattle.run.specs.RunOnWords.{walked}
+use Rattle.run.proofs.WalkOfAWord.{calling, walking}
 use Rattle.run.proofs.call.Reads as call
 use Rattle.run.proofs.call.Kinds as call-kinds
 use Rattle.run.proofs.+call+walk.Lts-call as call-lts

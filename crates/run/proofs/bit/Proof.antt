@@ -1,6 +1,6 @@
 -- `run::bit` meets its contract: qubit q is bit q − 1. Assumes nothing.
 use borrow.Author.Needs.{needs}
-use Rattle.run.proofs.Walks.{bit-none, bit-past, bit-bit}
+use Rattle.run.proofs.WalkOfAWord.{bit-none, bit-past, bit-bit}
 use Rattle.run.proofs.bit.Statement.{statement}
 use Rattle.run.proofs.bit.Tie as tie
 

@@ -1,6 +1,6 @@
 -- `run::end_word` meets its contract: main from its root, on all qubits. Assumes nothing.
 use borrow.Author.Needs.{needs}
-use Rattle.run.proofs.Walks.{main-ran}
+use Rattle.run.proofs.WalkOfAWord.{main-ran}
 use Rattle.run.proofs.end_word.Statement.{statement}
 use Rattle.run.proofs.end_word.Tie as tie
 

@@ -1,6 +1,6 @@
 -- `run::flip` meets its contract: qubit q is bit q − 1. Assumes nothing.
 use borrow.Author.Needs.{needs}
-use Rattle.run.proofs.Walks.{flip-none, flip-past, flip-bit}
+use Rattle.run.proofs.WalkOfAWord.{flip-none, flip-past, flip-bit}
 use Rattle.run.proofs.flip.Statement.{statement}
 use Rattle.run.proofs.flip.Tie as tie
 

@@ -1,6 +1,6 @@
 -- `run` meets its contract.
 use borrow.Author.Needs.{needs}
-use Rattle.run.proofs.Answering.{answers}
+use Rattle.run.proofs.RunAnswer.{answers}
 use Rattle.run.proofs.run.Statement.{statement}
 use Rattle.run.proofs.run.Tie as tie
 

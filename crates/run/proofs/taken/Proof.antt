@@ -1,6 +1,6 @@
 -- `run::taken` meets its contract: one law for each way out. Assumes nothing.
 use borrow.Author.Needs.{needs}
-use Rattle.step.proofs.Choosing.{choosing}
+use Rattle.step.proofs.ChosenBranch.{choosing}
 use Rattle.run.proofs.taken.Statement.{statement}
 use Rattle.run.proofs.taken.Tie as tie
 

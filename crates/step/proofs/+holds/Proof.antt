@@ -1,5 +1,5 @@
 -- `step::holds` meets its contract: the depth falls, and each step is one way out. Assumes nothing.
-use Rattle.step.proofs.Testing.{testing, held-and, held-or}
+use Rattle.step.proofs.ConditionByStep.{testing, held-and, held-or}
 use Prim.Native.Nat.{ℕ, _<_}
 use borrow.Fn.Kinds.{In}
 use borrow.Fn.PlainCycle.{Measures, is, falls, and}

@@ -1,7 +1,7 @@
 -- `step::all` meets its contract: its array is the qubits 1 to 32. Assumes nothing.
 use borrow.Author.Needs.{needs}
 use Rattle.model.specs.Lists.{range}
-use Rattle.step.proofs.Entries.{qubits-first}
+use Rattle.step.proofs.ListsInAnArray.{qubits-first}
 use Rattle.step.proofs.all.Statement.{statement}
 use Rattle.step.proofs.all.Tie as tie
 

@@ -1,6 +1,6 @@
 -- `step::behind` meets its contract: past the end getD is 0. Assumes nothing.
 use borrow.Author.Needs.{needs}
-use Rattle.step.proofs.Places.{far-past-end}
+use Rattle.step.proofs.PlacesPastTheEnd.{far-past-end}
 use Rattle.step.proofs.behind.Statement.{statement}
 use Rattle.step.proofs.behind.Tie as tie
 

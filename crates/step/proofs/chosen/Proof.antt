@@ -1,6 +1,6 @@
 -- `step::chosen` meets its contract: one law for each way out. Assumes nothing.
 use borrow.Author.Needs.{needs}
-use Rattle.step.proofs.Choosing.{choosing}
+use Rattle.step.proofs.ChosenBranch.{choosing}
 use Rattle.step.proofs.chosen.Statement.{statement}
 use Rattle.step.proofs.chosen.Tie as tie
 

@@ -1,6 +1,6 @@
 -- `step::entry` meets its contract: the place is 0 or inside the list. Assumes nothing.
 use borrow.Author.Needs.{needs}
-use Rattle.step.proofs.Entries.{entry-none, entry-some, place-inside}
+use Rattle.step.proofs.ListsInAnArray.{entry-none, entry-some, place-inside}
 use Rattle.step.proofs.entry.Statement.{statement}
 use Rattle.step.proofs.entry.Tie as tie
 

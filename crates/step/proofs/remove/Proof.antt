@@ -6,7 +6,7 @@ use borrow.Author.Needs.{needs}
 use lib.ListN.{length, take, length-set}
 use Rattle.model.specs.Limits.{mostQubits}
 use Rattle.model.specs.Lists.{delete}
-use Rattle.step.proofs.Entries.{size-of, place-bound, remove-none, remove-some, shifted, shift-starts, shift-goes-on, shift-ends}
+use Rattle.step.proofs.ListsInAnArray.{size-of, place-bound, remove-none, remove-some, shifted, shift-starts, shift-goes-on, shift-ends}
 use Rattle.step.proofs.remove.Statement.{statement}
 use Rattle.step.proofs.remove.Tie as tie
 

@@ -1,6 +1,6 @@
 -- `step::size` meets its contract: its array's length is 32, so the list is as long as it says, or 32. Assumes nothing.
 use borrow.Author.Needs.{needs}
-use Rattle.step.proofs.Entries.{size-of}
+use Rattle.step.proofs.ListsInAnArray.{size-of}
 use Rattle.step.proofs.size.Statement.{statement}
 use Rattle.step.proofs.size.Tie as tie
 

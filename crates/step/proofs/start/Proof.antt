@@ -1,7 +1,7 @@
 -- `step::start` meets its contract: past the end getD is 0. Assumes nothing.
 use native.Mathlib.Omega.{arith}
 use borrow.Author.Needs.{needs}
-use Rattle.records.proofs.Laws.{past-end}
+use Rattle.records.proofs.FieldLaws.{past-end}
 use Rattle.step.proofs.start.Statement.{statement}
 use Rattle.step.proofs.start.Tie as tie
 

@@ -1,6 +1,6 @@
 -- `step::step_at` meets its contract: one law for each kind. Assumes nothing.
 use borrow.Author.Needs.{needs}
-use Rattle.step.proofs.Deciding.{deciding}
+use Rattle.step.proofs.StepOfARecord.{deciding}
 use Rattle.step.proofs.step_at.Statement.{statement}
 use Rattle.step.proofs.step_at.Tie as tie
 

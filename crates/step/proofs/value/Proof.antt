@@ -1,6 +1,6 @@
 -- `step::value` meets its contract: no sum leaves i32 behind the guard. Assumes nothing.
 use borrow.Author.Needs.{needs}
-use Rattle.step.proofs.Values.{sum-stays, value-sum, value-guarded, value-constant}
+use Rattle.step.proofs.NumberValues.{sum-stays, value-sum, value-guarded, value-constant}
 use Rattle.step.proofs.value.Statement.{statement}
 use Rattle.step.proofs.value.Tie as tie
 

@@ -1,6 +1,6 @@
 -- `step::within` meets its contract: each way out by the tests at zero and at the size. Assumes nothing.
 use borrow.Author.Needs.{needs}
-use Rattle.step.proofs.Values.{position-low, position-high, position-in, position-unsigned}
+use Rattle.step.proofs.NumberValues.{position-low, position-high, position-in, position-unsigned}
 use Rattle.step.proofs.within.Statement.{statement}
 use Rattle.step.proofs.within.Tie as tie
 

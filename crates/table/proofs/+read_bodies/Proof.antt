@@ -1,5 +1,5 @@
 -- `table::read_bodies` meets its contract: the procedures left fall. Assumes nothing.
-use Rattle.table.proofs.Laws.{bodies}
+use Rattle.table.proofs.TreeReadingLaws.{bodies}
 use Prim.Native.Nat.{ℕ, _+_, _-_, _<_}
 use borrow.Fn.Kinds.{In}
 use borrow.Fn.PlainCycle.{Measures, is, falls, and}

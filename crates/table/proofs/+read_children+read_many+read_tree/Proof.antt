@@ -1,5 +1,5 @@
 -- `table::read_tree`, `table::read_children` and `table::read_many` meet their contracts: the depth falls, and within it the count. Assumes nothing.
-use Rattle.table.proofs.Laws.{trees, children-done}
+use Rattle.table.proofs.TreeReadingLaws.{trees, children-done}
 use Prim.Native.Nat.{ℕ, _+_, _*_, _<_}
 use borrow.Fn.Kinds.{In}
 use borrow.Fn.PlainCycle.{Measures, is, falls, and}

@@ -1,5 +1,5 @@
 -- `table::note` meets its contract: a value is stored where it fits. Assumes nothing.
-use Rattle.table.proofs.Laws.{leaves}
+use Rattle.table.proofs.TreeReadingLaws.{leaves}
 use borrow.Author.Needs.{needs}
 use Rattle.table.proofs.note.Statement.{statement}
 use Rattle.table.proofs.note.Tie as tie

@@ -1,5 +1,5 @@
 -- `table::parts` meets its contract: by the two tables of kinds. Assumes nothing.
-use Rattle.table.proofs.Laws.{leaves}
+use Rattle.table.proofs.TreeReadingLaws.{leaves}
 use borrow.Author.Needs.{needs}
 use Rattle.table.proofs.parts.Statement.{statement}
 use Rattle.table.proofs.parts.Tie as tie

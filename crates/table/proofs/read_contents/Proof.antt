@@ -1,5 +1,5 @@
 -- `table::read_contents` meets its contract: 5, then the fields. Assumes nothing.
-use Rattle.table.proofs.Laws.{leaves}
+use Rattle.table.proofs.TreeReadingLaws.{leaves}
 use borrow.Author.Needs.{needs}
 use Rattle.table.proofs.read_contents.Statement.{statement}
 use Rattle.table.proofs.read_contents.Tie as tie

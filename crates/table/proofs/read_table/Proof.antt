@@ -1,5 +1,5 @@
 -- `table::read_table` meets its contract: one law for each way out. Assumes nothing.
-use Rattle.table.proofs.Tables.{tables}
+use Rattle.table.proofs.WholeTable.{tables}
 use borrow.Author.Needs.{needs}
 use Rattle.table.proofs.read_table.Statement.{statement}
 use Rattle.table.proofs.read_table.Tie as tie

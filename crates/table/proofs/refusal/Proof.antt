@@ -1,5 +1,5 @@
 -- `table::refusal` meets its contract: the number goes out. Assumes nothing.
-use Rattle.table.proofs.Laws.{leaves}
+use Rattle.table.proofs.TreeReadingLaws.{leaves}
 use borrow.Author.Needs.{needs}
 use Rattle.table.proofs.refusal.Statement.{statement}
 use Rattle.table.proofs.refusal.Tie as tie

@@ -1,5 +1,5 @@
 -- `table::wanted` meets its contract: by the kind's range. Assumes nothing.
-use Rattle.table.proofs.Laws.{leaves}
+use Rattle.table.proofs.TreeReadingLaws.{leaves}
 use Rattle.table.proofs.wanted.Statement.{statement}
 use Rattle.table.proofs.wanted.Tie as tie
 

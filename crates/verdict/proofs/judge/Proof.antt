@@ -1,6 +1,6 @@
 -- `judge` meets its contract.
 use borrow.Author.Needs.{needs}
-use Rattle.verdict.proofs.Ways.{verdicts}
+use Rattle.verdict.proofs.AcceptanceAndRefusal.{verdicts}
 use Rattle.verdict.proofs.judge.Statement.{statement}
 use Rattle.verdict.proofs.judge.Tie as tie
 

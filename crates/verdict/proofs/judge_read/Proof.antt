@@ -1,6 +1,6 @@
 -- `judge_read` meets its contract.
 use borrow.Author.Needs.{needs}
-use Rattle.verdict.proofs.Ways.{judges}
+use Rattle.verdict.proofs.AcceptanceAndRefusal.{judges}
 use Rattle.verdict.proofs.judge_read.Statement.{statement}
 use Rattle.verdict.proofs.judge_read.Tie as tie
 

@@ -1,6 +1,6 @@
 -- `verdict` meets its contract.
 use borrow.Author.Needs.{needs}
-use Rattle.verdict.proofs.Ways.{answers}
+use Rattle.verdict.proofs.AcceptanceAndRefusal.{answers}
 use Rattle.verdict.proofs.verdict.Statement.{statement}
 use Rattle.verdict.proofs.verdict.Tie as tie
 

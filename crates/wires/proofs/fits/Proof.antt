@@ -1,6 +1,6 @@
 -- `fits` looks for a bit at n or above.
 use borrow.Author.Needs.{needs}
-use Rattle.wires.proofs.Fitting.{fitting}
+use Rattle.wires.proofs.WordRange.{fitting}
 use Rattle.wires.proofs.fits.Statement.{statement}
 use Rattle.wires.proofs.fits.Tie as tie
 

@@ -1,6 +1,6 @@
 -- `flip` flips the bit of its wire and no other.
 use borrow.Author.Needs.{needs}
-use Rattle.wires.proofs.Steps.{is-block, flips-none, flips-bit}
+use Rattle.wires.proofs.WireOperations.{is-block, flips-none, flips-bit}
 use Rattle.wires.proofs.flip.Statement.{statement}
 use Rattle.wires.proofs.flip.Tie as tie
 

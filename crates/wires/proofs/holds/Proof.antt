@@ -1,6 +1,6 @@
 -- `holds` reads the bit of its wire.
 use borrow.Author.Needs.{needs}
-use Rattle.wires.proofs.Steps.{holds-none, holds-bit}
+use Rattle.wires.proofs.WireOperations.{holds-none, holds-bit}
 use Rattle.wires.proofs.holds.Statement.{statement}
 use Rattle.wires.proofs.holds.Tie as tie
 

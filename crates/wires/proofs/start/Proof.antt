@@ -1,7 +1,7 @@
 -- `start` writes the word byte after byte. The invariant: the first i bytes are written and the others are zero.
 use Prim.Native.Nat.{_-_, _≤_}
 use borrow.Author.Needs.{needs}
-use Rattle.wires.proofs.Steps.{Written, write-none, byte-fits, write-byte, write-all}
+use Rattle.wires.proofs.WireOperations.{Written, write-none, byte-fits, write-byte, write-all}
 use Rattle.wires.proofs.start.Statement.{statement}
 use Rattle.wires.proofs.start.Tie as tie
 

@@ -1,6 +1,6 @@
 -- `swap` exchanges two wires: it flips both where they differ.
 use borrow.Author.Needs.{needs}
-use Rattle.wires.proofs.Steps.{is-block, swaps-same, swaps-differ}
+use Rattle.wires.proofs.WireOperations.{is-block, swaps-same, swaps-differ}
 use Rattle.wires.proofs.swap.Statement.{statement}
 use Rattle.wires.proofs.swap.Tie as tie
 

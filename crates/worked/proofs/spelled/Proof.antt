@@ -3,7 +3,7 @@ use Prim.Native.Nat.{_-_, _≤_}
 use mathlib.Core.Path.{_≡_}
 use lib.ListN.{length}
 use borrow.Author.Needs.{needs}
-use Rattle.worked.proofs.Counting.{counting}
+use Rattle.worked.proofs.ByteCount.{counting}
 use Rattle.worked.proofs.spelled.Statement.{statement}
 use Rattle.worked.proofs.spelled.Tie as tie
 

@@ -1,6 +1,6 @@
 -- `asking` meets its contract.
 use borrow.Author.Needs.{needs}
-use Rattle.circuit.proofs.Writing.{asks}
+use Rattle.circuit.proofs.ControlInsertion.{asks}
 use Rattle.circuit.proofs.write.asking.Statement.{statement}
 use Rattle.circuit.proofs.write.asking.Tie as tie
 

@@ -1,6 +1,6 @@
 -- `controls_length` meets its contract.
 use borrow.Author.Needs.{needs}
-use Rattle.circuit.proofs.Putting.{lengths}
+use Rattle.circuit.proofs.GateBytes.{lengths}
 use Rattle.circuit.proofs.write.controls_length.Statement.{statement}
 use Rattle.circuit.proofs.write.controls_length.Tie as tie
 

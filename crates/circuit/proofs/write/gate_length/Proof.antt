@@ -1,6 +1,6 @@
 -- `gate_length` meets its contract.
 use borrow.Author.Needs.{needs}
-use Rattle.circuit.proofs.Putting.{lengths}
+use Rattle.circuit.proofs.GateBytes.{lengths}
 use Rattle.circuit.proofs.write.gate_length.Statement.{statement}
 use Rattle.circuit.proofs.write.gate_length.Tie as tie
 

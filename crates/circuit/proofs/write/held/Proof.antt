@@ -1,5 +1,5 @@
 -- `held` meets its contract.
-use Rattle.circuit.proofs.Writing.{helds}
+use Rattle.circuit.proofs.ControlInsertion.{helds}
 use Rattle.circuit.proofs.write.held.Statement.{statement}
 use Rattle.circuit.proofs.write.held.Tie as tie
 

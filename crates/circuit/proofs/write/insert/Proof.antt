@@ -5,8 +5,8 @@ use Prim.Native.Nat.{_-_, _≤_, _<_}
 use lib.ListN.{length, take}
 use Rattle.limits.specs.Sizes.{mostControls}
 use Rattle.model.specs.Gates.{insert}
-use Rattle.circuit.specs.Views.{part}
-use Rattle.circuit.proofs.Writing.{inserts}
+use Rattle.circuit.specs.GatesInBytes.{part}
+use Rattle.circuit.proofs.ControlInsertion.{inserts}
 use Rattle.circuit.proofs.write.insert.Statement.{statement}
 use Rattle.circuit.proofs.write.insert.Tie as tie
 

@@ -1,6 +1,6 @@
 -- `list_bit` meets its contract.
 use borrow.Author.Needs.{needs}
-use Rattle.circuit.proofs.Writing.{listed}
+use Rattle.circuit.proofs.ControlInsertion.{listed}
 use Rattle.circuit.proofs.write.list_bit.Statement.{statement}
 use Rattle.circuit.proofs.write.list_bit.Tie as tie
 

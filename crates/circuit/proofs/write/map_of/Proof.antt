@@ -1,6 +1,6 @@
 -- `map_of` meets its contract.
 use borrow.Author.Needs.{needs}
-use Rattle.circuit.proofs.Putting.{maps}
+use Rattle.circuit.proofs.GateBytes.{maps}
 use Rattle.circuit.proofs.write.map_of.Statement.{statement}
 use Rattle.circuit.proofs.write.map_of.Tie as tie
 

@@ -3,9 +3,9 @@ use mathlib.Core.Path.{_≡_}
 use Prim.Native.Nat.{_+_, _-_, _≤_}
 use lib.ListN.{length, take}
 use Rattle.limits.specs.Sizes.{mostControls}
-use Rattle.circuit.specs.Views.{part}
-use Rattle.circuit.specs.Writing.{placeFor}
-use Rattle.circuit.proofs.Writing.{places}
+use Rattle.circuit.specs.GatesInBytes.{part}
+use Rattle.circuit.specs.GatesToWrite.{placeFor}
+use Rattle.circuit.proofs.ControlInsertion.{places}
 use Rattle.circuit.proofs.write.place_for.Statement.{statement}
 use Rattle.circuit.proofs.write.place_for.Tie as tie
 

@@ -1,6 +1,6 @@
 -- `put` meets its contract.
 use borrow.Author.Needs.{needs}
-use Rattle.circuit.proofs.Putting.{puts}
+use Rattle.circuit.proofs.GateBytes.{puts}
 use Rattle.circuit.proofs.write.put.Statement.{statement}
 use Rattle.circuit.proofs.write.put.Tie as tie
 

@@ -1,6 +1,6 @@
 -- `put_controls` meets its contract.
 use borrow.Author.Needs.{needs}
-use Rattle.circuit.proofs.Putting.{controls}
+use Rattle.circuit.proofs.GateBytes.{controls}
 use Rattle.circuit.proofs.write.put_controls.Statement.{statement}
 use Rattle.circuit.proofs.write.put_controls.Tie as tie
 

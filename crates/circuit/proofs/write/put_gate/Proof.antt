@@ -1,6 +1,6 @@
 -- `put_gate` meets its contract.
 use borrow.Author.Needs.{needs}
-use Rattle.circuit.proofs.Putting.{gates}
+use Rattle.circuit.proofs.GateBytes.{gates}
 use Rattle.circuit.proofs.write.put_gate.Statement.{statement}
 use Rattle.circuit.proofs.write.put_gate.Tie as tie
 

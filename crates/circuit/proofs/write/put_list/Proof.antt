@@ -1,6 +1,6 @@
 -- `put_list` meets its contract.
 use borrow.Author.Needs.{needs}
-use Rattle.circuit.proofs.Putting.{lists}
+use Rattle.circuit.proofs.GateBytes.{lists}
 use Rattle.circuit.proofs.write.put_list.Statement.{statement}
 use Rattle.circuit.proofs.write.put_list.Tie as tie
 

@@ -1,6 +1,6 @@
 -- `put_number` meets its contract.
 use borrow.Author.Needs.{needs}
-use Rattle.circuit.proofs.Putting.{numbers}
+use Rattle.circuit.proofs.GateBytes.{numbers}
 use Rattle.circuit.proofs.write.put_number.Statement.{statement}
 use Rattle.circuit.proofs.write.put_number.Tie as tie
 

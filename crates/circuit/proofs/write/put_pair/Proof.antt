@@ -1,6 +1,6 @@
 -- `put_pair` meets its contract.
 use borrow.Author.Needs.{needs}
-use Rattle.circuit.proofs.Putting.{numbers}
+use Rattle.circuit.proofs.GateBytes.{numbers}
 use Rattle.circuit.proofs.write.put_pair.Statement.{statement}
 use Rattle.circuit.proofs.write.put_pair.Tie as tie
 

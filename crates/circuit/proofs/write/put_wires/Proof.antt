@@ -4,8 +4,8 @@ use Prim.Native.Nat.{_-_, _≤_}
 use lib.ListN.{length, take}
 use lib.Seq.{sets}
 use Rattle.limits.specs.Sizes.{mostControls}
-use Rattle.circuit.specs.Views.{part}
-use Rattle.circuit.proofs.Putting.{wired}
+use Rattle.circuit.specs.GatesInBytes.{part}
+use Rattle.circuit.proofs.GateBytes.{wired}
 use Rattle.circuit.proofs.write.put_wires.Statement.{statement}
 use Rattle.circuit.proofs.write.put_wires.Tie as tie
 

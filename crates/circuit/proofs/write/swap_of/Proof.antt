@@ -1,5 +1,5 @@
 -- `swap_of` meets its contract.
-use Rattle.circuit.proofs.Writing.{swaps}
+use Rattle.circuit.proofs.ControlInsertion.{swaps}
 use Rattle.circuit.proofs.write.swap_of.Statement.{statement}
 use Rattle.circuit.proofs.write.swap_of.Tie as tie
 

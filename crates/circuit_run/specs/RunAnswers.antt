@@ -1,0 +1,44 @@
+-- What the functions of the circuit run answer, in the terms of document 01's definitions.
+use Prim.Native.Nat.{ℕ, _^_}
+use mathlib.Core.Bool.{Bool, true, false}
+use mathlib.Core.List.{List}
+use mathlib.Core.Option.{Option, none, some}
+use lib.ListN.{length}
+use lib.Dec.{eqb, ltb}
+use Rattle.model.specs.Limits.{highBit, notWellFormed}
+use Rattle.model.specs.Reading.{Parsed, parsed, refused}
+use Rattle.model.specs.Meaning.{State}
+use Rattle.model.specs.Gates.{Gate, allOne, allZero, acts}
+use Rattle.wires.specs.StateOfABlock.{stateIn, inState}
+use Rattle.wires.specs.declared.Wires.{Wires}
+use Rattle.circuit_run.specs.declared.Ran.{Ran}
+use Rattle.answers.specs.declared.CircuitBlock.{CircuitBlock}
+use Rattle.answers.specs.Structs.{givenBlock, refusedBlock}
+
+-- each wire of a list is asked for 1 (true) or for 0 (false)
+abbrev pub allHold : Bool → List ℕ → State → Bool
+allHold true l s = allOne l s
+allHold false l s = allZero l s
+
+-- the wires count only where the run ended
+abbrev pub endedAs : Bool → Wires → Option Wires
+endedAs true wires = some wires
+endedAs false wires = none
+
+abbrev pub seen : Ran → Option Wires
+seen r = endedAs (r .ended) (r .wires)
+
+-- gates that were read act on the wires in order; "no byte is left"
+unfoldable pub ranOf : Wires → Parsed (List Gate) → Option Wires
+ranOf wires (parsed gs i) = endedAs (eqb (length (i .bytes)) 0) (inState (acts gs (stateIn (wires .bits))) wires)
+ranOf wires (refused k) = none
+
+-- "13 a start word with a bit at n or above"
+abbrev pub lowAnswer : Bool → Wires → CircuitBlock
+lowAnswer true wires = givenBlock (wires .«data») (wires .ancillas) (wires .bits)
+lowAnswer false wires = refusedBlock highBit
+
+-- "Reading a circuit gives 14 before 13."
+unfoldable pub endAnswer : ℕ → Option Wires → CircuitBlock
+endAnswer word none = refusedBlock notWellFormed
+endAnswer word (some wires) = lowAnswer (ltb word (2 ^ (wires .«data»))) wires

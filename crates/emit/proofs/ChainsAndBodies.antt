@@ -1,0 +1,418 @@
+-- The ways out of the walkers over chains: a call, the bodies of a chain, one body around those that follow it.
+use mathlib.Core.Path.{_≡_, refl, sym, ap, _∙_}
+use mathlib.Core.Bool.{Bool}
+use mathlib.Core.List.{List, [], _∷_, _++_, reverse, append-assoc}
+use Prim.Native.Nat.{ℕ, zero, suc, _+_, _-_, _≤_, _<_}
+use native.Mathlib.Nat.{le-refl}
+use native.Mathlib.Omega.{arith}
+use borrow.Author.Needs.{needs}
+use borrow.Author.Tests.{lt-ltb, le-ltb, eqb-true, ne-eqb}
+use lib.ListN.{length}
+use lib.Dec.{eqb}
+use Rattle.limits.specs.Sizes.{rootsAt, wireCount, slotsLength}
+use Rattle.model.specs.Limits.{mostWires, mostDepth, mostCircuit}
+use Rattle.model.specs.Syntax.{Program, body}
+use Rattle.model.specs.Lists.{member}
+use Rattle.model.specs.Reach.{recursive}
+use Rattle.model.specs.Gates.{Controls, asking, insert, Gate, flip}
+use Rattle.model.specs.Emission.{
+  Event, places, frees, Chains, startChain, Invocation, invocation, invoked, invokes, left, right, under, allEntryGates, Emitted, bodyInvocations,
+  around, bodies, bodiesFrom, chainsWithin,
+}
+use Rattle.model.specs.Circuit.{encode}
+use Rattle.model.specs.Answers.{usable}
+use Rattle.model.proofs.BooleanLaws.{byBool, byLt, byEq, not-zero, not-below}
+use Rattle.model.proofs.ReachAndRank.{body-out}
+use Rattle.agreement.proofs.AncillaStack.{only-reverse, entries-only, bodies-stacked, bodiesFrom-stacked, chains-stacked}
+use Rattle.table.specs.Index.{startOf, statementAt, programAt}
+use Rattle.reach.proofs.MatrixOfAProgram.{count-at, body-at}
+use Rattle.step.proofs.StatementAtARecord.{spent-skip}
+use Rattle.events.specs.declared.Emit.{Emit}
+use Rattle.events.specs.Scan.{Seen, seen, emitOf, freed, placed, stored, scan, slotProcedure, slotList, wireOf, slotOf, heldIn}
+use Rattle.events.specs.Slots.{appears, seekOf}
+use Rattle.events.specs.FollowedEvents.{Follows, Opens, Invokes}
+use Rattle.emit.specs.WalkPromises.{
+  Ready, Roomy, bodyDepth, chainsIn, bodiesUpTo, leftOf, rightOf, SeenIn, Call, walks-call, Left, Right, Fore, walks-fore, Back, walks-back, Bodies,
+  walks-bodies, Rest, walks-rest, Inner, walks-inner, Body, walks-body,
+}
+use Rattle.events.proofs.ScanOfEvents.{scan-append, scan-stopped, scan-places, scan-no-gate, scan-many, scan-frees, nextAfter, stacked-after}
+use Rattle.events.proofs.EntryGates.{scan-nothing}
+use Rattle.events.proofs.ConsecutiveWalks.{
+  gates-next, follows-none, follows-stopped, follows-gates, follows-next, follows-if, follows-as, follows-append, slot-kept, held-kept, appears-kept,
+  held-append,
+}
+use Rattle.emit.proofs.WalkPreconditions.{ready-then}
+use Rattle.emit.proofs.WholeStatement.{left-next}
+use Rattle.emit.proofs.LeftPart.{was-ok, use-left, use-invokes}
+use Rattle.emit.proofs.RightPart.{use-right}
+use Rattle.emit.proofs.NextBody.{seek-low, seek-none, seek-found}
+
+-- the bodies of a chain: where they end, and the whole of them
+module _ (bs ix : List ℕ) (p k : ℕ) where
+  pub bodies-next : (n : ℕ) (known : List ℕ) (calls all : List Invocation) (next : ℕ) → 0 < next →
+      nextAfter next (bodiesUpTo bs ix p k n known calls all next .events) ≡ bodiesUpTo bs ix p k n known calls all next .next
+  unfolding bodiesUpTo nextAfter
+  bodies-next zero known calls all next h = refl
+  bodies-next (suc n) known calls all next h =
+    let P = programAt p bs ix in
+    let ch = chainsIn bs ix p k in
+    let C = chains-stacked 0 P k in
+    let out = bodies P ch (suc n) (bodiesFrom P ch n) known calls all next in
+    stacked-after 0 next (out .next) (out .events)
+      (bodies-stacked 0 P ch C (suc n) (bodiesFrom P ch n) (bodiesFrom-stacked 0 P ch C n) known calls all next h .0)
+
+  pub bodies-all : (n : ℕ) (all : List Invocation) (next : ℕ) →
+      bodiesUpTo bs ix p k n [] all all next ≡ bodiesFrom (programAt p bs ix) (chainsIn bs ix p k) n all next
+  unfolding bodiesUpTo bodiesFrom
+  bodies-all zero all next = refl
+  bodies-all (suc n) all next = refl
+
+-- no slot, no procedure
+pub none-seen : (ws : List ℕ) (base n : ℕ) → SeenIn ws base n base []
+unfolding appears member
+none-seen ws base n f = let e : base - base ≡ 0 = omega arith in rw e
+
+module _ {bs ix m : List ℕ} {p k : ℕ} {write : Bool} {st : Emit} {room ws : List ℕ} {r : Emit} {room₁ ws₁ : List ℕ} where
+  use-fore : {d : ℕ} → Fore bs ix m p k write st room ws r room₁ ws₁ d → Ready bs ix m p st ws → d ≤ mostWires →
+      Opens write (leftOf bs ix p k (slotOf ws d) (st .next)) (bodyInvocations (programAt p bs ix) (chainsIn bs ix p k) (slotOf ws d) (st .next))
+        st room ws r room₁ ws₁
+  use-fore (walks-fore g) = g
+
+  use-back : {d first : ℕ} → Back bs ix m p k write st room ws r room₁ ws₁ d first → Ready bs ix m p st ws → d ≤ mostWires →
+      (st .status ≡ 0 → first + length (bodyInvocations (programAt p bs ix) (chainsIn bs ix p k) (slotOf ws d) first) ≤ wireCount) →
+      Follows write (rightOf bs ix p k (slotOf ws d) first (st .next)) st room ws r room₁ ws₁
+  use-back (walks-back g) = g
+
+  pub use-bodies : {base n j upto : ℕ} → Bodies bs ix m p k write st room ws r room₁ ws₁ base n j upto → Ready bs ix m p st ws → base ≤ j →
+      upto ≤ st .next → base ≤ st .next → (known : List ℕ) → SeenIn ws base n j known →
+      Follows write (bodiesUpTo bs ix p k n known (heldIn ws j (upto - j)) (heldIn ws base (st .next - base)) (st .next) .events) st room ws r room₁ ws₁
+  use-bodies (walks-bodies g) = g
+
+  use-body : {base n d upto : ℕ} → Body bs ix m p k write st room ws r room₁ ws₁ base n d upto → Ready bs ix m p st ws → base ≤ d → d < upto →
+      upto ≤ st .next → (known : List ℕ) → SeenIn ws base n (d + 1) known →
+      Follows write
+        (let news = bodyInvocations (programAt p bs ix) (chainsIn bs ix p k) (slotOf ws d) (st .next) in
+          around (programAt p bs ix) (chainsIn bs ix p k) (slotOf ws d) (heldIn ws (d + 1) (upto - (d + 1))) (st .next)
+            (bodiesUpTo bs ix p k n known (heldIn ws (d + 1) (upto - (d + 1))) (heldIn ws base (st .next - base) ++ news)
+              (st .next + length news)) .events)
+        st room ws r room₁ ws₁
+  use-body (walks-body g) = g
+
+-- the bodies of length n by the slot that is found
+module _ (bs ix : List ℕ) (p k : ℕ) (ws : List ℕ) (base n j upto : ℕ) where
+  no-bodies : (known : List ℕ) (calls all : List Invocation) (next : ℕ) → n ≡ 0 → [] ≡ bodiesUpTo bs ix p k n known calls all next .events
+  unfolding bodiesUpTo
+  no-bodies known calls all next e = rw e
+
+  up-found : (v d : ℕ) → v ≡ n → (n ≡ 0 → ⊥) → base ≤ j → (known : List ℕ) → SeenIn ws base n j known → (all : List Invocation) (next : ℕ) →
+      d ≡ seekOf ws base n j (upto - j) → d < upto →
+      (bodiesUpTo bs ix p k v known (heldIn ws j (upto - j)) all next ≡
+        around (programAt p bs ix) (chainsIn bs ix p k) (slotOf ws d) (heldIn ws (d + 1) (upto - (d + 1))) next
+          (bodiesUpTo bs ix p k v (slotProcedure ws d ∷ known) (heldIn ws (d + 1) (upto - (d + 1)))
+            (all ++ bodyInvocations (programAt p bs ix) (chainsIn bs ix p k) (slotOf ws d) next)
+            (next + length (bodyInvocations (programAt p bs ix) (chainsIn bs ix p k) (slotOf ws d) next))))
+      × SeenIn ws base n (d + 1) (slotProcedure ws d ∷ known)
+  unfolding bodiesUpTo
+  up-found zero d q nz le known S all next e h = absurd (nz (sym q))
+  up-found (suc v) d q nz le known S all next e h =
+    let low = seek-low ws base n j (upto - j) in
+    let end : j + (upto - j) - (d + 1) ≡ upto - (d + 1) = omega arith in
+    let t = seek-found (programAt p bs ix) (chainsIn bs ix p k) ws base n (bodiesFrom (programAt p bs ix) (chainsIn bs ix p k) v) known all next j (upto - j) d
+          le S e (omega arith) in
+    (rw (q, ← end) (t .0), t .1)
+
+  up-none : (v d : ℕ) → v ≡ n → (n ≡ 0 → ⊥) → base ≤ j → (known : List ℕ) → SeenIn ws base n j known → (all : List Invocation) (next : ℕ) →
+      d ≡ seekOf ws base n j (upto - j) → upto ≤ d →
+      bodiesUpTo bs ix p k v known (heldIn ws j (upto - j)) all next ≡ bodiesFrom (programAt p bs ix) (chainsIn bs ix p k) (v - 1) all next
+  unfolding bodiesUpTo
+  up-none zero d q nz le known S all next e h = absurd (nz (sym q))
+  up-none (suc v) d q nz le known S all next e h =
+    let low = seek-low ws base n j (upto - j) in
+    let less : suc v - 1 ≡ v = omega arith in
+    rw (less, q) (seek-none (programAt p bs ix) (chainsIn bs ix p k) ws base n
+      (bodiesFrom (programAt p bs ix) (chainsIn bs ix p k) v) known all next j (upto - j)
+      le S (omega arith))
+
+-- the ways out of `emit_bodies`
+module _ {bs ix m : List ℕ} {p k : ℕ} {write : Bool} {st : Emit} {room ws : List ℕ} {base n j upto : ℕ} where
+  pub bodies-stopped : (st .status ≡ 0 → ⊥) → Bodies bs ix m p k write st room ws st room ws base n j upto
+  bodies-stopped h = walks-bodies (λ R a b c known S. follows-stopped write _ st room ws h)
+
+  pub bodies-empty : n ≡ 0 → Bodies bs ix m p k write st room ws st room ws base n j upto
+  bodies-empty e = walks-bodies (λ R a b c known S. follows-as write
+    (no-bodies bs ix p k ws base n j upto known _ _ (st .next) e) (follows-none write st room ws))
+
+  module _ {r : Emit} {room₁ ws₁ : List ℕ} where
+    pub bodies-found : {d : ℕ} → (n ≡ 0 → ⊥) → d ≡ seekOf ws base n j (upto - j) → d < upto →
+        Body bs ix m p k write st room ws r room₁ ws₁ base n d upto → Bodies bs ix m p k write st room ws r room₁ ws₁ base n j upto
+    bodies-found {d = d} nz e h A = walks-bodies (λ R le top over known S.
+      let low = seek-low ws base n j (upto - j) in
+      let t = up-found bs ix p k ws base n j upto n d refl nz le known S (heldIn ws base (st .next - base)) (st .next) e h in
+      follows-as write (sym (ap (λ (o : Emitted). o .events) (t .0))) (use-body A R (omega arith) h top (slotProcedure ws d ∷ known) (t .1)))
+
+    pub bodies-on : {d : ℕ} → (n ≡ 0 → ⊥) → d ≡ seekOf ws base n j (upto - j) → upto ≤ d →
+        Bodies bs ix m p k write st room ws r room₁ ws₁ base (n - 1) base (st .next) → Bodies bs ix m p k write st room ws r room₁ ws₁ base n j upto
+    bodies-on {d = d} nz e h A = walks-bodies (λ R le top over known S.
+      let all = heldIn ws base (st .next - base) in
+      follows-as write
+        (ap (λ (o : Emitted). o .events) (bodies-all bs ix p k (n - 1) all (st .next) ∙
+          sym (up-none bs ix p k ws base n j upto n d refl nz le known S all (st .next) e h)))
+        (use-bodies A R (le-refl base) (le-refl (st .next)) over [] (none-seen ws base (n - 1))))
+
+-- the ways out of `emit_rest`: the bodies that follow and the right part
+module _ {bs ix m : List ℕ} {p k : ℕ} {write : Bool} {st : Emit} {room ws : List ℕ} {base n d upto first : ℕ} where
+  pub rest-past : upto ≤ d → Rest bs ix m p k write st room ws st room ws base n d upto first
+  rest-past h = walks-rest (λ R le lt top over Q known S. not-below d upto h lt)
+
+  pub rest-walk : {a : Emit} {room₁ ws₁ : List ℕ} {b : Emit} {room₂ ws₂ : List ℕ} → d < upto →
+      Bodies bs ix m p k write st room ws a room₁ ws₁ base n (d + 1) upto → Back bs ix m p k write a room₁ ws₁ b room₂ ws₂ d first →
+      Rest bs ix m p k write st room ws b room₂ ws₂ base n d upto first
+  rest-walk {a = a} {ws₁ = ws₁} h A B = walks-rest (λ R le lt top over Q known S.
+    let F = use-bodies A R (omega arith) (omega arith) (omega arith) known S in
+    let slot : slotOf ws₁ d ≡ slotOf ws d = slot-kept ws ws₁ (st .next) (F .kept) d (omega arith) in
+    let small = R .low in
+    let G = use-back B (ready-then R F) (omega arith) (λ ok. rw slot (Q (was-ok F ok))) in
+    let later = heldIn ws (d + 1) (upto - (d + 1)) in
+    let all = heldIn ws base (st .next - base) in
+    follows-append write F (follows-if write
+      (λ ok. rw (slot, follows-next write F ok ∙ bodies-next bs ix p k n known later all (st .next) (R .some))) G))
+
+-- the ways out of `emit_inner`: the left part, then the rest
+module _ {bs ix m : List ℕ} {p k : ℕ} {write : Bool} {st : Emit} {room ws : List ℕ} {base n d upto : ℕ} where
+  use-rest : {first : ℕ} {r : Emit} {room₁ ws₁ : List ℕ} → Rest bs ix m p k write st room ws r room₁ ws₁ base n d upto first →
+      Ready bs ix m p st ws → base ≤ d → d < upto → upto ≤ first → first ≤ st .next →
+      (st .status ≡ 0 → first + length (bodyInvocations (programAt p bs ix) (chainsIn bs ix p k) (slotOf ws d) first) ≤ wireCount) →
+      (known : List ℕ) → SeenIn ws base n (d + 1) known →
+      Follows write
+        (let inner = bodiesUpTo bs ix p k n known (heldIn ws (d + 1) (upto - (d + 1))) (heldIn ws base (st .next - base)) (st .next) in
+          inner .events ++ rightOf bs ix p k (slotOf ws d) first (inner .next)) st room ws r room₁ ws₁
+  use-rest (walks-rest g) = g
+
+module _ {bs ix m : List ℕ} {p k : ℕ} {write : Bool} {st : Emit} {room ws : List ℕ} {base n d upto : ℕ} where
+  pub inner-walk : {a : Emit} {room₁ ws₁ : List ℕ} {b : Emit} {room₂ ws₂ : List ℕ} → Fore bs ix m p k write st room ws a room₁ ws₁ d →
+      Rest bs ix m p k write a room₁ ws₁ b room₂ ws₂ base n d upto (st .next) → Inner bs ix m p k write st room ws b room₂ ws₂ base n d upto
+  inner-walk {a = a} {ws₁ = ws₁} A B = walks-inner (λ R le lt top known S.
+    let P = programAt p bs ix in
+    let ch = chainsIn bs ix p k in
+    let s = slotOf ws d in
+    let small = R .low in
+    let O = use-fore A R (omega arith) in
+    let F = O .follows in
+    let news = bodyInvocations P ch s (st .next) in
+    let slot : slotOf ws₁ d ≡ s = slot-kept ws ws₁ (st .next) (F .kept) d (omega arith) in
+    let later : heldIn ws₁ (d + 1) (upto - (d + 1)) ≡ heldIn ws (d + 1) (upto - (d + 1)) =
+          held-kept ws ws₁ (st .next) (F .kept) (d + 1) (upto - (d + 1)) (omega arith) in
+    let up : a .status ≡ 0 → a .next ≡ st .next + length news = λ ok. follows-next write F ok
+          ∙ left-next bs ix p k (recursive P (s .procedure)) (body P (s .procedure)) (s .list) (under (s .ancilla)) (st .next) (R .some) in
+    let seen₁ : SeenIn ws₁ base n (d + 1) known = λ f. S f ∙ sym (appears-kept ws ws₁ (st .next) (F .kept) base (d + 1 - base) f n (omega arith)) in
+    let R₁ = ready-then R F in
+    let all : a .status ≡ 0 → heldIn ws₁ base (a .next - base) ≡ heldIn ws base (st .next - base) ++ news = λ ok.
+          let e : a .next - base ≡ (st .next - base) + length news = let z = up ok in omega arith in
+          let w : base + (st .next - base) ≡ st .next = omega arith in
+          rw (e, held-append ws₁ base (st .next - base) (length news), w, O .held ok,
+            held-kept ws ws₁ (st .next) (F .kept) base (st .next - base) (omega arith)) in
+    let G = use-rest B R₁ le lt top (F .rises) (λ ok. rw slot (let z = up ok in let l = R₁ .low in omega arith)) known seen₁ in
+    follows-append write F (follows-if write (λ ok. rw (slot, later, all ok, up ok)) G))
+
+  use-inner : {r : Emit} {room₁ ws₁ : List ℕ} → Inner bs ix m p k write st room ws r room₁ ws₁ base n d upto →
+      Ready bs ix m p st ws → base ≤ d → d < upto → upto ≤ st .next → (known : List ℕ) → SeenIn ws base n (d + 1) known →
+      Follows write
+        (let news = bodyInvocations (programAt p bs ix) (chainsIn bs ix p k) (slotOf ws d) (st .next) in
+          let inner = bodiesUpTo bs ix p k n known (heldIn ws (d + 1) (upto - (d + 1))) (heldIn ws base (st .next - base) ++ news)
+            (st .next + length news) in
+          leftOf bs ix p k (slotOf ws d) (st .next) ++ (inner .events ++ rightOf bs ix p k (slotOf ws d) (st .next) (inner .next)))
+        st room ws r room₁ ws₁
+  use-inner (walks-inner g) = g
+
+-- the ways out of `emit_body`: entry gates, what is inside them, entry gates reversed
+module _ {bs ix m : List ℕ} {p k : ℕ} {write : Bool} {st : Emit} {room ws : List ℕ} {base n d upto : ℕ} where
+  pub body-past : upto ≤ d → Body bs ix m p k write st room ws st room ws base n d upto
+  body-past h = walks-body (λ R le lt top known S. not-below d upto h lt)
+
+around-is : (P : Program) (ch : Chains) (d : Invocation) (later : List Invocation) (next : ℕ) (inner : Emitted) →
+    allEntryGates d later ++
+      ((left ch (recursive P (d .procedure)) (body P (d .procedure)) (d .list) (under (d .ancilla)) next
+        ++ (inner .events ++ right ch (recursive P (d .procedure)) (body P (d .procedure)) (d .list) (under (d .ancilla)) next (inner .next)))
+      ++ reverse (allEntryGates d later)) ≡ around P ch d later next inner .events
+unfolding around
+around-is P ch d later next inner =
+    let L = left ch (recursive P (d .procedure)) (body P (d .procedure)) (d .list) (under (d .ancilla)) next in
+    let Q = right ch (recursive P (d .procedure)) (body P (d .procedure)) (d .list) (under (d .ancilla)) next (inner .next) in
+    let E = reverse (allEntryGates d later) in
+    rw (append-assoc L (inner .events ++ Q) E, append-assoc (inner .events) Q E)
+
+module _ {bs ix m : List ℕ} {p k : ℕ} {write : Bool} {st : Emit} {room ws : List ℕ} {base n d upto : ℕ} where
+  pub body-walk : {a : Emit} {room₁ : List ℕ} {b : Emit} {room₂ ws₂ : List ℕ} {r : Emit} {room₃ : List ℕ} → d < upto →
+      seen a room₁ ≡ scan write (allEntryGates (slotOf ws d) (heldIn ws (d + 1) (upto - (d + 1)))) (seen st room) →
+      Inner bs ix m p k write a room₁ ws b room₂ ws₂ base n d upto →
+      seen r room₃ ≡ scan write (reverse (allEntryGates (slotOf ws₂ d) (heldIn ws₂ (d + 1) (upto - (d + 1))))) (seen b room₂) →
+      Body bs ix m p k write st room ws r room₃ ws₂ base n d upto
+  body-walk {a = a} {room₁ = room₁} {b = b} {room₂ = room₂} {ws₂ = ws₂} {r = r} {room₃ = room₃} h e A q = walks-body (λ R le lt top known S.
+    let s = slotOf ws d in
+    let later = heldIn ws (d + 1) (upto - (d + 1)) in
+    let E = allEntryGates s later in
+    let only = entries-only s later in
+    let same : a .next ≡ st .next = ap (λ (x : Seen). emitOf x .next) e ∙ gates-next write E st room only in
+    let F = follows-gates write E st room ws a room₁ only e in
+    let G = use-inner A (ready-then R F) le lt (omega arith) known S in
+    let slot : slotOf ws₂ d ≡ s = slot-kept ws ws₂ (a .next) (G .kept) d (omega arith) in
+    let held : heldIn ws₂ (d + 1) (upto - (d + 1)) ≡ later = held-kept ws ws₂ (a .next) (G .kept) (d + 1) (upto - (d + 1)) (omega arith) in
+    let H = follows-gates write (reverse E) b room₂ ws₂ r room₃ (only-reverse E only) (rw (slot, held) at q) in
+    let news = bodyInvocations (programAt p bs ix) (chainsIn bs ix p k) s (st .next) in
+    let inner = bodiesUpTo bs ix p k n known later (heldIn ws base (st .next - base) ++ news) (st .next + length news) in
+    let G₁ : Follows write (leftOf bs ix p k s (st .next) ++ (inner .events ++ rightOf bs ix p k s (st .next) (inner .next))) a room₁ ws b room₂ ws₂ =
+          follows-as write (rw same) G in
+    follows-as write (around-is (programAt p bs ix) (chainsIn bs ix p k) s later (st .next) inner) (follows-append write F (follows-append write G₁ H)))
+
+-- the body of f by its record
+body-is : (p : ℕ) (bs ix : List ℕ) (f i depth : ℕ) → i ≡ startOf ix (rootsAt + f) → depth ≡ bodyDepth p f → statementAt p bs ix depth i ≡ body (programAt p bs ix) f
+body-is p bs ix f i depth at deep = byLt p f
+    (λ lt. let none : depth ≡ 0 = deep ∙ rw (lt-ltb p f lt) in
+      spent-skip p bs ix depth i none ∙ sym (body-out (programAt p bs ix) f (rw (count-at p bs ix) lt)))
+    (λ le. let all : depth ≡ mostDepth = deep ∙ rw (le-ltb p f le) in rw (all, at) (sym (body-at p bs ix f le)))
+
+under-roomy : (p f depth w : ℕ) (cs : Controls) → depth ≡ bodyDepth p f → cs ≡ under w → Roomy depth cs
+unfolding asking insert
+under-roomy p f depth w cs deep e = byLt p f
+    (λ lt. let none : depth ≡ 0 = deep ∙ rw (lt-ltb p f lt) in rw e (record { ones = omega arith; zeros = omega arith }))
+    (λ le. let all : depth ≡ mostDepth = deep ∙ rw (le-ltb p f le) in rw e (record { ones = omega arith; zeros = omega arith }))
+
+-- the ways out of `emit_fore` and `emit_back`
+module _ {bs ix m : List ℕ} {p k : ℕ} {write : Bool} {st : Emit} {room ws : List ℕ} {d : ℕ} {r : Emit} {room₁ ws₁ : List ℕ} {f i depth w : ℕ} {l : List ℕ}
+    {cs : Controls} (is-f : f ≡ slotProcedure ws d) (is-l : l ≡ slotList ws d) (at : i ≡ startOf ix (rootsAt + f)) (deep : depth ≡ bodyDepth p f)
+    (is-w : w ≡ wireOf d) (is-cs : cs ≡ under w) where
+  pub fore-walk : Left bs ix m p k write st room ws r room₁ ws₁ f i depth l cs → Fore bs ix m p k write st room ws r room₁ ws₁ d
+  unfolding slotOf
+  fore-walk A = walks-fore (λ R h.
+    let O = use-left A R (under-roomy p f depth w cs deep is-cs) in
+    rw (body-is p bs ix f i depth at deep, is-f, is-l, is-cs, is-w) at O)
+
+  pub back-walk : {first : ℕ} → Right bs ix m p k write st room ws r room₁ ws₁ f i depth l cs first → Back bs ix m p k write st room ws r room₁ ws₁ d first
+  unfolding slotOf
+  back-walk {first = first} A = walks-back (λ R h Q.
+    let F = use-right A R (under-roomy p f depth w cs deep is-cs) (λ ok. rw (body-is p bs ix f i depth at deep, is-f, is-l) (Q ok)) in
+    rw (body-is p bs ix f i depth at deep, is-f, is-l, is-cs, is-w) at F)
+
+-- a chain's end: its first ancilla is flipped back, and all its ancillas are given back
+finish-between : (write : Bool) (g : Gate) (a : ℕ) (b : Emit) (room : List ℕ) → a ≤ b .next →
+    (a ≤ emitOf (scan write (places g ∷ frees a ∷ []) (seen b room)) .next) × (emitOf (scan write (places g ∷ frees a ∷ []) (seen b room)) .next ≤ b .next)
+finish-between write g a b room h = byBool (eqb (b .status) 0)
+    (λ z. let ok = eqb-true (b .status) 0 z in byLt (usable (length room)) (b .used + length (encode g))
+      (λ lt. rw (scan-no-gate write (frees a ∷ []) b room ok g lt) (h, le-refl (b .next)))
+      (λ le. byLt (b .gates) mostCircuit
+        (λ few. rw (scan-places write (frees a ∷ []) b room ok g le few,
+            scan-frees write [] (placed b (length (encode g))) (stored write room (b .used) (encode g)) refl a,
+            ← scan-nothing write (seen (freed (placed b (length (encode g))) a) (stored write room (b .used) (encode g)))) (le-refl a, h))
+        (λ many. rw (scan-many write (frees a ∷ []) b room ok g many) (h, le-refl (b .next)))))
+    (λ z. rw (scan-stopped write (places g ∷ frees a ∷ []) b room z) (h, le-refl (b .next)))
+
+follows-finish : {write : Bool} {xs : List Event} {st : Emit} {room ws : List ℕ} {b : Emit} {room₁ ws₁ : List ℕ} {r : Emit} {room₂ : List ℕ} (g h : Gate) →
+    Follows write xs st room ws b room₁ ws₁ → (b .status ≡ 0 → g ≡ h) →
+    seen r room₂ ≡ scan write (places g ∷ frees (st .next) ∷ []) (seen b room₁) →
+    Follows write (xs ++ (places h ∷ frees (st .next) ∷ [])) st room ws r room₂ ws₁
+follows-finish {write = write} {xs = xs} {st = st} {room = room} {b = b} {room₁ = room₁} {r = r} {room₂ = room₂} g h F w e =
+    let t = finish-between write g (st .next) b room₁ (F .rises) in
+    let n : r .next ≡ emitOf (scan write (places g ∷ frees (st .next) ∷ []) (seen b room₁)) .next = ap (λ (x : Seen). emitOf x .next) e in
+    let e₁ : seen r room₂ ≡ scan write (places h ∷ frees (st .next) ∷ []) (seen b room₁) = byEq (b .status) 0
+          (λ z. e ∙ ap (λ (v : Gate). scan write (places v ∷ frees (st .next) ∷ []) (seen b room₁)) (w z))
+          (λ z. e ∙ scan-stopped write _ b room₁ (ne-eqb (b .status) 0 z) ∙ sym (scan-stopped write _ b room₁ (ne-eqb (b .status) 0 z))) in
+    record {
+      scanned = e₁ ∙ ap (scan write (places h ∷ frees (st .next) ∷ [])) (F .scanned)
+        ∙ sym (scan-append write xs (places h ∷ frees (st .next) ∷ []) (seen st room));
+      long = F .long;
+      rises = rw n (t .0);
+      low = λ k. let a = F .low k in let c = t .1 in rw n (omega arith);
+      kept = F .kept }
+
+start-is : (ch : Chains) (f : ℕ) (l : List ℕ) (cs : Controls) (next : ℕ) → (length l ≡ 0 → ⊥) →
+    (invokes l cs next ++ (ch f l next ++ (places (flip cs next) ∷ frees next ∷ []))) ≡ startChain ch f l cs next
+unfolding startChain invokes
+start-is ch f [] cs next h = absurd (h refl)
+start-is ch f (q ∷ l) cs next h = refl
+
+no-start : (ch : Chains) (f : ℕ) (l : List ℕ) (cs : Controls) (next : ℕ) → length l ≡ 0 → [] ≡ startChain ch f l cs next
+unfolding startChain
+no-start ch f [] cs next e = refl
+no-start ch f (q ∷ l) cs next e = absurd (not-zero (length l) e)
+
+-- an invocation takes one wire
+one-more : (f : ℕ) (l : List ℕ) (cs : Controls) (next : ℕ) → (length l ≡ 0 → ⊥) →
+    (nextAfter next (invokes l cs next) ≡ next + 1) × (invoked f l next ≡ invocation f l next ∷ [])
+unfolding invokes invoked nextAfter
+one-more f [] cs next h = absurd (h refl)
+one-more f (q ∷ l) cs next h = (refl, refl)
+
+chain-none : (P : Program) (k f : ℕ) (l : List ℕ) (a : ℕ) → k ≡ 0 → [] ≡ chainsWithin P k f l a
+unfolding chainsWithin
+chain-none P k f l a e = rw e
+
+chain-is : (P : Program) (k f : ℕ) (l : List ℕ) (a : ℕ) → (k ≡ 0 → ⊥) →
+    bodiesFrom P (chainsWithin P (k - 1)) (length l) (invocation f l a ∷ []) (suc a) .events ≡ chainsWithin P k f l a
+unfolding chainsWithin
+chain-is P zero f l a h = absurd (h refl)
+chain-is P (suc k) f l a h = let e : suc k - 1 ≡ k = omega arith in rw e
+
+-- an ancilla that was taken is a wire
+taken-low : {f : ℕ} {l : List ℕ} {cs : Controls} {write : Bool} {st : Emit} {room ws : List ℕ} {a : Emit} {room₁ ws₁ : List ℕ} →
+    Invokes f l cs write st room ws a room₁ ws₁ → (length l ≡ 0 → ⊥) → slotsLength ≤ length ws → st .next ≤ wireCount → a .status ≡ 0 →
+    (a .next ≡ st .next + 1) × (wireOf (st .next) ≡ st .next)
+taken-low {f = f} {l = l} {cs = cs} {write = write} {st = st} {a = a} A some space small ok =
+    let O = use-invokes A space in
+    let e : a .next ≡ st .next + 1 = follows-next write (O .follows) ok ∙ one-more f l cs (st .next) some .0 in
+    let top = O .follows .low small in
+    let le : st .next ≤ mostWires = omega arith in
+    (e, rw (le-ltb mostWires (st .next) le))
+
+-- the ways out of `emit_call`
+module _ {bs ix m : List ℕ} {p k : ℕ} {write : Bool} {st : Emit} {room ws : List ℕ} {f : ℕ} {l : List ℕ} {cs : Controls} where
+  pub call-stopped : (st .status ≡ 0 → ⊥) → Call bs ix m p k write st room ws st room ws f l cs
+  call-stopped h = walks-call (λ R. follows-stopped write _ st room ws h)
+
+  module _ {n : ℕ} (is : n ≡ length l) where
+    pub call-empty : n ≡ 0 → Call bs ix m p k write st room ws st room ws f l cs
+    call-empty e = walks-call (λ R. follows-as write (no-start (chainsIn bs ix p k) f l cs (st .next) (sym is ∙ e)) (follows-none write st room ws))
+
+    module _ {a : Emit} {room₁ ws₁ : List ℕ} (nz : n ≡ 0 → ⊥) (A : Invokes f l cs write st room ws a room₁ ws₁) where
+      pub call-flat : {r : Emit} {room₂ : List ℕ} → k ≡ 0 →
+          seen r room₂ ≡ scan write (places (flip cs (wireOf (st .next))) ∷ frees (st .next) ∷ []) (seen a room₁) →
+          Call bs ix m p k write st room ws r room₂ ws₁ f l cs
+      call-flat e q = walks-call (λ R.
+        let O = use-invokes A (R .space) in
+        follows-as write
+          (ap (λ (es : List Event). invokes l cs (st .next) ++ (es ++ (places (flip cs (st .next)) ∷ frees (st .next) ∷ [])))
+              (chain-none (programAt p bs ix) k f l (st .next) e)
+            ∙ start-is (chainsIn bs ix p k) f l cs (st .next) (λ e. nz (is ∙ e)))
+          (follows-finish (flip cs (wireOf (st .next))) (flip cs (st .next)) (O .follows)
+            (λ ok. ap (flip cs) (taken-low A (λ e. nz (is ∙ e)) (R .space) (R .low) ok .1)) q))
+
+      pub call-chain : {b : Emit} {room₂ ws₂ : List ℕ} {r : Emit} {room₃ : List ℕ} → (k ≡ 0 → ⊥) →
+          Bodies bs ix m p (k - 1) write a room₁ ws₁ b room₂ ws₂ (st .next) n (st .next) (a .next) →
+          seen r room₃ ≡ scan write (places (flip cs (wireOf (st .next))) ∷ frees (st .next) ∷ []) (seen b room₂) →
+          Call bs ix m p k write st room ws r room₃ ws₂ f l cs
+      call-chain {b = b} {room₂ = room₂} {ws₂ = ws₂} h B q = walks-call (λ R.
+        let P = programAt p bs ix in
+        let some : length l ≡ 0 → ⊥ = λ e. nz (is ∙ e) in
+        let next = st .next in
+        let end = places (flip cs next) ∷ frees next ∷ [] in
+        let O = use-invokes A (R .space) in
+        let F = O .follows in
+        let G = use-bodies B (ready-then R F) (le-refl next) (le-refl (a .next)) (F .rises) [] (none-seen ws₁ next n) in
+        let held : a .status ≡ 0 → heldIn ws₁ next (a .next - next) ≡ invocation f l next ∷ [] = λ ok.
+              let one : a .next - next ≡ length (invoked f l next) = let z = taken-low A some (R .space) (R .low) ok .0 in
+                    rw (one-more f l cs next some .1) (omega arith) in
+              rw one (O .held ok ∙ one-more f l cs next some .1) in
+        let events : a .status ≡ 0 →
+              bodiesUpTo bs ix p (k - 1) n [] (heldIn ws₁ next (a .next - next)) (heldIn ws₁ next (a .next - next)) (a .next) .events
+                ≡ chainsWithin P k f l next = λ ok.
+              let up : a .next ≡ suc next = let z = taken-low A some (R .space) (R .low) ok .0 in omega arith in
+              rw (held ok, up, is) (ap (λ (o : Emitted). o .events) (bodies-all bs ix p (k - 1) (length l) (invocation f l next ∷ []) (suc next))
+                ∙ chain-is P k f l next h) in
+        let both = follows-append write F (follows-if write events G) in
+        follows-as write
+          (append-assoc (invokes l cs next) (chainsWithin P k f l next) end ∙ start-is (chainsIn bs ix p k) f l cs next some)
+          (follows-finish (flip cs (wireOf next)) (flip cs next) both (λ ok. ap (flip cs) (taken-low A some (R .space) (R .low) (was-ok G ok) .1)) q))
+
+pub ruleset chaining = (
+    needs, call-stopped, call-empty, call-flat, call-chain, bodies-stopped, bodies-empty, bodies-found, bodies-on, body-past, body-walk, inner-walk,
+    rest-past, rest-walk, fore-walk, back-walk
+  )

@@ -1,0 +1,137 @@
+-- The next body of a chain: the code seeks the first slot that opens one, the definitions look at the invocations in order.
+use mathlib.Core.Path.{_≡_, refl, sym, _∙_}
+use mathlib.Core.Bool.{Bool, true, false, not, cond, _||_}
+use mathlib.Core.List.{List, _∷_, _++_}
+use Prim.Native.Nat.{ℕ, zero, suc, _+_, _-_, _*_, _≤_, _<_}
+use native.Mathlib.Omega.{arith}
+use borrow.Author.Tests.{eq-eqb, ne-eqb}
+use lib.ListN.{length}
+use lib.Dec.{eqb}
+use Rattle.limits.specs.Sizes.{slotLength}
+use Rattle.model.specs.Syntax.{Program}
+use Rattle.model.specs.Lists.{member}
+use Rattle.model.specs.Emission.{Chains, Invocation, Emitted, bodyInvocations, around, bodies, isFirst}
+use Rattle.model.proofs.BooleanLaws.{byBool, byEq, clash}
+use Rattle.agreement.proofs.EmissionClauses.{bodies-here, bodies-past}
+use Rattle.records.proofs.FieldLaws.{and-cond}
+use Rattle.events.specs.Scan.{slotListLength, slotProcedure, slotOf, heldIn}
+use Rattle.events.specs.Slots.{pairAt, appears, opensAt, seekOf}
+use Rattle.emit.specs.WalkPromises.{SeenIn}
+use Rattle.events.proofs.EntryGates.{bytes-length}
+
+or-none : (a : Bool) → a || false ≡ a
+or-none true = refl
+or-none false = refl
+
+or-done : (a : Bool) → a || true ≡ true
+or-done true = refl
+or-done false = refl
+
+cond-or : (a b : Bool) → cond a true b ≡ a || b
+cond-or true b = refl
+cond-or false b = refl
+
+or-assoc : (a b c : Bool) → (a || b) || c ≡ a || (b || c)
+or-assoc true b c = refl
+or-assoc false b c = refl
+
+-- one slot more
+appears-more : (ws : List ℕ) (a n f m : ℕ) → appears ws a (suc n) f m ≡ appears ws a n f m || pairAt ws (a + n) f m
+unfolding appears
+appears-more ws a zero f m = let e : a + 0 ≡ a = omega arith in rw (e, cond-or (pairAt ws a f m) false) (or-none (pairAt ws a f m))
+appears-more ws a (suc n) f m =
+    let e : a + suc n ≡ a + 1 + n = omega arith in
+    let ih = appears-more ws (a + 1) n f m in
+    rw (e, cond-or (pairAt ws a f m) (appears ws (a + 1) n f m), or-assoc (pairAt ws a f m) (appears ws (a + 1) n f m) (pairAt ws (a + 1 + n) f m), ← ih)
+      (cond-or (pairAt ws a f m) (appears ws (a + 1) (suc n) f m))
+
+module _ (ws : List ℕ) (base m j : ℕ) (le : base ≤ j) where
+  appears-next : (f : ℕ) → appears ws base (j + 1 - base) f m ≡ appears ws base (j - base) f m || pairAt ws j f m
+  appears-next f =
+    let e : j + 1 - base ≡ suc (j - base) = omega arith in
+    let a : base + (j - base) ≡ j = omega arith in
+    rw e (appears-more ws base (j - base) f m ∙ rw a)
+
+  module _ (known : List ℕ) (S : SeenIn ws base m j known) where
+    -- the definitions' test of slot j is the code's
+    opens-is : isFirst m known (slotOf ws j) ≡ opensAt ws base m j
+    unfolding slotOf opensAt
+    opens-is = rw (bytes-length ws (slotLength * j + 2) (slotListLength ws j), S (slotProcedure ws j))
+      (and-cond (eqb (slotListLength ws j) m) (not (appears ws base (j - base) (slotProcedure ws j) m)))
+
+    -- a slot passed over adds no procedure
+    seen-past : opensAt ws base m j ≡ false → SeenIn ws base m (j + 1) known
+    unfolding opensAt pairAt
+    seen-past o f = rw (appears-next f, S f) (byBool (appears ws base (j - base) f m)
+      (λ t. rw t)
+      (λ t. rw t (byEq (slotProcedure ws j) f
+        (λ e. byEq (slotListLength ws j) m
+          (λ q. absurd-case (appears ws base (j - base) f m) t (rw (eq-eqb (slotListLength ws j) m q, e) at o))
+          (λ q. rw (eq-eqb (slotProcedure ws j) f e, ne-eqb (slotListLength ws j) m q)))
+        (λ e. rw (ne-eqb (slotProcedure ws j) f e)))))
+      where
+        absurd-case : {A : Type 0} (b : Bool) → b ≡ false → not b ≡ false → A
+        absurd-case true p q = clash refl p
+        absurd-case false p q = clash refl q
+
+    -- a slot that opens a body adds its procedure
+    seen-here : opensAt ws base m j ≡ true → SeenIn ws base m (j + 1) (slotProcedure ws j ∷ known)
+    unfolding opensAt pairAt member
+    seen-here o f = byEq (slotListLength ws j) m
+      (λ q. rw (appears-next f, S f, eq-eqb (slotListLength ws j) m q) (byEq (slotProcedure ws j) f
+        (λ e. rw (eq-eqb (slotProcedure ws j) f e, eq-eqb f (slotProcedure ws j) (sym e)) (sym (or-done (appears ws base (j - base) f m))))
+        (λ e. rw (ne-eqb (slotProcedure ws j) f e, ne-eqb f (slotProcedure ws j) (λ z. e (sym z))) (sym (or-none (appears ws base (j - base) f m))))))
+      (λ q. clash (rw (ne-eqb (slotListLength ws j) m q) at o) refl)
+
+pub seek-low : (ws : List ℕ) (base m j c : ℕ) → j ≤ seekOf ws base m j c
+unfolding seekOf
+seek-low ws base m j zero = omega arith
+seek-low ws base m j (suc c) = byBool (opensAt ws base m j) (λ o. rw o (omega arith)) (λ o. let h = seek-low ws base m (j + 1) c in rw o (omega arith))
+
+pub seek-le : (ws : List ℕ) (base m j c d : ℕ) → d ≡ seekOf ws base m j c → j ≤ d
+seek-le ws base m j c d e = rw e (seek-low ws base m j c)
+
+module _ (P : Program) (ch : Chains) (ws : List ℕ) (base m : ℕ) (shorter : List Invocation → ℕ → Emitted) (known : List ℕ)
+    (all : List Invocation) (next : ℕ) where
+  -- no slot opens a body: those of shorter lists follow
+  pub seek-none : (j c : ℕ) → base ≤ j → SeenIn ws base m j known → j + c ≤ seekOf ws base m j c →
+      bodies P ch m shorter known (heldIn ws j c) all next ≡ shorter all next
+  unfolding bodies heldIn seekOf
+  seek-none j zero le S h = refl
+  seek-none j (suc c) le S h = byBool (opensAt ws base m j)
+    (λ o. absurd (past j c (rw o at h)))
+    (λ o. bodies-past P ch m shorter known (slotOf ws j) (heldIn ws (j + 1) c) all next (opens-is ws base m j le known S ∙ o)
+      ∙ seek-none (j + 1) c (omega arith) (seen-past ws base m j le known S o) (further j c _ (rw o at h)))
+    where
+      past : (j c : ℕ) → j + suc c ≤ j → ⊥
+      past j c h = omega arith
+      further : (j c d : ℕ) → j + suc c ≤ d → j + 1 + c ≤ d
+      further j c d h = omega arith
+
+  -- slot d opens the next body
+  abbrev pub found-here : ℕ → ℕ → Emitted
+  found-here d rest = around P ch (slotOf ws d) (heldIn ws (d + 1) rest) next
+    (bodies P ch m shorter (slotProcedure ws d ∷ known) (heldIn ws (d + 1) rest) (all ++ bodyInvocations P ch (slotOf ws d) next)
+      (next + length (bodyInvocations P ch (slotOf ws d) next)))
+
+  at-here : (j c : ℕ) → base ≤ j → SeenIn ws base m j known → opensAt ws base m j ≡ true →
+      bodies P ch m shorter known (heldIn ws j (suc c)) all next ≡ found-here j c
+  unfolding heldIn slotOf
+  at-here j c le S o = bodies-here P ch m shorter known (slotOf ws j) (heldIn ws (j + 1) c) all next (opens-is ws base m j le known S ∙ o)
+
+  pub seek-found : (j c d : ℕ) → base ≤ j → SeenIn ws base m j known → d ≡ seekOf ws base m j c → d < j + c →
+      (bodies P ch m shorter known (heldIn ws j c) all next ≡ found-here d (j + c - (d + 1))) × SeenIn ws base m (d + 1) (slotProcedure ws d ∷ known)
+  unfolding heldIn seekOf
+  seek-found j zero d le S e h = absurd (past j d e h)
+    where
+      past : (j d : ℕ) → d ≡ j → d < j + 0 → ⊥
+      past j d e h = omega arith
+  seek-found j (suc c) d le S e h = byBool (opensAt ws base m j)
+    (λ o.
+      let here : d ≡ j = rw o at e in
+      let rest : j + suc c - (j + 1) ≡ c = omega arith in
+      rw (here, rest) (at-here j c le S o, seen-here ws base m j le known S o))
+    (λ o.
+      let end : j + suc c ≡ j + 1 + c = omega arith in
+      let ih = seek-found (j + 1) c d (omega arith) (seen-past ws base m j le known S o) (rw o at e) (omega arith) in
+      (bodies-past P ch m shorter known (slotOf ws j) (heldIn ws (j + 1) c) all next (opens-is ws base m j le known S ∙ o) ∙ ih .0 ∙ rw end, ih .1))

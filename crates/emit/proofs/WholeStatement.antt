@@ -1,0 +1,179 @@
+-- The ways out of the walkers over statements: one law for each, its premises what the calls on that way promise, in their order.
+use mathlib.Core.Path.{_≡_, refl, sym, ap, _∙_, subst}
+use mathlib.Core.Bool.{Bool, true, false, cond}
+use mathlib.Core.List.{List, [], _∷_, _++_}
+use Prim.Native.Nat.{ℕ, suc, _+_, _-_, _<_}
+use native.Mathlib.Omega.{arith}
+use borrow.Author.Needs.{needs}
+use lib.ListN.{length}
+use lib.Dec.{ltb}
+use Rattle.model.specs.Syntax.{Number, Statement, skip, NOT, sequence, qcase, call}
+use Rattle.model.specs.Lists.{remaining, touched, holds}
+use Rattle.model.specs.Gates.{Controls, asking, insert, flip}
+use Rattle.model.specs.Emission.{places, Chains, startChain, whole, invocations, left, right}
+use Rattle.model.proofs.BooleanLaws.{byBool}
+use Rattle.agreement.proofs.AncillaStack.{StackedChains, whole-stacked, left-stacked, right-stacked, chains-stacked}
+use Rattle.agreement.proofs.EmissionClauses.{whole-yes, whole-no}
+use Rattle.circuit.specs.GatesToWrite.{askingWithin}
+use Rattle.records.specs.Fields.{removalsOf}
+use Rattle.table.specs.Index.{testAt, statementAt, programAt}
+use Rattle.step.specs.declared.Step.{Step}
+use Rattle.step.specs.declared.Step.the-variants as step
+use Rattle.step.specs.Steps.{stepAt}
+use Rattle.step.proofs.StatementAtARecord.{Idle, at-step, idle-skip, spent-skip}
+use Rattle.step.proofs.ChosenBranch.{chosen-means}
+use Rattle.events.specs.declared.Emit.{Emit}
+use Rattle.events.specs.Scan.{seen, scan}
+use Rattle.events.specs.FollowedEvents.{Follows}
+use Rattle.emit.specs.WalkPromises.{Ready, Roomy, chainsIn, Whole, walks-whole, Call, walks-call}
+use Rattle.circuit.proofs.ControlInsertion.{asking-takes}
+use Rattle.events.proofs.ScanOfEvents.{nextAfter, stacked-after}
+use Rattle.events.proofs.ConsecutiveWalks.{follows-none, follows-stopped, follows-gates, follows-next, follows-if, follows-as, follows-append}
+use Rattle.emit.proofs.WalkPreconditions.{ready-then}
+
+-- controls within their room
+insert-length : (w : ℕ) (l : List ℕ) → length (insert w l) ≡ suc (length l)
+unfolding insert
+insert-length w [] = refl
+insert-length w (x ∷ l) = byBool (ltb w x) (λ e. rw (e, insert)) (λ e. rw (e, insert) (ap suc (insert-length w l)))
+
+module _ {depth : ℕ} {cs : Controls} (nz : depth ≡ 0 → ⊥) (C : Roomy depth cs) where
+  pub within-is : (w : ℕ) (b : Bool) → askingWithin w b cs ≡ asking w b cs
+  within-is w b = asking-takes w b cs (omega (arith, C .ones)) (omega (arith, C .zeros))
+
+  pub roomy-less : Roomy (depth - 1) cs
+  roomy-less = record { ones = omega (arith, C .ones); zeros = omega (arith, C .zeros) }
+
+  pub roomy-asking : (w : ℕ) (b : Bool) → Roomy (depth - 1) (asking w b cs)
+  unfolding asking
+  roomy-asking w true = record { ones = rw (insert-length w (cs .ones)) (omega (arith, C .ones)); zeros = omega (arith, C .zeros) }
+  roomy-asking w false = record { ones = omega (arith, C .ones); zeros = rw (insert-length w (cs .zeros)) (omega (arith, C .zeros)) }
+
+-- the next wire behind a statement's events
+module _ (bs ix : List ℕ) (p k : ℕ) where
+  stacked : StackedChains 0 (chainsIn bs ix p k)
+  stacked = chains-stacked 0 (programAt p bs ix) k
+
+  pub whole-next : (s : Statement) (l : List ℕ) (cs : Controls) (next : ℕ) → 0 < next → nextAfter next (whole (chainsIn bs ix p k) s l cs next) ≡ next
+  whole-next s l cs next h = stacked-after 0 next next _ (whole-stacked 0 (chainsIn bs ix p k) stacked s l cs next h)
+
+  pub left-next : (r : ℕ → Bool) (s : Statement) (l : List ℕ) (cs : Controls) (next : ℕ) → 0 < next →
+      nextAfter next (left (chainsIn bs ix p k) r s l cs next) ≡ next + length (invocations r s l next)
+  left-next r s l cs next h = stacked-after 0 next _ _ (left-stacked 0 (chainsIn bs ix p k) stacked r s l cs next h)
+
+  pub right-next : (r : ℕ → Bool) (s : Statement) (l : List ℕ) (cs : Controls) (first top : ℕ) → 0 < top →
+      nextAfter top (right (chainsIn bs ix p k) r s l cs first top) ≡ top
+  right-next r s l cs first top h = stacked-after 0 top top _ (right-stacked 0 (chainsIn bs ix p k) stacked r s l cs first top h)
+
+-- a statement emitted whole, by what it is
+module _ (ch : Chains) (l : List ℕ) (cs : Controls) (next : ℕ) (s : Statement) where
+  whole-skip : s ≡ skip → [] ≡ whole ch s l cs next
+  unfolding whole
+  whole-skip e = rw e
+
+  whole-not : {rs : List Number} {a : Number} {q : ℕ} → s ≡ NOT rs a → q ≡ touched rs a l → places (flip cs q) ∷ [] ≡ whole ch s l cs next
+  unfolding whole
+  whole-not e t = rw (e, t)
+
+  whole-pair : {x y : Statement} → s ≡ sequence x y → whole ch x l cs next ++ whole ch y l cs next ≡ whole ch s l cs next
+  unfolding whole
+  whole-pair e = rw e
+
+  whole-case : {rs : List Number} {a : Number} {q : ℕ} {x y : Statement} → s ≡ qcase rs a x y → q ≡ touched rs a l →
+      whole ch x l (asking q false cs) next ++ whole ch y l (asking q true cs) next ≡ whole ch s l cs next
+  unfolding whole
+  whole-case e t = rw (e, t)
+
+  whole-call : {rs : List Number} {f : ℕ} → s ≡ call rs f → startChain ch f (remaining rs l) cs next ≡ whole ch s l cs next
+  unfolding whole
+  whole-call e = rw e
+
+module _ {bs ix m : List ℕ} {p k : ℕ} {write : Bool} {st : Emit} {room ws : List ℕ} {r : Emit} {room₁ ws₁ : List ℕ} where
+  -- what a walk promises
+  pub use-whole : {i depth : ℕ} {l : List ℕ} {cs : Controls} → Whole bs ix m p k write st room ws r room₁ ws₁ i depth l cs →
+      Ready bs ix m p st ws → Roomy depth cs →
+      Follows write (whole (chainsIn bs ix p k) (statementAt p bs ix depth i) l cs (st .next)) st room ws r room₁ ws₁
+  use-whole (walks-whole f) = f
+
+  pub use-call : {f : ℕ} {l : List ℕ} {cs : Controls} → Call bs ix m p k write st room ws r room₁ ws₁ f l cs → Ready bs ix m p st ws →
+      Follows write (startChain (chainsIn bs ix p k) f l cs (st .next)) st room ws r room₁ ws₁
+  use-call (walks-call f) = f
+
+-- two parts whole, one after the other
+module _ (bs ix : List ℕ) (p k : ℕ) (l : List ℕ) (x y : Statement) (cs₁ cs₂ : Controls) where
+  two-parts : {m : List ℕ} {write : Bool} {st : Emit} {room ws : List ℕ} {r : Emit} {room₁ ws₁ : List ℕ} {b : Emit} {room₂ ws₂ : List ℕ} →
+      Ready bs ix m p st ws →
+      Follows write (whole (chainsIn bs ix p k) x l cs₁ (st .next)) st room ws r room₁ ws₁ →
+      Follows write (whole (chainsIn bs ix p k) y l cs₂ (r .next)) r room₁ ws₁ b room₂ ws₂ →
+      Follows write (whole (chainsIn bs ix p k) x l cs₁ (st .next) ++ whole (chainsIn bs ix p k) y l cs₂ (st .next)) st room ws b room₂ ws₂
+  two-parts {write = write} {st = st} R F G = follows-append write F
+    (follows-if write (λ ok. ap (λ (n : ℕ). whole (chainsIn bs ix p k) y l cs₂ n)
+      (follows-next write F ok ∙ whole-next bs ix p k x l cs₁ (st .next) (R .some))) G)
+
+-- the ways out of `emit_whole`
+module _ {bs ix m : List ℕ} {p k : ℕ} {write : Bool} {st : Emit} {room ws : List ℕ} {i depth : ℕ} {l : List ℕ} {cs : Controls} where
+  pub whole-stopped : (st .status ≡ 0 → ⊥) → Whole bs ix m p k write st room ws st room ws i depth l cs
+  whole-stopped f = walks-whole (λ R C. follows-stopped write _ st room ws f)
+
+  pub whole-spent : depth ≡ 0 → Whole bs ix m p k write st room ws st room ws i depth l cs
+  whole-spent e = walks-whole (λ R C. follows-as write
+    (whole-skip (chainsIn bs ix p k) l cs (st .next) (statementAt p bs ix depth i) (spent-skip p bs ix depth i e)) (follows-none write st room ws))
+
+  module _ {found : Step} (nz : depth ≡ 0 → ⊥) (is : found ≡ stepAt p bs ix i l) where
+    whole-skipped : statementAt p bs ix depth i ≡ skip → Whole bs ix m p k write st room ws st room ws i depth l cs
+    whole-skipped e = walks-whole (λ R C. follows-as write
+      (whole-skip (chainsIn bs ix p k) l cs (st .next) (statementAt p bs ix depth i) e) (follows-none write st room ws))
+
+    pub whole-idle : (x : Step) → found ≡ x → Idle x → Whole bs ix m p k write st room ws st room ws i depth l cs
+    whole-idle x e o = whole-skipped (idle-skip p bs ix depth i l nz is x e o)
+
+    module _ {r : Emit} {room₁ : List ℕ} where
+      pub whole-touches : {q : ℕ} → found ≡ step.Touches q → seen r room₁ ≡ scan write (places (flip cs q) ∷ []) (seen st room) →
+          Whole bs ix m p k write st room ws r room₁ ws i depth l cs
+      whole-touches e g = let h = at-step p bs ix depth i l nz is e in
+        walks-whole (λ R C. follows-as write (whole-not (chainsIn bs ix p k) l cs (st .next) (statementAt p bs ix depth i) (h .2) (h .3))
+          (follows-gates write _ st room ws r room₁ tt g))
+
+      module _ {ws₁ : List ℕ} where
+        pub whole-calls : {f at : ℕ} {rest : List ℕ} → found ≡ step.Calls f at → rest ≡ remaining (removalsOf bs at) l →
+            Call bs ix m p k write st room ws r room₁ ws₁ f rest cs → Whole bs ix m p k write st room ws r room₁ ws₁ i depth l cs
+        whole-calls {f = f} {at = at} {rest = rest} e q A = let h = at-step p bs ix depth i l nz is e in
+          walks-whole (λ R C. follows-as write
+            (ap (λ (v : List ℕ). startChain (chainsIn bs ix p k) f v cs (st .next)) q ∙
+              whole-call (chainsIn bs ix p k) l cs (st .next) (statementAt p bs ix depth i) h)
+            (use-call A R))
+
+        pub whole-chosen : {c a b x : ℕ} → found ≡ step.Chooses c a b → x ≡ cond (holds (testAt p bs ix (depth - 1) c) (length l)) a b →
+            Whole bs ix m p k write st room ws r room₁ ws₁ x (depth - 1) l cs → Whole bs ix m p k write st room ws r room₁ ws₁ i depth l cs
+        whole-chosen e q A =
+          let ch = chainsIn bs ix p k in
+          walks-whole (λ R C. follows-as write
+            (sym (chosen-means (λ s. whole ch s l cs (st .next)) l (whole-yes ch l cs (st .next)) (whole-no ch l cs (st .next)) p bs ix depth i nz is e q))
+            (use-whole A R (roomy-less nz C)))
+
+        module _ {b : Emit} {room₂ ws₂ : List ℕ} where
+          pub whole-sequence : {x y : ℕ} → found ≡ step.Sequence x y →
+              Whole bs ix m p k write st room ws r room₁ ws₁ x (depth - 1) l cs → Whole bs ix m p k write r room₁ ws₁ b room₂ ws₂ y (depth - 1) l cs →
+              Whole bs ix m p k write st room ws b room₂ ws₂ i depth l cs
+          whole-sequence {x = x} {y = y} e A B = walks-whole (λ R C.
+            let F = use-whole A R (roomy-less nz C) in
+            follows-as write (whole-pair (chainsIn bs ix p k) l cs (st .next) (statementAt p bs ix depth i) (at-step p bs ix depth i l nz is e))
+              (two-parts bs ix p k l (statementAt p bs ix (depth - 1) x) (statementAt p bs ix (depth - 1) y) cs cs R F
+                (use-whole B (ready-then R F) (roomy-less nz C))))
+
+          pub whole-branches : {q x y : ℕ} {cs₁ cs₂ : Controls} → found ≡ step.Branches q x y → cs₁ ≡ askingWithin q false cs →
+              Whole bs ix m p k write st room ws r room₁ ws₁ x (depth - 1) l cs₁ → cs₂ ≡ askingWithin q true cs →
+              Whole bs ix m p k write r room₁ ws₁ b room₂ ws₂ y (depth - 1) l cs₂ →
+              Whole bs ix m p k write st room ws b room₂ ws₂ i depth l cs
+          whole-branches {q = q} {x = x} {y = y} e c₁ A c₂ B = let h = at-step p bs ix depth i l nz is e in walks-whole (λ R C.
+            let A′ = subst (λ (v : Controls). Whole bs ix m p k write st room ws r room₁ ws₁ x (depth - 1) l v) (c₁ ∙ within-is nz C q false) A in
+            let B′ = subst (λ (v : Controls). Whole bs ix m p k write r room₁ ws₁ b room₂ ws₂ y (depth - 1) l v) (c₂ ∙ within-is nz C q true) B in
+            let F = use-whole A′ R (roomy-asking nz C q false) in
+            follows-as write (whole-case (chainsIn bs ix p k) l cs (st .next) (statementAt p bs ix depth i) (h .2) (h .3))
+              (two-parts bs ix p k l (statementAt p bs ix (depth - 1) x) (statementAt p bs ix (depth - 1) y) (asking q false cs)
+                (asking q true cs) R F (use-whole B′ (ready-then R F) (roomy-asking nz C q true))))
+
+pub ruleset wholes = (
+    needs, whole-stopped, whole-spent, whole-idle, whole-touches, whole-calls, whole-chosen,
+    whole-sequence, whole-branches
+  )

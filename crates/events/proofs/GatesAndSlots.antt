@@ -1,0 +1,281 @@
+-- The ways out of the functions that walk over no statement: gates placed, slots filled and read, the next body sought.
+use mathlib.Core.Path.{_≡_, refl, sym, ap, _∙_}
+use mathlib.Core.Bool.{Bool, true, false, not}
+use mathlib.Core.List.{List, [], _∷_, _++_, map}
+use Prim.Native.Nat.{ℕ, zero, suc, _+_, _-_, _*_, _≤_, _<_, max, min}
+use native.Mathlib.Numerals.{add-one}
+use native.Mathlib.Nat.{le-of-suc-le-suc, not-suc-le-zero}
+use native.Mathlib.Omega.{arith}
+use mir.Syntax.{w64}
+use mir.Val.{Fits}
+use borrow.Author.Needs.{needs}
+use borrow.Author.Tests.{lt-ltb, le-ltb, le-leb, lt-leb, eq-eqb, ne-eqb, leb-true, leb-false}
+use lib.ListN.{length, getD, set, take, drop, length-take, drop-of-length-le, List·getD-eq-default}
+use lib.Seq.{sets, drop-cons, take-suc, take-suc-set, take-all, getD-take}
+use lib.Dec.{eqb, leb}
+use Rattle.limits.specs.Sizes.{slotLength}
+use Rattle.model.specs.Limits.{mostWires, mostQubits, mostCircuit, manyWires, noRoom}
+use Rattle.model.specs.Gates.{Controls, noControls, asking, exchange}
+use Rattle.model.specs.Emission.{Event, places, under}
+use Rattle.model.specs.Circuit.{encode}
+use Rattle.model.specs.Answers.{usable}
+use Rattle.model.proofs.BooleanLaws.{byLt}
+use Rattle.model.proofs.GateLaws.{exchange-left, exchange-right, exchange-other}
+use Rattle.circuit.specs.declared.write.NewGate.{NewGate}
+use Rattle.circuit.specs.GatesToWrite.{gateFrom, insertWithin, askingWithin}
+use Rattle.circuit.proofs.GateBytes.{sets-past}
+use Rattle.step.specs.declared.Qubits.{Qubits}
+use Rattle.step.specs.Steps.{qubitsOf}
+use Rattle.events.specs.declared.Emit.{Emit}
+use Rattle.events.specs.Scan.{Seen, seen, stopped, freed, placed, stored, scan, bytesFrom, slotListLength, slotProcedure, slotList}
+use Rattle.events.specs.Slots.{filled, taking, returned, pairAt, appears, opensAt, seekOf}
+use Rattle.events.proofs.ScanOfEvents.{scan-stopped, scan-places, scan-no-gate, scan-many}
+
+pub ruleset reading = (needs, lt-ltb, le-ltb)
+
+-- the ways out of `in_room`
+module _ (room used n most : ℕ) (is : most ≡ usable room) where
+  pub room-short : most < n → false ≡ leb (used + n) (usable room)
+  room-short h = sym (lt-leb (used + n) (usable room) (omega arith))
+
+  pub room-left : n ≤ most → leb used (most - n) ≡ leb (used + n) (usable room)
+  room-left h = byLt (most - n) used
+    (λ lt. lt-leb used (most - n) lt ∙ sym (lt-leb (used + n) (usable room) (omega arith)))
+    (λ le. le-leb used (most - n) le ∙ sym (le-leb (used + n) (usable room) (omega arith)))
+
+pub ruleset rooms = (needs, room-short, room-left)
+
+-- the ways out of `place`
+pub place-stopped : (write : Bool) (es : List Event) (st : Emit) (room : List ℕ) → (st .status ≡ 0 → ⊥) → seen st room ≡ scan write es (seen st room)
+place-stopped write es st room f = sym (scan-stopped write es st room (ne-eqb (st .status) 0 f))
+
+scan-none : (write : Bool) (x : Seen) → scan write [] x ≡ x
+unfolding scan
+scan-none write x = refl
+
+module _ (write : Bool) (g : NewGate) (st : Emit) (room : List ℕ) (ok : st .status ≡ 0) where
+  pub place-many : (r : Emit) → mostCircuit ≤ st .gates → r ≡ stopped st noRoom → seen r room ≡ scan write (places (gateFrom g) ∷ []) (seen st room)
+  place-many r h e = rw e (sym (scan-many write [] st room ok (gateFrom g) h))
+
+  module _ (n : ℕ) (is : n ≡ length (encode (gateFrom g))) (b : Bool) (fits : b ≡ leb (st .used + n) (usable (length room))) where
+    pub sum-fits : b ≡ true → Fits w64 (st .used + n)
+    sum-fits e = let h = leb-true (st .used + n) (usable (length room)) (sym fits ∙ e) in record { fits = omega arith }
+
+    pub place-no-room : (r : Emit) → b ≡ false → r ≡ stopped st noRoom → seen r room ≡ scan write (places (gateFrom g) ∷ []) (seen st room)
+    place-no-room r e q = rw q (sym (scan-no-gate write [] st room ok (gateFrom g)
+      (leb-false (st .used + length (encode (gateFrom g))) (usable (length room)) (rw (← is) (sym fits ∙ e)))))
+
+    at-place : b ≡ true → st .gates < mostCircuit →
+        seen (placed st n) (stored write room (st .used) (encode (gateFrom g))) ≡ scan write (places (gateFrom g) ∷ []) (seen st room)
+    at-place e h = rw is (sym (scan-places write [] st room ok (gateFrom g)
+      (leb-true (st .used + length (encode (gateFrom g))) (usable (length room)) (rw (← is) (sym fits ∙ e))) h ∙ scan-none write _))
+
+    pub place-written : (after : List ℕ) → b ≡ true → st .gates < mostCircuit → write ≡ true → after ≡ sets room (st .used) (encode (gateFrom g)) →
+        seen (placed st n) after ≡ scan write (places (gateFrom g) ∷ []) (seen st room)
+    place-written after e h w q = rw q (kept write w (at-place e h))
+      where
+        kept : (v : Bool) → v ≡ true → {x : Seen} → seen (placed st n) (stored v room (st .used) (encode (gateFrom g))) ≡ x →
+            seen (placed st n) (sets room (st .used) (encode (gateFrom g))) ≡ x
+        kept v e p = rw e at p
+
+    pub place-measured : b ≡ true → st .gates < mostCircuit → write ≡ false →
+        seen (placed st n) room ≡ scan write (places (gateFrom g) ∷ []) (seen st room)
+    place-measured e h w = kept write w (at-place e h)
+      where
+        kept : (v : Bool) → v ≡ false → {x : Seen} → seen (placed st n) (stored v room (st .used) (encode (gateFrom g))) ≡ x →
+            seen (placed st n) room ≡ x
+        kept v e p = rw e at p
+
+pub ruleset placing = (needs, place-stopped, place-many, sum-fits, place-no-room, place-written, place-measured)
+
+-- the ways out of `give_back`
+pub back-stopped : (a : ℕ) (st : Emit) → (st .status ≡ 0 → ⊥) → st ≡ returned a st
+unfolding returned
+back-stopped a st f = rw (ne-eqb (st .status) 0 f)
+
+pub back-given : (a : ℕ) (st : Emit) → st .status ≡ 0 → freed st a ≡ returned a st
+unfolding returned
+back-given a st e = rw (eq-eqb (st .status) 0 e)
+
+-- the ways out of `take`
+module _ (f : ℕ) (l : List ℕ) (st : Emit) (ws : List ℕ) where
+  pub take-stopped : (st .status ≡ 0 → ⊥) → seen st ws ≡ taking f l st ws
+  unfolding taking
+  take-stopped h = rw (ne-eqb (st .status) 0 h)
+
+  pub take-past : (r : Emit) → st .status ≡ 0 → mostWires < st .next → r ≡ stopped st manyWires → seen r ws ≡ taking f l st ws
+  unfolding taking
+  take-past r e h q = rw (q, eq-eqb (st .status) 0 e, lt-ltb mostWires (st .next) h)
+
+  pub take-one : (after : List ℕ) (h : ℕ) → st .status ≡ 0 → st .next ≤ mostWires → after ≡ filled ws (st .next) f l → h ≡ max (st .highest) (st .next) →
+      seen (record { status = 0; used = st .used; gates = st .gates; next = st .next + 1; highest = h }) after ≡ taking f l st ws
+  unfolding taking
+  take-one after h e le p q = rw (p, q, eq-eqb (st .status) 0 e, le-ltb mostWires (st .next) le)
+
+pub ruleset takings = (needs, back-stopped, back-given, take-stopped, take-past, take-one)
+
+-- entries of a list
+module _ (q : Qubits) (i n : ℕ) (is : n ≡ length (qubitsOf q)) where
+  pub entry-none : n ≤ i → 0 ≡ getD (qubitsOf q) i 0
+  entry-none h = let k : length (qubitsOf q) ≤ i = omega arith in sym (List·getD-eq-default (qubitsOf q) 0 k)
+
+  pub entry-index : length (q .at) ≡ mostQubits → i < n → i < mostQubits
+  entry-index e h = let t : length (qubitsOf q) ≡ min (q .len) (length (q .at)) = length-take (q .len) (q .at) in omega arith
+
+  pub entry-some : i < n → getD (q .at) i 0 ≡ getD (qubitsOf q) i 0
+  entry-some h =
+    let t : length (qubitsOf q) ≡ min (q .len) (length (q .at)) = length-take (q .len) (q .at) in
+    sym (getD-take (q .len) (q .at) i 0 (omega arith))
+
+-- `put_entries` so far: what is still to be stored makes of the workspace what all of it makes
+pub data Storing (ws₀ : List ℕ) (at : ℕ) (l ws : List ℕ) (place i : ℕ) : Type 0 where
+  still : sets ws place (drop i l) ≡ sets ws₀ at l → Storing ws₀ at l ws place i
+
+pub storing-starts : (ws : List ℕ) (at : ℕ) (l : List ℕ) → Storing ws at l ws at 0
+storing-starts ws at l = still refl
+
+module _ (ws₀ : List ℕ) (at : ℕ) (l ws : List ℕ) (place i n : ℕ) (is : n ≡ length l) where
+  pub storing-next : (x : ℕ) → Storing ws₀ at l ws place i → i < n → x ≡ getD l i 0 → Storing ws₀ at l (set ws place x) (place + 1) (i + 1)
+  storing-next x (still e) h p =
+    let k : i < length l = omega arith in
+    still (sym (rw (p, add-one place, add-one i, drop-cons l i 0 k)) ∙ e)
+
+  pub stored-all : Storing ws₀ at l ws place i → n ≤ i → ws ≡ sets ws₀ at l
+  stored-all (still e) h = let k : length l ≤ i = omega arith in sym (rw (drop-of-length-le l k)) ∙ e
+
+  pub stored-full : Storing ws₀ at l ws place i → length ws ≤ place → ws ≡ sets ws₀ at l
+  stored-full (still e) h = sets-past ws place (drop i l) h ∙ e
+
+pub slot-filled : (ws : List ℕ) (a f : ℕ) (q : Qubits) (n : ℕ) (middle end : List ℕ) → n ≡ length (qubitsOf q) →
+    middle ≡ sets ws (slotLength * a) (f ∷ n ∷ []) → end ≡ sets middle (slotLength * a + 2) (qubitsOf q) → end ≡ filled ws a f (qubitsOf q)
+slot-filled ws a f q n middle end is m e = let k : slotLength * a + 2 ≡ suc (suc (slotLength * a)) = omega arith in rw (e, m, is, k)
+
+pub ruleset entries = (needs, entry-none, entry-index, entry-some, slot-filled)
+
+pub ruleset storing = (needs, storing-starts, storing-next, stored-all, stored-full)
+
+-- the ways out of `pair_at`, `appears`, `opens` and `seek`
+module _ (ws : List ℕ) (a f m x : ℕ) (is : x ≡ slotProcedure ws a) where
+  pub pair-yes : (y : ℕ) → x ≡ f → y ≡ slotListLength ws a → eqb y m ≡ pairAt ws a f m
+  unfolding pairAt
+  pair-yes y e q = rw (← is, eq-eqb x f e, q)
+
+  pub pair-no : (x ≡ f → ⊥) → false ≡ pairAt ws a f m
+  unfolding pairAt
+  pair-no h = rw (← is, ne-eqb x f h)
+
+pub further : (n e : ℕ) → e < n → n - e ≡ suc (n - (e + 1))
+further n e h = omega arith
+
+pub spent : (n e : ℕ) → n ≤ e → n - e ≡ 0
+spent n e h = omega arith
+
+-- `appears` so far: what is left from here on is the whole
+module _ (ws : List ℕ) (from upto f m a : ℕ) (left : appears ws a (upto - a) f m ≡ appears ws from (upto - from) f m) where
+  pub appears-none : upto ≤ a → false ≡ appears ws from (upto - from) f m
+  unfolding appears
+  appears-none h = rw (spent upto a h) at left
+
+  pub appears-here : (b : Bool) → a < upto → b ≡ pairAt ws a f m → b ≡ true → true ≡ appears ws from (upto - from) f m
+  unfolding appears
+  appears-here b h e q = rw (further upto a h, ← e, q) at left
+
+  pub appears-on : (b : Bool) → a < upto → b ≡ pairAt ws a f m → b ≡ false →
+      appears ws (a + 1) (upto - (a + 1)) f m ≡ appears ws from (upto - from) f m
+  unfolding appears
+  appears-on b h e q = rw (further upto a h, ← e, q) at left
+
+module _ (ws : List ℕ) (base m e x : ℕ) (is : x ≡ slotListLength ws e) where
+  pub opens-yes : (f : ℕ) (b : Bool) → x ≡ m → f ≡ slotProcedure ws e → b ≡ appears ws base (e - base) f m → not b ≡ opensAt ws base m e
+  unfolding opensAt
+  opens-yes f b q p r = rw (← is, eq-eqb x m q, ← p, ← r)
+
+  pub opens-no : (x ≡ m → ⊥) → false ≡ opensAt ws base m e
+  unfolding opensAt
+  opens-no h = rw (← is, ne-eqb x m h)
+
+-- `seek` so far: what is left from here on is the whole
+module _ (ws : List ℕ) (base m e upto a : ℕ) (left : seekOf ws base m a (upto - a) ≡ seekOf ws base m e (upto - e)) where
+  pub seek-none : upto ≤ a → a ≡ seekOf ws base m e (upto - e)
+  unfolding seekOf
+  seek-none h = rw (spent upto a h) at left
+
+  pub seek-here : (b : Bool) → a < upto → b ≡ opensAt ws base m a → b ≡ true → a ≡ seekOf ws base m e (upto - e)
+  unfolding seekOf
+  seek-here b h p q = rw (further upto a h, ← p, q) at left
+
+  pub seek-on : (b : Bool) → a < upto → b ≡ opensAt ws base m a → b ≡ false →
+      seekOf ws base m (a + 1) (upto - (a + 1)) ≡ seekOf ws base m e (upto - e)
+  unfolding seekOf
+  seek-on b h p q = rw (further upto a h, ← p, q) at left
+
+pub ruleset seeking = (needs, pair-yes, pair-no, appears-none, appears-here, appears-on, opens-yes, opens-no, seek-none, seek-here, seek-on)
+
+-- one control under none
+pub under-is : (a : ℕ) (none r : Controls) → none ≡ noControls → r ≡ askingWithin a true none → r ≡ under a
+unfolding askingWithin insertWithin asking
+under-is a none r e q = rw (q, e)
+
+-- the ways out of `exchange`
+module _ (u v w : ℕ) where
+  pub exchange-first : w ≡ u → v ≡ exchange u v w
+  exchange-first e = rw e (sym (exchange-left u v))
+
+  pub exchange-second : (w ≡ u → ⊥) → w ≡ v → u ≡ exchange u v w
+  exchange-second h e = rw e (sym (exchange-right u v))
+
+  pub exchange-neither : (w ≡ u → ⊥) → (w ≡ v → ⊥) → w ≡ exchange u v w
+  exchange-neither h k = sym (exchange-other u v w h k)
+
+pub ruleset exchanging = (needs, under-is, exchange-first, exchange-second, exchange-neither)
+
+-- an array that fills from its front on: `front` is what stands there
+pub fill-next : (at : List ℕ) (i v : ℕ) (front more : List ℕ) → take i at ≡ front → i < length at → front ++ (v ∷ []) ≡ more →
+    take (i + 1) (set at i v) ≡ more
+fill-next at i v front more e h q = rw (add-one i, take-suc-set at i v h, e) q
+
+bytes-snoc : (bs : List ℕ) (at n : ℕ) → bytesFrom bs at n ++ (getD bs (at + n) 0 ∷ []) ≡ bytesFrom bs at (suc n)
+unfolding bytesFrom
+bytes-snoc bs at zero = let e : at + 0 ≡ at = omega arith in rw e
+bytes-snoc bs at (suc n) = let e : at + suc n ≡ at + 1 + n = omega arith in rw e (ap (λ l. getD bs at 0 ∷ l) (bytes-snoc bs (at + 1) n))
+
+bytes-take : (bs : List ℕ) (at k n : ℕ) → k ≤ n → take k (bytesFrom bs at n) ≡ bytesFrom bs at k
+unfolding bytesFrom
+bytes-take bs at zero n h = refl
+bytes-take bs at (suc k) zero h = absurd (not-suc-le-zero h)
+bytes-take bs at (suc k) (suc n) h = ap (λ l. getD bs at 0 ∷ l) (bytes-take bs (at + 1) k n (le-of-suc-le-suc h))
+
+module _ (ws at : List ℕ) (from i : ℕ) (inv : take i at ≡ bytesFrom ws from i) where
+  pub load-next : (v n : ℕ) → length at ≡ mostQubits → i < n → n ≤ mostQubits → v ≡ getD ws (from + i) 0 → take (i + 1) (set at i v) ≡ bytesFrom ws from (i + 1)
+  load-next v n l h low e = fill-next at i v (bytesFrom ws from i) (bytesFrom ws from (i + 1)) inv (omega arith)
+    (rw (e, add-one i) (bytes-snoc ws from i))
+
+  pub load-ends : (a n : ℕ) → from ≡ slotLength * a + 2 → n ≡ slotListLength ws a → i ≤ n → n ≤ i → take n at ≡ slotList ws a
+  load-ends a n p q low h = let k : i ≡ n = omega arith in rw (← q, ← p, ← k) inv
+
+pub load-starts : (ws at : List ℕ) (from : ℕ) → take 0 at ≡ bytesFrom ws from 0
+unfolding bytesFrom
+load-starts ws at from = refl
+
+map-snoc : (f : ℕ → ℕ) (l : List ℕ) (x : ℕ) → map f (l ++ (x ∷ [])) ≡ map f l ++ (f x ∷ [])
+map-snoc f [] x = refl
+map-snoc f (y ∷ l) x = ap (λ r. f y ∷ r) (map-snoc f l x)
+
+take-map : (f : ℕ → ℕ) (n : ℕ) (l : List ℕ) → take n (map f l) ≡ map f (take n l)
+take-map f zero l = refl
+take-map f (suc n) [] = refl
+take-map f (suc n) (x ∷ l) = ap (λ r. f x ∷ r) (take-map f n l)
+
+module _ (u v : ℕ) (old at : List ℕ) (i : ℕ) (inv : take i at ≡ map (exchange u v) (take i old)) where
+  pub exchange-next : (x : ℕ) → length at ≡ mostQubits → length old ≡ mostQubits → i < mostQubits → x ≡ exchange u v (getD old i 0) →
+      take (i + 1) (set at i x) ≡ map (exchange u v) (take (i + 1) old)
+  exchange-next x l o h e = fill-next at i x (map (exchange u v) (take i old)) (map (exchange u v) (take (i + 1) old)) inv (omega arith)
+    (rw (e, add-one i, take-suc old i 0 (omega arith)) (sym (map-snoc (exchange u v) (take i old) (getD old i 0))))
+
+  pub exchange-ends : (n : ℕ) → length at ≡ mostQubits → length old ≡ mostQubits → mostQubits ≤ i → take n at ≡ map (exchange u v) (take n old)
+  exchange-ends n l o h =
+    let all : take i at ≡ at = take-all i at (omega arith) in
+    let whole : take i old ≡ old = take-all i old (omega arith) in
+    rw (← all, inv, whole) (take-map (exchange u v) n old)
+
+pub ruleset filling = (needs, load-starts, load-next, load-ends, exchange-next, exchange-ends)

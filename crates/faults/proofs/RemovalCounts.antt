@@ -1,0 +1,101 @@
+-- What the parts of a record say of the removals that calls carry, and one law for each way out of the functions that count them.
+use mathlib.Core.Path.{_≡_, refl, ap, _∙_}
+use mathlib.Core.Bool.{Bool, true, false}
+use mathlib.Core.List.{List}
+use Prim.Native.Nat.{ℕ, suc, _+_, _-_, _*_, _%_, _^_, _≤_}
+use native.Mathlib.Numerals.{add-one}
+use native.Mathlib.Omega.{arith}
+use borrow.Author.Needs.{needs}
+use lib.Bits.{bitOr}
+use lib.ListN.{length}
+use Rattle.model.specs.Limits.{mostDepth, mostQubits}
+use Rattle.model.specs.Syntax.{Statement}
+use Rattle.records.specs.Fields.{removalsOf}
+use Rattle.table.specs.Index.{rootOf, statementAt}
+use Rattle.reach.specs.declared.Parts.{Parts}
+use Rattle.reach.specs.declared.Parts.the-variants as parts
+use Rattle.reach.specs.CallsInATable.{partsAt}
+use Rattle.reach.proofs.MatrixOperations.{left-never}
+use Rattle.reach.proofs.PartsOfARecord.{Seen, as-skip, as-not, as-sequence, as-if, as-qcase, as-call, seen-here}
+use Rattle.faults.specs.TouchedPositions.{Touched, touchesNone, touchesOne, joined}
+use Rattle.faults.specs.Rows.{rowOf, rowIs, marked}
+use Rattle.faults.specs.CallLengths.{removalCounts, countsBelow, sumsBelow}
+use Rattle.faults.proofs.RowLaws.{none-row, one-row, joined-row}
+
+-- how many removals the calls of a record's parts carry, where `part` gives the statement at a record
+abbrev countsBy : (ℕ → Statement) → List ℕ → Parts → Touched
+countsBy part bs parts.Neither = touchesNone
+countsBy part bs (parts.Two a b t) = joined (removalCounts (part a)) (removalCounts (part b))
+countsBy part bs (parts.Call g at) = touchesOne (length (removalsOf bs at))
+
+counts-seen : (part : ℕ → Statement) (bs : List ℕ) {x : Parts} {s : Statement} → Seen part bs x s → removalCounts s ≡ countsBy part bs x
+unfolding removalCounts
+counts-seen part bs as-skip = refl
+counts-seen part bs (as-not rs a) = refl
+counts-seen part bs (as-sequence a b) = refl
+counts-seen part bs (as-if c a b) = refl
+counts-seen part bs (as-qcase rs q a b) = refl
+counts-seen part bs (as-call g at) = refl
+
+-- the set of how many removals the calls in the statement at record i carry
+abbrev countsAt : ℕ → List ℕ → List ℕ → ℕ → ℕ → ℕ
+countsAt p bs ix depth i = rowOf (removalCounts (statementAt p bs ix depth i))
+
+-- deeper than a tree can be
+pub count-deep : (p : ℕ) (bs ix : List ℕ) (depth i : ℕ) → depth ≡ 0 → 0 ≡ countsAt p bs ix depth i
+unfolding removalCounts statementAt
+count-deep p bs ix depth i e = rw e none-row
+
+module _ (p : ℕ) (bs ix : List ℕ) (depth i : ℕ) (deep : depth ≡ 0 → ⊥) (x : Parts) (parts-are : x ≡ partsAt p bs ix i) where
+  abbrev part : ℕ → Statement
+  part = statementAt p bs ix (depth - 1)
+
+  by-parts : (y : Parts) → x ≡ y → countsAt p bs ix depth i ≡ rowOf (countsBy part bs y)
+  by-parts y e = ap rowOf (counts-seen part bs (seen-here p bs ix depth i deep x parts-are)) ∙ ap (λ (z : Parts). rowOf (countsBy part bs z)) e
+
+  pub count-neither : x ≡ parts.Neither → 0 ≡ countsAt p bs ix depth i
+  count-neither e = rw (by-parts parts.Neither e) none-row
+
+  pub count-two : (a b : ℕ) (t : Bool) → x ≡ parts.Two a b t → (first second : ℕ) →
+      first ≡ countsAt p bs ix (depth - 1) a → second ≡ countsAt p bs ix (depth - 1) b → bitOr first second ≡ countsAt p bs ix depth i
+  count-two a b t e first second one two =
+    rw (by-parts (parts.Two a b t) e, one, two) (joined-row (removalCounts (part a)) (removalCounts (part b)))
+
+  pub count-call : (g at : ℕ) → x ≡ parts.Call g at → (k row : ℕ) → k ≡ length (removalsOf bs at) → row ≡ marked 0 k →
+      row ≡ countsAt p bs ix depth i
+  count-call g at e k row c r = rw (by-parts (parts.Call g at) e, ← c) (r ∙ one-row k)
+
+-- body by body
+module _ (p : ℕ) (bs ix : List ℕ) (f all root more : ℕ) (so : all ≡ countsBelow p bs ix f)
+    (at : root ≡ rootOf ix f) (counted : more ≡ countsAt p bs ix mostDepth root) where
+  pub bodies-more : bitOr all more ≡ countsBelow p bs ix (f + 1)
+  unfolding countsBelow
+  bodies-more = rw (add-one f, so, counted, at)
+
+  pub bodies-end : f ≤ p → p ≤ f → bitOr all more ≡ countsBelow p bs ix (suc p)
+  bodies-end a b = let e : f ≡ p = omega arith in bodies-more ∙ rw (add-one f, e)
+
+pub bodies-start : (p : ℕ) (bs ix : List ℕ) → 0 ≡ countsBelow p bs ix 0
+unfolding countsBelow
+bodies-start p bs ix = refl
+
+-- sum by sum
+module _ (counts j sums : ℕ) (so : sums ≡ sumsBelow counts j) where
+  module _ (b : Bool) (e : b ≡ rowIs sums j) (next : ℕ) where
+    pub sums-more : b ≡ true → next ≡ bitOr sums ((counts * 2 ^ j) % 2 ^ 64) → next ≡ sumsBelow counts (j + 1)
+    unfolding sumsBelow
+    sums-more y n = rw (add-one j, ← so, ← e, y) n
+
+    pub sums-not : b ≡ false → next ≡ sums → next ≡ sumsBelow counts (j + 1)
+    unfolding sumsBelow
+    sums-not y n = rw (add-one j, ← so, ← e, y) n
+
+  pub sums-end : j ≤ mostQubits → mostQubits ≤ j → sums ≡ sumsBelow counts mostQubits
+  sums-end a b = let e : j ≡ mostQubits = omega arith in so ∙ rw e
+
+pub sums-start : (counts : ℕ) → 1 ≡ sumsBelow counts 0
+unfolding sumsBelow
+sums-start counts = refl
+
+pub ruleset counting = (needs, count-deep, count-neither, count-two, count-call, bodies-more, bodies-end, bodies-start, left-never, sums-more,
+    sums-not, sums-end, sums-start)

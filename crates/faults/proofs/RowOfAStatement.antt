@@ -1,0 +1,98 @@
+-- What the step of a record says of the positions that the statement there touches, and one law for each way out of the walk over a body.
+use mathlib.Core.Bool.{cond}
+use mathlib.Core.Path.{_≡_, sym, ap, _∙_}
+use mathlib.Core.List.{List}
+use Prim.Native.Nat.{ℕ, _-_, _≤_, _<_, min}
+use native.Mathlib.Omega.{arith}
+use borrow.Author.Needs.{needs}
+use lib.Bits.{bitOr}
+use lib.ListN.{length}
+use Rattle.model.specs.Limits.{mostQubits}
+use Rattle.model.specs.Syntax.{Statement, skip}
+use Rattle.model.specs.Lists.{qubits, remaining, holds}
+use Rattle.model.proofs.BooleanLaws.{or-false}
+use Rattle.model.proofs.ListLaws.{range-length}
+use Rattle.records.specs.Fields.{removalsOf}
+use Rattle.table.specs.Index.{testAt, statementAt}
+use Rattle.step.specs.declared.Step.{Step}
+use Rattle.step.specs.declared.Step.the-variants as step
+use Rattle.step.specs.Steps.{stepAt}
+use Rattle.step.proofs.StatementAtARecord.{Idle, at-step, idle-skip, spent-skip}
+use Rattle.step.proofs.ChosenBranch.{chosen-means}
+use Rattle.faults.specs.TouchedPositions.{CallTouches, joined, closes, callTouches, touches}
+use Rattle.faults.specs.Rows.{rowOf, marked, closedRow, knownTouches}
+use Rattle.faults.proofs.FaultsByPosition.{touches-yes, touches-no, touches-inside}
+use Rattle.faults.proofs.RowLaws.{none-row, one-row, joined-row, closed-row}
+
+-- the least of a number and 32 is at most 32
+short : (m : ℕ) → min m mostQubits ≤ mostQubits
+short m = omega arith
+
+-- a position past 63 is touched by no statement on a list of 32 entries or less
+module _ (o : CallTouches) (s u : Statement) (m : ℕ) where
+  closes-rows : (q : ℕ) → closedRow q (rowOf (joined (touches o s (min m mostQubits)) (touches o u (min m mostQubits))))
+      ≡ rowOf (closes q (joined (touches o s (min m mostQubits)) (touches o u (min m mostQubits))))
+  closes-rows q = closed-row q (joined (touches o s (min m mostQubits)) (touches o u (min m mostQubits)))
+    (λ past. let far : min m mostQubits < q = omega (arith, short m) in
+      or-false (touches o s (min m mostQubits) q) (touches o u (min m mostQubits) q) (touches-inside o s (min m mostQubits) q far) (touches-inside o u (min m mostQubits) q far))
+
+-- the row of what the statement at record i touches of a list of m entries, of 32 at most
+abbrev rowAt : List ℕ → ℕ → List ℕ → List ℕ → ℕ → ℕ → ℕ → ℕ
+rowAt known p bs ix m depth i = rowOf (touches (knownTouches known) (statementAt p bs ix depth i) (min m mostQubits))
+
+module _ (known : List ℕ) (p : ℕ) (bs ix : List ℕ) (m depth i : ℕ) where
+  idle : statementAt p bs ix depth i ≡ skip → 0 ≡ rowAt known p bs ix m depth i
+  unfolding touches
+  idle e = rw e none-row
+
+  -- deeper than a tree can be
+  pub walk-deep : depth ≡ 0 → 0 ≡ rowAt known p bs ix m depth i
+  walk-deep e = idle (spent-skip p bs ix depth i e)
+
+  module _ (l : List ℕ) (st : Step) (deep : depth ≡ 0 → ⊥) (listed : l ≡ qubits (min m mostQubits)) (steps : st ≡ stepAt p bs ix i l) where
+    pub walk-idle : (x : Step) → st ≡ x → Idle x → 0 ≡ rowAt known p bs ix m depth i
+    walk-idle x e o = idle (idle-skip p bs ix depth i l deep steps x e o)
+
+    module _ (row : ℕ) where
+      pub walk-touches : (q : ℕ) → st ≡ step.Touches q → row ≡ marked 0 q → row ≡ rowAt known p bs ix m depth i
+      unfolding touches
+      walk-touches q e r =
+        let h = at-step p bs ix depth i l deep steps e in
+        rw (h .2, ← listed, ← h .3) (r ∙ one-row q)
+
+      pub walk-calls : (f at : ℕ) (rest : List ℕ) → st ≡ step.Calls f at → rest ≡ remaining (removalsOf bs at) l →
+          row ≡ rowOf (callTouches (knownTouches known) f rest) → row ≡ rowAt known p bs ix m depth i
+      unfolding touches
+      walk-calls f at rest e left r = rw (at-step p bs ix depth i l deep steps e, ← listed, ← left) r
+
+      -- the chosen branch of an if
+      pub walk-chosen : (c a b x : ℕ) → st ≡ step.Chooses c a b → x ≡ cond (holds (testAt p bs ix (depth - 1) c) (length l)) a b →
+          row ≡ rowAt known p bs ix m (depth - 1) x → row ≡ rowAt known p bs ix m depth i
+      walk-chosen c a b x e q r =
+        let size : length l ≡ min m mostQubits = ap length listed ∙ range-length (min m mostQubits) 1 in
+        let o = knownTouches known in
+        r ∙ sym (chosen-means (λ s. rowOf (touches o s (min m mostQubits))) l
+          (λ c s t h. ap rowOf (touches-yes o c s t (min m mostQubits) (rw size at h))) (λ c s t h. ap rowOf (touches-no o c s t (min m mostQubits) (rw size at h)))
+          p bs ix depth i deep steps e q)
+
+    -- both parts, in sequence or under a qcase
+    module _ (a b first second : ℕ)
+        (one : first ≡ rowAt known p bs ix m (depth - 1) a) (two : second ≡ rowAt known p bs ix m (depth - 1) b) where
+      together : bitOr first second ≡ rowOf (joined (touches (knownTouches known) (statementAt p bs ix (depth - 1) a) (min m mostQubits))
+          (touches (knownTouches known) (statementAt p bs ix (depth - 1) b) (min m mostQubits)))
+      together = rw (one, two) (joined-row (touches (knownTouches known) (statementAt p bs ix (depth - 1) a) (min m mostQubits))
+          (touches (knownTouches known) (statementAt p bs ix (depth - 1) b) (min m mostQubits)))
+
+      pub walk-sequence : st ≡ step.Sequence a b → bitOr first second ≡ rowAt known p bs ix m depth i
+      unfolding touches
+      walk-sequence e = rw (at-step p bs ix depth i l deep steps e) together
+
+      pub walk-branches : (q closed : ℕ) → st ≡ step.Branches q a b → closed ≡ closedRow q (bitOr first second) →
+          closed ≡ rowAt known p bs ix m depth i
+      unfolding touches
+      walk-branches q closed e c =
+        let h = at-step p bs ix depth i l deep steps e in
+        rw (h .2, ← listed, ← h .3)
+          (c ∙ rw together (closes-rows (knownTouches known) (statementAt p bs ix (depth - 1) a) (statementAt p bs ix (depth - 1) b) m q))
+
+pub ruleset walking = (needs, walk-deep, walk-idle, walk-touches, walk-sequence, walk-chosen, walk-branches, walk-calls)

@@ -1,0 +1,133 @@
+-- The listing of a circuit: what the loop over its gates keeps, and the ways out of `list_circuit`.
+use mathlib.Core.Path.{_≡_, refl, sym, ap, _∙_}
+use mathlib.Core.List.{List, [], _∷_, _++_}
+use Prim.Native.Nat.{ℕ, zero, suc, _+_, _-_, _≤_, _<_}
+use native.Mathlib.Numerals.{add-one, sub-one}
+use native.Mathlib.Omega.{arith}
+use mir.Syntax.{w8, w32}
+use mir.Val.{Fits}
+use borrow.Author.Needs.{needs}
+use lib.ListN.{length, getD}
+use Rattle.model.specs.Limits.{notWellFormed, mostWires, headerLength}
+use Rattle.model.specs.Reading.{Input, Parsed, parsed, refused}
+use Rattle.model.specs.Gates.{Gate}
+use Rattle.model.specs.Circuit.{Circuit, readGate, readCircuit, fourBytes, encodeAll, write}
+use Rattle.model.specs.Answers.{Outcome, gives, refuses, wellFormed, circuitRead}
+use Rattle.model.specs.Listing.{gateLine, gateLines, firstLine, listed}
+use Rattle.model.proofs.RoundTrip.{AllWellFormed, left, read-encode, write-circuitRead}
+use Rattle.circuit.specs.GatesInBytes.{inputAt, settled, gateIn, gateSeen}
+use Rattle.answers.specs.Structs.{headerOf}
+use Rattle.answers.specs.declared.CircuitHeader.{CircuitHeader}
+use Rattle.circuit.specs.declared.GateAt.{GateAt}
+use Rattle.circuit.specs.declared.GateRead.{GateRead}
+use Rattle.circuit.specs.declared.GateRead.the-variants.{Found, NoGate}
+use Rattle.circuit.proofs.GateReading.{settled-parsed}
+use Rattle.lines.specs.AppendedBytes.{Written, written, puts}
+use Rattle.lines.specs.ListingRows.{lineThen, linesRead}
+use Rattle.lines.proofs.AppendLaws.{put-behind, put-then}
+
+-- the line of the next gate, then the others
+lines-more : (most k left : ℕ) (i : Input) → 0 < left →
+    linesRead most k left i ≡ lineThen k (readGate most i) (linesRead most (k + 1) (left - 1))
+unfolding linesRead
+lines-more most k zero i h = absurd (omega arith)
+lines-more most k (suc n) i h = rw (sub-one, add-one, linesRead)
+
+-- what is no gate has no line
+no-line : (k : ℕ) (p : Parsed Gate) (others : Input → List ℕ) → refused notWellFormed ≡ settled p → lineThen k p others ≡ []
+unfolding settled lineThen
+no-line k (parsed g i) others e = let z : _≡_ {A = ℕ} 0 1 = cc in absurd (omega arith)
+no-line k (refused r) others e = refl
+
+-- what the loop of `gate_lines` keeps: all the lines are those that are left, behind those that were put
+module _ (bs text : List ℕ) (next most k left place : ℕ) (whole : Written)
+    (inv : whole ≡ puts (linesRead most k left (inputAt bs next)) text place) where
+  pub lines-end : left ≤ 0 → written text place ≡ whole
+  unfolding linesRead puts
+  lines-end l = let z : left ≡ 0 = omega arith in rw (inv, z)
+
+  module _ (l : 0 < left) (x : GateRead) (p : gateSeen bs x ≡ settled (readGate most (inputAt bs next))) where
+    pub lines-bad : x ≡ NoGate → written text place ≡ whole
+    unfolding gateSeen puts
+    lines-bad e =
+        rw (inv, lines-more most k left (inputAt bs next) l, no-line k (readGate most (inputAt bs next)) _ (rw e at p))
+
+    pub lines-next : (g : GateAt) → x ≡ Found g → (text₁ : List ℕ) (place₁ : ℕ) →
+        written text₁ place₁ ≡ puts (gateLine k (gateIn bs g)) text place →
+        whole ≡ puts (linesRead most (k + 1) (left - 1) (inputAt bs (g .next))) text₁ place₁
+    unfolding gateSeen lineThen
+    lines-next g e text₁ place₁ q =
+        let found : readGate most (inputAt bs next) ≡ parsed (gateIn bs g) (inputAt bs (g .next)) =
+            settled-parsed (readGate most (inputAt bs next)) (gateIn bs g) (inputAt bs (g .next)) (rw e at p) in
+        rw (inv, lines-more most k left (inputAt bs next) l, found)
+        (put-behind (gateLine k (gateIn bs g)) (linesRead most (k + 1) (left - 1) (inputAt bs (g .next))) text text₁ place place₁ q)
+
+pub ruleset gating = (needs, lines-end, lines-bad, lines-next)
+
+-- the lines read from the bytes of gates are the lines of the gates
+lines-are : (most k : ℕ) (gs : List Gate) → AllWellFormed most gs → linesRead most k (length gs) (left (encodeAll gs) 0) ≡ gateLines k gs
+unfolding linesRead lineThen encodeAll gateLines
+lines-are most k [] ok = refl
+lines-are most k (g ∷ gs) ok =
+    rw (read-encode most g (ok .0) (encodeAll gs) 0) (ap (λ l. gateLine k g ++ l) (lines-are most (suc k) gs (ok .1)))
+
+-- number 0 says that there is a circuit
+read-gives : (bs : List ℕ) (h : CircuitHeader) → h ≡ headerOf (circuitRead bs) → h .number ≡ 0 → (c : Circuit) × (circuitRead bs ≡ gives c)
+unfolding wellFormed headerOf
+read-gives bs h e z = go (readCircuit bs) refl
+  where
+    go : (x : Parsed Circuit) → readCircuit bs ≡ x → (c : Circuit) × (circuitRead bs ≡ gives c)
+    go (parsed c i) q = (c, rw q)
+    go (refused k) q =
+        let f : h ≡ headerOf (wellFormed (refused k)) = rw q at e in
+        let n : _≡_ {A = ℕ} notWellFormed 0 = sym (ap (λ (y : CircuitHeader). y .number) f) ∙ z in absurd (omega arith)
+
+-- behind its header a circuit's bytes are its gates
+gates-behind : (bs : List ℕ) (c : Circuit) → write c ≡ bs → inputAt bs headerLength ≡ left (encodeAll (c .gates)) 0
+unfolding write fourBytes
+gates-behind bs c e = rw (← e)
+
+-- the ways out of `list_circuit`
+module _ (bs : List ℕ) (h : CircuitHeader) (is : h ≡ headerOf (circuitRead bs)) where
+  pub list-refused : (h .number ≡ 0 → ⊥) → (text end : List ℕ) (at last : ℕ) →
+      written end last ≡ puts (listed (refuses (h .number))) text at → written end last ≡ puts (listed (circuitRead bs)) text at
+  unfolding headerOf
+  list-refused f text end at last p = go (circuitRead bs) is
+    where
+      go : (o : Outcome Circuit) → h ≡ headerOf o → written end last ≡ puts (listed o) text at
+      go (gives c) e = absurd (f (ap (λ (y : CircuitHeader). y .number) e))
+      go (refuses k) e = let n : h .number ≡ k = ap (λ (y : CircuitHeader). y .number) e in rw (← n) p
+
+  module _ (z : h .number ≡ 0) where
+    few-wires : h .qubits + h .ancillas ≤ mostWires
+    unfolding headerOf
+    few-wires =
+        let r = read-gives bs h is z in
+        let e : h ≡ headerOf (gives (r .0)) = rw (r .1) at is in
+        let w = write-circuitRead bs (r .1) .0 .few-wires in
+        rw e w
+
+    pub list-sum : Fits w32 (h .qubits + h .ancillas)
+    list-sum = record { fits = omega (arith, few-wires) }
+
+    pub list-most : Fits w8 (h .qubits + h .ancillas)
+    list-most = record { fits = omega (arith, few-wires) }
+
+    pub list-whole : ((i : ℕ) → Fits w8 (getD bs i 0)) → (text one end : List ℕ) (at first last : ℕ) →
+        written one first ≡ puts (firstLine (h .qubits) (h .ancillas) (h .gates)) text at →
+        written end last ≡ puts (linesRead (h .qubits + h .ancillas) 1 (h .gates) (inputAt bs headerLength)) one first →
+        written end last ≡ puts (listed (circuitRead bs)) text at
+    unfolding headerOf listed
+    list-whole ok text one end at first last p q =
+        let r = read-gives bs h is z in
+        let c : Circuit = r .0 in
+        let e : h ≡ headerOf (gives c) = rw (r .1) at is in
+        let w = write-circuitRead bs (r .1) in
+        let gates : List ℕ = gateLines 1 (c .gates) in
+        let same : linesRead (c .dataWires + c .ancillas) 1 (length (c .gates)) (inputAt bs headerLength) ≡ gates =
+            rw (gates-behind bs c (w .1 (λ i. ok i .fits))) (lines-are (c .dataWires + c .ancillas) 1 (c .gates) (w .0 .all-gates)) in
+        rw (r .1)
+        (put-then (firstLine (c .dataWires) (c .ancillas) (length (c .gates))) gates text one end at first last (rw e at p)
+        (rw same at (rw e at q)))
+
+pub ruleset circuits = (needs, list-refused, list-sum, list-most, list-whole)

@@ -1,0 +1,29 @@
+-- The rows of a listing as the code walks them: the controls of a gate, and the gates of a circuit.
+use Prim.Native.Nat.{ℕ, zero, suc}
+use mathlib.Core.Bool.{Bool, true, false}
+use mathlib.Core.List.{List, [], _∷_, _++_}
+use lib.Dec.{ltb}
+use Rattle.model.specs.Reading.{Input, Parsed, parsed, refused}
+use Rattle.model.specs.Gates.{noControls, Gate}
+use Rattle.model.specs.Circuit.{readGate}
+use Rattle.model.specs.Listing.{actionText, gateLine}
+use Rattle.circuit.specs.GatesInBytes.{gateWith}
+
+-- how many wires come before the first that is not below w
+unfoldable pub lower : ℕ → List ℕ → ℕ
+lower w [] = 0
+lower w (z ∷ zeros) = elim (ltb z w) [ true ↦ suc (lower w zeros) | false ↦ 0 ]
+
+-- the action of a NOT (false) or a swap (true); what it is under is none of it
+abbrev pub actionWith : Bool → ℕ → ℕ → List ℕ
+actionWith swaps target second = actionText (gateWith swaps noControls target second)
+
+-- the line of gate k, if it is one, and what comes of the input behind it
+unfoldable pub lineThen : ℕ → Parsed Gate → (Input → List ℕ) → List ℕ
+lineThen k (parsed g i) others = gateLine k g ++ others i
+lineThen k (refused r) others = []
+
+-- the lines of n gates over wires 1 to `most`, the first of them gate k, as far as they are gates
+unfoldable pub linesRead : ℕ → ℕ → ℕ → Input → List ℕ
+linesRead most k zero i = []
+linesRead most k (suc n) i = lineThen k (readGate most i) (linesRead most (suc k) n)

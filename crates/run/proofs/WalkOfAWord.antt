@@ -1,0 +1,167 @@
+-- The ways out of the code: one law for each, from what its callees ensure to what the word becomes.
+use mathlib.Core.Path.{_≡_, refl, sym, ap, _∙_}
+use mathlib.Core.Bool.{false, cond}
+use mathlib.Core.List.{List, [], _∷_}
+use Prim.Native.Nat.{ℕ, zero, suc, _+_, _-_, _*_, _/_, _%_, _^_, _≤_, _<_}
+use native.Mathlib.Nat.{le-refl}
+use native.Mathlib.Omega.{arith}
+use borrow.Author.Needs.{needs}
+use borrow.Author.Tests.{lt-ltb}
+use lib.Bits.{bitAnd, bitXor}
+use lib.Dec.{eqb}
+use lib.ListN.{length}
+use Rattle.model.specs.Limits.{mostQubits, mostDepth}
+use Rattle.model.specs.Syntax.{skip}
+use Rattle.model.specs.Lists.{qubits, remaining, holds}
+use Rattle.model.specs.Meaning.{stateOf}
+use Rattle.model.proofs.BooleanLaws.{byBool}
+use Rattle.model.proofs.ReachAndRank.{body-out}
+use Rattle.model.proofs.ListLaws.{range-length}
+use Rattle.records.specs.Fields.{removalsOf}
+use Rattle.table.specs.Index.{rootOf, testAt, statementAt, programAt}
+use Rattle.step.specs.declared.Step.{Step}
+use Rattle.step.specs.declared.Step.the-variants as step
+use Rattle.step.specs.Steps.{stepAt}
+use Rattle.step.proofs.PlacesPastTheEnd.{less-one}
+use Rattle.step.proofs.StatementAtARecord.{Idle, at-step, idle-skip, spent-skip}
+use Rattle.step.proofs.ChosenBranch.{chosen-means}
+use Rattle.run.specs.RunOnWords.{bitFlipped, flippedWord, bitOf, callWords, wordDoes, callWordsWithin, ranWord, walked, called}
+use Rattle.model.proofs.WordBits.{tested, shifted}
+use Rattle.reach.proofs.MatrixOfAProgram.{count-at, body-at}
+use Rattle.run.proofs.WordClauses.{word-yes, word-no, word-zero, word-one, qubit-is}
+
+-- ---- flip and bit
+
+-- number 0 is no qubit
+pub flip-none : (q word : ℕ) → q ≡ 0 → word ≡ flippedWord q word
+unfolding bitFlipped
+flip-none q word e = rw e
+
+pub bit-none : (q word : ℕ) → q ≡ 0 → false ≡ bitOf q word
+unfolding stateOf
+bit-none q word e = rw e
+
+-- nor is one past 32
+pub flip-past : (q word : ℕ) → mostQubits < q → word ≡ flippedWord q word
+unfolding bitFlipped
+flip-past q word h = rw (lt-ltb mostQubits q h)
+
+pub bit-past : (q word : ℕ) → mostQubits < q → false ≡ bitOf q word
+unfolding stateOf
+bit-past q word h = rw (lt-ltb mostQubits q h)
+
+-- qubit q is bit q − 1
+pub flip-bit : (q word : ℕ) → (q ≡ 0 → ⊥) → q ≤ mostQubits → bitXor word ((1 * 2 ^ (q - 1)) % 2 ^ 64) ≡ flippedWord q word
+unfolding bitFlipped
+flip-bit zero word some h = absurd (some refl)
+flip-bit (suc k) word some h = rw (qubit-is (suc k) h, less-one k, shifted 64 k (omega arith))
+
+pub bit-bit : (q word : ℕ) → (q ≡ 0 → ⊥) → q ≤ mostQubits → eqb (bitAnd (word / 2 ^ (q - 1)) 1) 1 ≡ bitOf q word
+unfolding stateOf
+bit-bit zero word some h = absurd (some refl)
+bit-bit (suc k) word some h = rw (qubit-is (suc k) h, less-one k) (tested word k)
+
+-- ---- walk
+
+-- what its loop keeps: the statement at record `at` makes of the word as it is now what the whole statement makes of the word given
+module _ (p : ℕ) (bs ix : List ℕ) (left at : ℕ) (l : List ℕ) (fuel word whole : ℕ) (inv : walked p bs ix left at l fuel word ≡ whole) where
+  -- skip gives its word back
+  skipped : statementAt p bs ix left at ≡ skip → word ≡ whole
+  unfolding wordDoes
+  skipped e = rw (← inv, e)
+
+  -- too deep is nothing
+  pub walk-spent : left ≤ 0 → word ≡ whole
+  walk-spent h = skipped (spent-skip p bs ix left at (omega arith))
+
+  module _ (st : Step) (more : 0 < left) (steps : st ≡ stepAt p bs ix at l) where
+    deep : left ≡ 0 → ⊥
+    deep e = omega arith
+
+    pub walk-idle : (x : Step) → st ≡ x → Idle x → word ≡ whole
+    walk-idle x e o = skipped (idle-skip p bs ix left at l deep steps x e o)
+
+    -- NOT flips the bit of the qubit that it touches
+    pub walk-touches : (q r : ℕ) → st ≡ step.Touches q → r ≡ flippedWord q word → r ≡ whole
+    unfolding wordDoes
+    walk-touches q r e h = let t = at-step p bs ix left at l deep steps e in rw (← inv, t .2) (h ∙ ap (λ (x : ℕ). flippedWord x word) (t .3))
+
+    -- a sequence hands the first statement's word to the second
+    pub walk-sequence : (a b middle : ℕ) → st ≡ step.Sequence a b → middle ≡ walked p bs ix (left - 1) a l fuel word →
+        walked p bs ix (left - 1) b l fuel middle ≡ whole
+    unfolding wordDoes
+    walk-sequence a b middle e first = rw (← inv, at-step p bs ix left at l deep steps e)
+      (ap (λ (x : ℕ). walked p bs ix (left - 1) b l fuel x) first)
+
+    -- if goes on as the statement that is chosen
+    pub walk-chosen : (c a b x : ℕ) → st ≡ step.Chooses c a b → x ≡ cond (holds (testAt p bs ix (left - 1) c) (length l)) a b →
+        walked p bs ix (left - 1) x l fuel word ≡ whole
+    walk-chosen c a b x e q =
+      let calls = callWordsWithin (programAt p bs ix) fuel in
+      sym (chosen-means (λ s. wordDoes calls s l word) l (λ c s t. word-yes calls c s t l word) (λ c s t. word-no calls c s t l word)
+        p bs ix left at deep steps e q) ∙ inv
+
+    -- qcase reads the bit of the qubit it touches and goes on as zero or one
+    pub walk-taken : (q a b x : ℕ) → st ≡ step.Branches q a b → x ≡ cond (bitOf q word) b a → walked p bs ix (left - 1) x l fuel word ≡ whole
+    walk-taken q a b x e k =
+      let calls = callWordsWithin (programAt p bs ix) fuel in
+      let s = at-step p bs ix left at l deep steps e in
+      let part = statementAt p bs ix (left - 1) in
+      let reads = ap (λ (y : ℕ). bitOf y word) (s .3) in
+      rw (← inv, s .2) (byBool (bitOf q word)
+        (λ h. rw (k, h) (sym (word-one calls (s .0) (s .1) (part a) (part b) l word (sym reads ∙ h))))
+        (λ h. rw (k, h) (sym (word-zero calls (s .0) (s .1) (part a) (part b) l word (sym reads ∙ h)))))
+
+    -- a call hands its word on, with what its removals left
+    pub walk-calls : (f place r : ℕ) (rest : List ℕ) → st ≡ step.Calls f place → rest ≡ remaining (removalsOf bs place) l →
+        r ≡ called p bs ix f rest fuel word → r ≡ whole
+    unfolding wordDoes
+    walk-calls f place r rest e kept h = rw (← inv, at-step p bs ix left at l deep steps e, ← kept) h
+
+pub less-deep : (left depth : ℕ) → left ≤ depth → left - 1 ≤ depth
+less-deep left depth h = omega arith
+
+-- ---- call
+
+module _ (p : ℕ) (bs ix : List ℕ) where
+  module _ (f : ℕ) where
+    -- an empty list gives the word back
+    pub call-empty : (l : List ℕ) (fuel word n : ℕ) → n ≡ length l → n ≡ 0 → word ≡ called p bs ix f l fuel word
+    unfolding callWords
+    call-empty [] fuel word n len e = refl
+    call-empty (q ∷ l) fuel word n len e = absurd (omega arith)
+
+    -- so does a call that is too deep
+    pub call-spent : (l : List ℕ) (fuel word : ℕ) → fuel ≡ 0 → word ≡ called p bs ix f l fuel word
+    unfolding callWords callWordsWithin
+    call-spent [] fuel word e = refl
+    call-spent (q ∷ l) fuel word e = rw e
+
+    -- and a call of no procedure
+    pub call-past : (l : List ℕ) (fuel word : ℕ) → p < f → word ≡ called p bs ix f l fuel word
+    unfolding callWords callWordsWithin wordDoes
+    call-past [] fuel word h = refl
+    call-past (q ∷ l) zero word h = refl
+    call-past (q ∷ l) (suc fuel) word h = rw (body-out (programAt p bs ix) f (rw (count-at p bs ix) h))
+
+    -- any other goes on with the body, on the list that was left
+    pub call-body : (l : List ℕ) (fuel word n i r : ℕ) → n ≡ length l → (n ≡ 0 → ⊥) → (fuel ≡ 0 → ⊥) → f ≤ p → i ≡ rootOf ix f →
+        r ≡ walked p bs ix mostDepth i l (fuel - 1) word → r ≡ called p bs ix f l fuel word
+    unfolding callWords callWordsWithin
+    call-body [] fuel word n i r len some left named root h = absurd (some len)
+    call-body (q ∷ l) zero word n i r len some left named root h = absurd (left refl)
+    call-body (q ∷ l) (suc fuel) word n i r len some left named root h =
+      rw (body-at p bs ix f named) (rw (root, less-one fuel) at h)
+
+  -- main, on n qubits: calls go at most p + n deep
+  pub main-ran : (m n i word r : ℕ) (l : List ℕ) → l ≡ qubits m → n ≡ length l → i ≡ rootOf ix 0 →
+      r ≡ walked p bs ix mostDepth i l (p + n) word → r ≡ ranWord (programAt p bs ix) m word
+  unfolding ranWord
+  main-ran m n i word r l all size root h =
+    let len : n ≡ m = size ∙ ap length all ∙ range-length m 1 in
+    rw (count-at p bs ix) (rw (root, all, len) at h)
+
+pub ruleset walking = (
+    needs, le-refl, less-deep, walk-spent, walk-idle, walk-touches, walk-sequence, walk-chosen, walk-taken, walk-calls)
+
+pub ruleset calling = (needs, call-empty, call-spent, call-past, call-body)

@@ -1,0 +1,124 @@
+-- Values of numbers: a sum with a size stays in i32, and a position is compared at zero and at the size before it is an index.
+use Prim.Native.Nat.{ℕ, suc, _-_, _≤_, _<_, zero-le}
+use native.Mathlib.Omega.{arith}
+use mathlib.Core.Path.{_≡_, sym, _∙_}
+use mathlib.Core.Bool.{true, false, _&&_, false≢true}
+use borrow.Author.Tests.{ltb-true, ltb-false, lt-ltb, le-ltb, le-leb, lt-leb, eq-eqb, ne-eqb}
+use lib.Dec.{T, leb, eqb}
+use lib.IntN.{ℤ, pos, negsuc, natAbs, _+ℤ_}
+use lib.Signed.{ltZ, leZ, mag, nonNeg}
+use mir.Syntax.{w32, w64}
+use mir.Val.{Fits, SFits, toZ, ofZ}
+use mir.Facts.{toZ-ofZ, toZ-pos, fits-natAbs}
+use Rattle.model.specs.Limits.{mostConstant}
+use Rattle.model.proofs.BooleanLaws.{byEq, byLt, eqb-same}
+use Rattle.records.specs.declared.Number.{Number}
+use Rattle.records.specs.declared.Number.the-variants.{Constant, SizePlus}
+use Rattle.step.specs.Steps.{valueOf, within}
+
+-- a byte, read as signed, is itself
+pub byte-signed : (n : ℕ) → n < 256 → toZ w32 n ≡ pos n
+byte-signed n h = toZ-pos w32 (omega arith)
+
+-- a sum of at most 32767 and a byte stays in i32
+sum-magnitude : (z : ℤ) (n : ℕ) → mag z < 2147483648 → ltZ (pos mostConstant) z ≡ false → n < 256 → mag (z +ℤ pos n) < 2147483648
+sum-magnitude (pos a) n f t h = let b : a ≤ mostConstant = ltb-false mostConstant a t in omega arith
+sum-magnitude (negsuc a) n f t h = byLt n (suc a)
+    (λ l. rw (lt-ltb n (suc a) l) (omega arith))
+    (λ l. rw (le-ltb n (suc a) l) (omega arith))
+
+sum-fits : (z : ℤ) (n : ℕ) → SFits w32 z → ltZ (pos mostConstant) z ≡ false → n < 256 → SFits w32 (z +ℤ pos n)
+sum-fits z n f t h = record { sfits = sum-magnitude z n (f .sfits) t h }
+
+-- in the machine's terms, which reads signed numbers back from their bits
+module _ (a : Number) (z : ℤ) (n : ℕ) (f : SFits w32 z) (h : n < 256) where
+  -- the sum behind the guard fits
+  pub sum-stays : ltZ (pos mostConstant) (toZ w32 (ofZ w32 z)) ≡ false → SFits w32 (toZ w32 (ofZ w32 z) +ℤ toZ w32 n)
+  sum-stays t = rw (byte-signed n h, toZ-ofZ f) (sum-fits z n f (rw (toZ-ofZ f) at t) h)
+
+  -- and is the value
+  pub value-sum : a ≡ SizePlus z → ltZ (pos mostConstant) (toZ w32 (ofZ w32 z)) ≡ false
+    → toZ w32 (ofZ w32 (toZ w32 (ofZ w32 z) +ℤ toZ w32 n)) ≡ valueOf a n
+  unfolding valueOf
+  value-sum e t = let s : ltZ (pos mostConstant) z ≡ false = rw (toZ-ofZ f) at t in
+    rw (toZ-ofZ (sum-stays t)) (rw (byte-signed n h, toZ-ofZ f, e, s))
+
+  -- a constant of more than 16 bits has value 0
+  pub value-guarded : a ≡ SizePlus z → ltZ (pos mostConstant) (toZ w32 (ofZ w32 z)) ≡ true → pos 0 ≡ valueOf a n
+  unfolding valueOf
+  value-guarded e t = let s : ltZ (pos mostConstant) z ≡ true = rw (toZ-ofZ f) at t in rw (e, s)
+
+  -- base 0 is the constant alone
+  pub value-constant : a ≡ Constant z → toZ w32 (ofZ w32 z) ≡ valueOf a n
+  unfolding valueOf
+  value-constant e = rw e (toZ-ofZ f)
+
+-- a position that is tested at zero and at the size
+within-low : (n : ℕ) (k : ℤ) → ltZ k (pos 1) ≡ true → 0 ≡ within n k
+unfolding within
+within-low n (pos a) t = let b : a < 1 = ltb-true a 1 t in rw (le-ltb n a (omega arith)) (omega arith)
+within-low n (negsuc a) t = rw (le-ltb n 0 zero-le)
+
+within-high : (n : ℕ) (k : ℤ) → ltZ (pos n) k ≡ true → 0 ≡ within n k
+unfolding within
+within-high n (pos a) t = rw t
+within-high n (negsuc a) t = absurd (false≢true t)
+
+within-in : (n : ℕ) (k : ℤ) → ltZ k (pos 1) ≡ false → ltZ (pos n) k ≡ false → natAbs k ≡ within n k
+unfolding within
+within-in n (pos a) s t = rw t
+within-in n (negsuc a) s t = absurd (false≢true (sym s))
+
+not-negative : (k : ℤ) → ltZ k (pos 1) ≡ false → T (nonNeg k)
+not-negative (pos a) t = tt
+not-negative (negsuc a) t = absurd (false≢true (sym t))
+
+module _ (n : ℕ) (k : ℤ) (h : n < 256) (f : SFits w32 k) where
+  -- at or below zero
+  pub position-low : ltZ (toZ w32 (ofZ w32 k)) (pos 1) ≡ true → 0 ≡ within n k
+  position-low t = within-low n k (rw (toZ-ofZ f) at t)
+
+  -- past the end
+  pub position-high : ltZ (toZ w32 n) (toZ w32 (ofZ w32 k)) ≡ true → 0 ≡ within n k
+  position-high t = within-high n k (rw (byte-signed n h, toZ-ofZ f) at t)
+
+  -- inside
+  pub position-in : ltZ (toZ w32 (ofZ w32 k)) (pos 1) ≡ false → ltZ (toZ w32 n) (toZ w32 (ofZ w32 k)) ≡ false
+    → natAbs (toZ w32 (ofZ w32 k)) ≡ within n k
+  position-in s t = rw (toZ-ofZ f) (within-in n k (rw (toZ-ofZ f) at s) (rw (byte-signed n h, toZ-ofZ f) at t))
+
+-- past the test at zero a position is an unsigned number
+pub position-unsigned : (k : ℤ) → SFits w32 k → ltZ (toZ w32 (ofZ w32 k)) (pos 1) ≡ false
+    → T (nonNeg (toZ w32 (ofZ w32 k))) × Fits w64 (natAbs (toZ w32 (ofZ w32 k)))
+position-unsigned k f t = rw (toZ-ofZ f) (not-negative k (rw (toZ-ofZ f) at t), fits-natAbs {w = w32} {w′ = w64} tt f)
+
+-- equal is at most, both ways
+both-ways : (a b : ℕ) → eqb a b ≡ leb a b && leb b a
+both-ways a b = byEq a b
+    (λ e. rw (eq-eqb a b e, le-leb a b (omega arith), le-leb b a (omega arith)))
+    (λ n. rw (ne-eqb a b n) (byLt a b
+      (λ l. rw (le-leb a b (omega arith), lt-leb b a l))
+      (λ l. rw (lt-leb a b (omega (arith, n))))))
+
+-- two signed numbers are equal where their bits are
+equal-bits : (x y : ℤ) → mag x < 2147483648 → mag y < 2147483648 → eqb (ofZ w32 x) (ofZ w32 y) ≡ leZ x y && leZ y x
+equal-bits (pos a) (pos b) f g = both-ways a b
+equal-bits (pos a) (negsuc b) f g = ne-eqb a (4294967296 - suc b) (omega arith)
+equal-bits (negsuc a) (pos b) f g = ne-eqb (4294967296 - suc a) b (omega arith)
+equal-bits (negsuc a) (negsuc b) f g = byEq a b
+    (λ e. rw (e, eqb-same (4294967296 - suc b)) (sym (same-way b)))
+    (λ n. rw (ne-eqb (4294967296 - suc a) (4294967296 - suc b) (omega (arith, n))) (sym (sym (both-ways b a) ∙ ne-eqb b a (omega (arith, n)))))
+  where
+    same-way : (b : ℕ) → leb b b && leb b b ≡ true
+    same-way b = sym (both-ways b b) ∙ eqb-same b
+
+module _ (x y : ℤ) (f : SFits w32 x) (g : SFits w32 y) where
+  -- the code's `==`, `<` and `<=` on i32 are those of the integers
+  pub equal-signed : eqb (ofZ w32 x) (ofZ w32 y) ≡ leZ x y && leZ y x
+  equal-signed = equal-bits x y (f .sfits) (g .sfits)
+
+  pub less-signed : ltZ (toZ w32 (ofZ w32 x)) (toZ w32 (ofZ w32 y)) ≡ ltZ x y
+  less-signed = rw (toZ-ofZ f, toZ-ofZ g)
+
+  pub at-most-signed : leZ (toZ w32 (ofZ w32 x)) (toZ w32 (ofZ w32 y)) ≡ leZ x y
+  at-most-signed = rw (toZ-ofZ f, toZ-ofZ g)

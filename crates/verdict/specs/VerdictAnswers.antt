@@ -1,0 +1,27 @@
+-- What the verdict's answers say, and the refusals of a table that was read, by its index.
+use Prim.Native.Nat.{ℕ, zero, suc}
+use mathlib.Core.Bool.{cond}
+use mathlib.Core.List.{List}
+use Rattle.model.specs.Limits.{noRemoval, tooWide, accessFault, success}
+use Rattle.model.specs.Syntax.{Program}
+use Rattle.model.specs.Answers.{Outcome, gives, refuses}
+use Rattle.table.specs.Index.{programAt}
+use Rattle.reach.specs.CallsInATable.{reachAt, anyLacksIn, anyWideIn}
+use Rattle.faults.specs.RowTable.{faultsAt}
+use Rattle.verdict.specs.declared.Judged.{Judged}
+
+-- "10 over the whole table, then 11, then 12"
+unfoldable pub judgedAt : ℕ → List ℕ → List ℕ → ℕ → ℕ
+judgedAt p bs ix n =
+    cond (anyLacksIn (reachAt p bs ix) p bs ix) noRemoval
+    (cond (anyWideIn (reachAt p bs ix) p bs ix) tooWide
+    (cond (faultsAt p bs ix (reachAt p bs ix) n) accessFault success))
+
+-- number 0 with a program, or a refusal
+unfoldable pub outcomeOf : ℕ → Program → Outcome Program
+outcomeOf zero P = gives P
+outcomeOf (suc k) P = refuses (suc k)
+
+-- what an answer says, with the index that was left
+abbrev pub judgedAs : Judged → List ℕ → List ℕ → Outcome Program
+judgedAs r bs ix = outcomeOf (r .number) (programAt (r .procedures) bs ix)
