@@ -56,9 +56,9 @@ gave (gives a) f e = record { first = a; first-is = refl; then-is = e }
 gave (refuses k) f e = not-both e
 
 -- what acceptance says
-accepted-says : (table : List ℕ) (n : ℕ) (P : Program) → accepted table n ≡ gives P → Accepted n P × (count P ≤ mostProcedures)
+accepted-facts : (table : List ℕ) (n : ℕ) (P : Program) → accepted table n ≡ gives P → Accepted n P × (count P ≤ mostProcedures)
 unfolding accepted
-accepted-says table n P e =
+accepted-facts table n P e =
     let range = required (leb 1 n && leb n mostQubits) _ _ e in
     let reading = gave (outcome (readTable table)) _ (range .1) in
     let Q = reading .first in
@@ -75,10 +75,10 @@ accepted-says table n P e =
       passes12 = not-true (programFaults Q n) (twelve .0) }, read .1)
 
 pub accepted-is : (table : List ℕ) (n : ℕ) (P : Program) → accepted table n ≡ gives P → Accepted n P
-accepted-is table n P e = accepted-says table n P e .0
+accepted-is table n P e = accepted-facts table n P e .0
 
 pub accepted-few : (table : List ℕ) (n : ℕ) (P : Program) → accepted table n ≡ gives P → count P ≤ mostProcedures
-accepted-few table n P e = accepted-says table n P e .1
+accepted-few table n P e = accepted-facts table n P e .1
 
 -- the data wires end as the run leaves them and every other wire at zero
 circuit-ends : (n : ℕ) (P : Program) → Accepted n P → (word : ℕ) → word < 2 ^ n → circuitBlock (circuit P n) word ≡ blockOf (stateOf (endWord P n word))

@@ -1,7 +1,6 @@
 -- The plain reading of `fit`: it gives 0 where every step fits, and otherwise the refusal of the first step that does not fit. What fits is
 -- short enough, has wires of one byte and has fewer gates than four bytes count.
 use mathlib.Core.Path.{_≡_, refl, sym, _∙_}
-use mathlib.Core.Logic.{inl, inr}
 use mathlib.Core.List.{List, [], _∷_}
 use Prim.Native.Nat.{ℕ, _+_, _≤_, _<_}
 use native.Mathlib.Nat.{not-suc-le-zero}
@@ -16,16 +15,16 @@ use Rattle.model.specs.Circuit.{encode, encodeAll}
 use Rattle.model.specs.Answers.{fit}
 use Rattle.model.proofs.BooleanLaws.{byLt, not-zero}
 use Rattle.model.proofs.RoundTrip.{encodeAll-length}
-use Rattle.agreement.proofs.AncillaStack.{highest, peak-highest, Taken}
+use Rattle.agreement.proofs.AncillaStack.{highest, peak-highest}
 
 -- "at the first ancilla or gate that does not fit": k is its refusal, where `used` bytes of the room are filled
 pub data FirstMisfit (room : ℕ) : ℕ → List Event → ℕ → Type 0 where
   wire-past-255 : {used w : ℕ} {es : List Event} → mostWires < w → FirstMisfit room used (takes w ∷ es) manyWires
   gate-past-room : {used : ℕ} {g : Gate} {es : List Event} → room < used + length (encode g) → FirstMisfit room used (places g ∷ es) noRoom
-  behind-takes : {used w k : ℕ} {es : List Event} → w ≤ mostWires → FirstMisfit room used es k → FirstMisfit room used (takes w ∷ es) k
-  behind-places : {used k : ℕ} {g : Gate} {es : List Event} → used + length (encode g) ≤ room →
+  after-takes : {used w k : ℕ} {es : List Event} → w ≤ mostWires → FirstMisfit room used es k → FirstMisfit room used (takes w ∷ es) k
+  after-places : {used k : ℕ} {g : Gate} {es : List Event} → used + length (encode g) ≤ room →
       FirstMisfit room (used + length (encode g)) es k → FirstMisfit room used (places g ∷ es) k
-  behind-frees : {used a k : ℕ} {es : List Event} → FirstMisfit room used es k → FirstMisfit room used (frees a ∷ es) k
+  after-frees : {used a k : ℕ} {es : List Event} → FirstMisfit room used es k → FirstMisfit room used (frees a ∷ es) k
 
 -- every step fits
 abbrev pub AllFit : ℕ → ℕ → List Event → Type 0
@@ -78,21 +77,21 @@ unfolding fit
 fit-first room used [] h = absurd (not-suc-le-zero h)
 fit-first room used (takes w ∷ es) h = byLt mostWires w
     (λ lt. rw (fit-no-wire room used es w lt) (wire-past-255 lt))
-    (λ le. rw (fit-wire room used es w le) (behind-takes le (fit-first room used es (rw (fit-wire room used es w le) at h))))
+    (λ le. rw (fit-wire room used es w le) (after-takes le (fit-first room used es (rw (fit-wire room used es w le) at h))))
 fit-first room used (places g ∷ es) h = byLt room (used + length (encode g))
     (λ lt. rw (fit-no-gate room used es g lt) (gate-past-room lt))
     (λ le. rw (fit-gate room used es g le)
-      (behind-places le (fit-first room (used + length (encode g)) es (rw (fit-gate room used es g le) at h))))
-fit-first room used (frees a ∷ es) h = behind-frees (fit-first room used es h)
+      (after-places le (fit-first room (used + length (encode g)) es (rw (fit-gate room used es g le) at h))))
+fit-first room used (frees a ∷ es) h = after-frees (fit-first room used es h)
 
 -- the refusal of the first step that does not fit is what it gives, and is not 0
 pub first-fit : (room : ℕ) {used k : ℕ} {es : List Event} → FirstMisfit room used es k → (fit room used es ≡ k) × (0 < k)
 unfolding fit
 first-fit room (wire-past-255 {used = used} {w = w} {es = es} h) = (fit-no-wire room used es w h, omega arith)
 first-fit room (gate-past-room {used = used} {g = g} {es = es} h) = (fit-no-gate room used es g h, omega arith)
-first-fit room (behind-takes {used = used} {w = w} {es = es} h m) = let r = first-fit room m in (fit-wire room used es w h ∙ r .0, r .1)
-first-fit room (behind-places {used = used} {g = g} {es = es} h m) = let r = first-fit room m in (fit-gate room used es g h ∙ r .0, r .1)
-first-fit room (behind-frees m) = first-fit room m
+first-fit room (after-takes {used = used} {w = w} {es = es} h m) = let r = first-fit room m in (fit-wire room used es w h ∙ r .0, r .1)
+first-fit room (after-places {used = used} {g = g} {es = es} h m) = let r = first-fit room m in (fit-gate room used es g h ∙ r .0, r .1)
+first-fit room (after-frees m) = first-fit room m
 
 -- the room that the gates take
 pub fits-length : (room used : ℕ) (es : List Event) → used ≤ room → AllFit room used es → used + length (encodeAll (gates es)) ≤ room
@@ -102,14 +101,6 @@ fits-length room used (takes w ∷ es) le h = fits-length room used es le (h .1)
 fits-length room used (places g ∷ es) le h =
     let ih = fits-length room (used + length (encode g)) es (h .0) (h .1) in rw length-append (omega arith)
 fits-length room used (frees a ∷ es) le h = fits-length room used es le h
-
--- every wire taken is one byte
-pub fits-taken : (room used w : ℕ) (es : List Event) → AllFit room used es → Taken w es → w ≤ mostWires
-fits-taken room used w [] h t = absurd t
-fits-taken room used w (takes v ∷ es) h (inl e) = rw e (h .0)
-fits-taken room used w (takes v ∷ es) h (inr t) = fits-taken room used w es (h .1) t
-fits-taken room used w (places g ∷ es) h t = fits-taken room (used + length (encode g)) w es (h .1) t
-fits-taken room used w (frees a ∷ es) h t = fits-taken room used w es h t
 
 highest-fits : (n room used : ℕ) (es : List Event) → n ≤ mostWires → AllFit room used es → highest n es ≤ mostWires
 unfolding highest

@@ -104,9 +104,9 @@ unfoldable total : (ℕ → ℕ) → List ℕ → ℕ → ℕ
 total v seen zero = 0
 total v seen (suc p) = elim (member (suc p) seen) [ true ↦ total v seen p | false ↦ v (suc p) + total v seen p ]
 
-total-seen : (v : ℕ → ℕ) (seen : List ℕ) (p : ℕ) → member (suc p) seen ≡ true → total v seen (suc p) ≡ total v seen p
+total-done : (v : ℕ → ℕ) (seen : List ℕ) (p : ℕ) → member (suc p) seen ≡ true → total v seen (suc p) ≡ total v seen p
 unfolding total
-total-seen v seen p e = rw (e, total)
+total-done v seen p e = rw (e, total)
 
 total-new : (v : ℕ → ℕ) (seen : List ℕ) (p : ℕ) → member (suc p) seen ≡ false → total v seen (suc p) ≡ v (suc p) + total v seen p
 unfolding total
@@ -118,8 +118,8 @@ unfolding total
 total-fewer v seen f zero = zero-le
 total-fewer v seen f (suc p) = let ih = total-fewer v seen f p in byBool (member (suc p) (f ∷ seen))
     (λ e. byBool (member (suc p) seen)
-      (λ h. rw (total-seen v (f ∷ seen) p e, total-seen v seen p h) ih)
-      (λ h. rw (total-seen v (f ∷ seen) p e, total-new v seen p h) (omega arith)))
+      (λ h. rw (total-done v (f ∷ seen) p e, total-done v seen p h) ih)
+      (λ h. rw (total-done v (f ∷ seen) p e, total-new v seen p h) (omega arith)))
     (λ e. rw (total-new v (f ∷ seen) p e, total-new v seen p (not-tail (suc p) f seen e)) (omega arith))
 
 -- one procedure more is seen
@@ -132,9 +132,9 @@ total-take v seen f zero pos le new = absurd (not-suc-le-zero (below pos le))
 total-take v seen f (suc p) pos le new = byEq (suc p) f
     (λ e. let o = total-fewer v seen f p in
           let z : v f ≡ v (suc p) = ap v (sym e) in
-          rw (total-seen v (f ∷ seen) p (rw e (member-head f seen)), total-new v seen p (rw e new)) (omega arith))
+          rw (total-done v (f ∷ seen) p (rw e (member-head f seen)), total-new v seen p (rw e new)) (omega arith))
     (λ ne. let ih = total-take v seen f p pos (omega arith) new in byBool (member (suc p) seen)
-      (λ h. rw (total-seen v (f ∷ seen) p (member-tail (suc p) f seen h), total-seen v seen p h) ih)
+      (λ h. rw (total-done v (f ∷ seen) p (member-tail (suc p) f seen h), total-done v seen p h) ih)
       (λ h. rw (total-new v (f ∷ seen) p (member-skip (suc p) f seen ne h), total-new v seen p h) (omega arith)))
 
 -- the sum over main and the procedures 1 to p

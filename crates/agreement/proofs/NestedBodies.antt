@@ -309,7 +309,7 @@ module _ (P : Program) (rank : ℕ → ℕ) (E : CallDoes) (G : Safely) (n : ℕ
   -- one body more: d is the first of length m among the invocations still to be looked at, and `inner` serves all that is behind
   module _ (m : ℕ) (seen : List ℕ) (d : Invocation) (T D : List Invocation) (next : ℕ) (inner : Emitted)
            (gs : Goods next D) (dd : DistinctAncillas D) (dt : DistinctAncillas (d ∷ T)) (sub : (x : Invocation) → Mem x (d ∷ T) → Mem x D)
-           (len : length (d .list) ≡ m) (unseen : member (d .procedure) seen ≡ false)
+           (len : length (d .list) ≡ m) (not-done : member (d .procedure) seen ≡ false)
            (ih : Serves E (Unserved m (d .procedure ∷ seen) T (D ++ own d next)) (behind d next) (inner .events))
            (room : behind d next ≤ inner .next) where
     gd : Good rank G n k next d
@@ -350,11 +350,11 @@ module _ (P : Program) (rank : ℕ → ℕ) (E : CallDoes) (G : Safely) (n : ℕ
 
     -- d, the later ones of its pair and those served further in are all that is to be served
     first-unserved : All d
-    first-unserved = inr (inl refl, len, unseen)
+    first-unserved = inr (inl refl, len, not-done)
 
     later-unserved : (e : Invocation) → Mem e T → samePair d e ≡ true → All e
     later-unserved e me q =
-      inr (inr me, same-length d e q ∙ len, subst (λ (f : ℕ). member f seen ≡ false) (sym (same-procedure d e q)) unseen)
+      inr (inr me, same-length d e q ∙ len, subst (λ (f : ℕ). member f seen ≡ false) (sym (same-procedure d e q)) not-done)
 
     old-unserved : (x : Invocation) → Old x → All x
     old-unserved x (inl h) = inl h

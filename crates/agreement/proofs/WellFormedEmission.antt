@@ -43,7 +43,7 @@ use Rattle.agreement.proofs.InvocationsOfABody.{Mem, mem-left, Distinct
 use Rattle.agreement.proofs.TrackedSwaps.{asks-under}
 use Rattle.agreement.proofs.NestedBodies.{Goods, next-above, safe-body, ranked-body, goods-more, distinct-more, start-good, chains-served}
 use Rattle.agreement.proofs.Agreement.{callRuns, callSafe, main-low, world, main-safe}
-use Rattle.agreement.proofs.FirstMisfit.{fit-all, fits-length, fits-wires, fits-count}
+use Rattle.agreement.proofs.FirstMisfit.{fit-all, fits-length, fits-wires}
 use Rattle.agreement.proofs.AncillaStack.{
   StackedChains, left-stacked, AllRise, bodies-stacked, bodiesFrom-stacked, chains-stacked, taken-left, taken-right, TakenTo, stacked-to, taken-wires,
 }
@@ -513,7 +513,6 @@ gates-placed most (frees a ∷ es) x = gates-placed most es x
 pub record FittingCircuit (P : Program) (n room : ℕ) : Type 0 where
   pub well-formed : WellFormed (circuit P n)
   pub in-room : length (write (circuit P n)) ≤ room
-  pub countable : length (circuit P n .gates) < 4294967296
 
 -- so it is for every accepted program whose emission fits
 pub emission-well-formed : (P : Program) → Named P → anyLacksRemoval P ≡ false → anyTooWide P ≡ false →
@@ -530,5 +529,4 @@ emission-well-formed P N passes10 passes11 n some few passes12 room header fits 
         few-wires = fits-wires P n (usable room) headerLength (omega arith) fits;
         short = omega arith;
         all-gates = gates-placed (n + peak [] (emission P n)) (emission P n) (emission-placed P N passes10 passes11 n some passes12) };
-      in-room = omega arith;
-      countable = fits-count (usable room) (emission P n) header (omega arith) fits }
+      in-room = omega arith }

@@ -16,7 +16,7 @@ use Rattle.model.specs.Answers.{refuses, number, wellFormed, circuitRead}
 use Rattle.model.proofs.BooleanLaws.{byLt}
 use Rattle.model.proofs.ByteAtAPlace.{byte-there, byte-past}
 use Rattle.circuit.specs.GatesInBytes.{inputAt, fills}
-use Rattle.circuit.specs.Header.{gatesBehind, circuitBehind}
+use Rattle.circuit.specs.Header.{gatesAfter, circuitAfter}
 use Rattle.answers.specs.Structs.{headerOf, refusedHeader}
 use Rattle.answers.specs.declared.CircuitHeader.{CircuitHeader}
 use Rattle.circuit.specs.declared.Header.{Header}
@@ -84,13 +84,13 @@ opened bs h =
 
 -- the ways out of `read_header`
 module _ (bs : List ℕ) where
-  pub header-long : mostCircuit < length bs → circuitBehind bs NoHeader ≡ circuitRead bs
-  unfolding readCircuit provided wellFormed circuitBehind
+  pub header-long : mostCircuit < length bs → circuitAfter bs NoHeader ≡ circuitRead bs
+  unfolding readCircuit provided wellFormed circuitAfter
   header-long h = rw (lt-leb (length bs) mostCircuit h)
 
   module _ (l : length bs ≤ mostCircuit) where
-    pub header-short : length bs < headerLength → circuitBehind bs NoHeader ≡ circuitRead bs
-    unfolding readCircuit provided circuitBehind
+    pub header-short : length bs < headerLength → circuitAfter bs NoHeader ≡ circuitRead bs
+    unfolding readCircuit provided circuitAfter
     header-short h = rw (le-leb (length bs) mostCircuit l) (sym (header-stops bs h))
 
     module _ (h : headerLength ≤ length bs) where
@@ -98,23 +98,23 @@ module _ (bs : List ℕ) where
       unfolding readCircuit provided
       read = rw (le-leb (length bs) mostCircuit l)
 
-      pub header-edition : (getD bs 0 0 ≡ 1 → ⊥) → circuitBehind bs NoHeader ≡ circuitRead bs
-      unfolding provided wellFormed circuitBehind
+      pub header-edition : (getD bs 0 0 ≡ 1 → ⊥) → circuitAfter bs NoHeader ≡ circuitRead bs
+      unfolding provided wellFormed circuitAfter
       header-edition f = rw (read, opened bs h, ne-eqb (getD bs 0 0) 1 f)
 
       module _ (e : getD bs 0 0 ≡ 1) where
-        pub header-none : getD bs 1 0 ≡ 0 → circuitBehind bs NoHeader ≡ circuitRead bs
-        unfolding provided wellFormed circuitBehind
+        pub header-none : getD bs 1 0 ≡ 0 → circuitAfter bs NoHeader ≡ circuitRead bs
+        unfolding provided wellFormed circuitAfter
         header-none z = rw (read, opened bs h, e, z)
 
         module _ (f : getD bs 1 0 ≡ 0 → ⊥) where
-          pub header-qubits : mostQubits < getD bs 1 0 → circuitBehind bs NoHeader ≡ circuitRead bs
-          unfolding provided wellFormed circuitBehind
+          pub header-qubits : mostQubits < getD bs 1 0 → circuitAfter bs NoHeader ≡ circuitRead bs
+          unfolding provided wellFormed circuitAfter
           header-qubits k = rw (read, opened bs h, e, le-leb 1 (getD bs 1 0) (omega arith), lt-leb (getD bs 1 0) mostQubits k)
 
           module _ (k : getD bs 1 0 ≤ mostQubits) where
-            pub header-wires : mostWires - getD bs 1 0 < getD bs 2 0 → circuitBehind bs NoHeader ≡ circuitRead bs
-            unfolding provided wellFormed circuitBehind
+            pub header-wires : mostWires - getD bs 1 0 < getD bs 2 0 → circuitAfter bs NoHeader ≡ circuitRead bs
+            unfolding provided wellFormed circuitAfter
             header-wires m =
                 rw (
                   read,
@@ -126,9 +126,9 @@ module _ (bs : List ℕ) where
                 )
 
             pub header-opened : getD bs 2 0 ≤ mostWires - getD bs 1 0 → (count : ℕ) → count ≡ countIn bs →
-                circuitBehind bs (Opened (record {
+                circuitAfter bs (Opened (record {
                   qubits = getD bs 1 0; ancillas = getD bs 2 0; wires = getD bs 1 0 + getD bs 2 0; gates = count })) ≡ circuitRead bs
-            unfolding provided circuitBehind
+            unfolding provided circuitAfter
             header-opened m count q =
                 rw (
                   read,
@@ -177,20 +177,20 @@ module _ (n ancillas : ℕ) where
   header-bad (refused k) e = refl
 
 -- the ways out of `read_circuit`
-module _ (bs : List ℕ) (found : HeaderRead) (is : circuitBehind bs found ≡ circuitRead bs) where
+module _ (bs : List ℕ) (found : HeaderRead) (is : circuitAfter bs found ≡ circuitRead bs) where
   pub circuit-none : found ≡ NoHeader → (x : CircuitHeader) → x ≡ refusedHeader notWellFormed → x ≡ headerOf (circuitRead bs)
-  unfolding circuitBehind headerOf
+  unfolding circuitAfter headerOf
   circuit-none e x q = rw (q, ← is, e)
 
-  module _ (h : Header) (e : found ≡ Opened h) (good : Bool) (p : good ≡ fills (gatesBehind bs h)) where
+  module _ (h : Header) (e : found ≡ Opened h) (good : Bool) (p : good ≡ fills (gatesAfter bs h)) where
     pub circuit-gates : good ≡ false → (x : CircuitHeader) → x ≡ refusedHeader notWellFormed → x ≡ headerOf (circuitRead bs)
-    unfolding circuitBehind
-    circuit-gates g x q = rw (q, ← is, e) (sym (header-bad (h .qubits) (h .ancillas) (gatesBehind bs h) (sym p ∙ g)))
+    unfolding circuitAfter
+    circuit-gates g x q = rw (q, ← is, e) (sym (header-bad (h .qubits) (h .ancillas) (gatesAfter bs h) (sym p ∙ g)))
 
     pub circuit-whole : good ≡ true →
         record { number = 0; qubits = h .qubits; ancillas = h .ancillas; gates = h .gates } ≡ headerOf (circuitRead bs)
-    unfolding circuitBehind
-    circuit-whole g = rw (← is, e) (sym (header-good (h .qubits) (h .ancillas) (h .gates) (gatesBehind bs h)
+    unfolding circuitAfter
+    circuit-whole g = rw (← is, e) (sym (header-good (h .qubits) (h .ancillas) (h .gates) (gatesAfter bs h)
         (read-counts (h .wires) (h .gates) (inputAt bs headerLength)) (sym p ∙ g)))
 
 pub ruleset circuits = (needs, not-true, not-false, circuit-none, circuit-gates, circuit-whole)

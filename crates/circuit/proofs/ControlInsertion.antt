@@ -44,25 +44,25 @@ module _ (w x : ℕ) (l : List ℕ) where
   unfolding placeFor
   place-stops h = rw (lt-ltb w x h, placeFor)
 
-  place-goes : x ≤ w → placeFor w (x ∷ l) ≡ suc (placeFor w l)
+  place-more : x ≤ w → placeFor w (x ∷ l) ≡ suc (placeFor w l)
   unfolding placeFor
-  place-goes h = rw (le-ltb w x h, placeFor)
+  place-more h = rw (le-ltb w x h, placeFor)
 
   insert-stops : w < x → insert w (x ∷ l) ≡ w ∷ x ∷ l
   unfolding insert
   insert-stops h = rw (lt-ltb w x h, insert)
 
-  insert-goes : x ≤ w → insert w (x ∷ l) ≡ x ∷ insert w l
+  insert-more : x ≤ w → insert w (x ∷ l) ≡ x ∷ insert w l
   unfolding insert
-  insert-goes h = rw (le-ltb w x h, insert)
+  insert-more h = rw (le-ltb w x h, insert)
 
 -- what the loop of `place_for` keeps
 pub place-begins : (w : ℕ) (wires : List ℕ) (count : ℕ) → placeFor w (take count wires) ≡ 0 + placeFor w (part wires 0 (count - 0))
 place-begins w wires count = rw (sub-zero count) (sym (zero-add (placeFor w (take count wires))))
 
-pub array-behind : (wires : List ℕ) (count i : ℕ) → i < count → count ≤ mostControls → length wires ≡ mostControls →
+pub array-after : (wires : List ℕ) (count i : ℕ) → i < count → count ≤ mostControls → length wires ≡ mostControls →
     part wires i (count - i) ≡ getD wires i 0 ∷ part wires (i + 1) (count - (i + 1))
-array-behind wires count i h l all =
+array-after wires count i h l all =
     let e : count - i - 1 ≡ count - (i + 1) = omega arith in
     rw (← e) (part-step wires i (count - i) (omega arith) (omega arith))
 
@@ -76,10 +76,10 @@ module _ (w : ℕ) (wires : List ℕ) (count i k : ℕ)
     pub place-found : w < getD wires i 0 → count ≡ length (take k wires) → i ≡ placeFor w (take k wires)
     place-found s e =
         let z : placeFor w (getD wires i 0 ∷ part wires (i + 1) (count - (i + 1))) ≡ 0 = place-stops w (getD wires i 0) _ s in
-        rw (← take-held count k wires e, inv, array-behind wires count i h l all, z) (sym (add-zero i))
+        rw (← take-held count k wires e, inv, array-after wires count i h l all, z) (sym (add-zero i))
 
     pub place-next : getD wires i 0 ≤ w → placeFor w (take count wires) ≡ (i + 1) + placeFor w (part wires (i + 1) (count - (i + 1)))
-    place-next s = rw (inv, array-behind wires count i h l all, place-goes w (getD wires i 0) (part wires (i + 1) (count - (i + 1))) s) (omega arith)
+    place-next s = rw (inv, array-after wires count i h l all, place-more w (getD wires i 0) (part wires (i + 1) (count - (i + 1))) s) (omega arith)
 
 pub ruleset places = (needs, held-most, place-begins, place-ends, place-found, place-next)
 
@@ -89,14 +89,14 @@ unfolding insert placeFor
 insert-at w [] = refl
 insert-at w (x ∷ l) = byLt w x
     (λ h. rw (insert-stops w x l h, place-stops w x l h))
-    (λ h. rw (insert-goes w x l h, place-goes w x l h) (ap (λ m. x ∷ m) (insert-at w l)))
+    (λ h. rw (insert-more w x l h, place-more w x l h) (ap (λ m. x ∷ m) (insert-at w l)))
 
 place-most : (w : ℕ) (l : List ℕ) → placeFor w l ≤ length l
 unfolding placeFor
 place-most w [] = omega arith
 place-most w (x ∷ l) = byLt w x
     (λ h. rw (place-stops w x l h) (omega arith))
-    (λ h. rw (place-goes w x l h) (let m : placeFor w l ≤ length l = place-most w l in omega arith))
+    (λ h. rw (place-more w x l h) (let m : placeFor w l ≤ length l = place-most w l in omega arith))
 
 -- a list takes a wire while it has fewer than 33
 pub within-takes : (w : ℕ) (l : List ℕ) → length l < mostControls → insertWithin w l ≡ insert w l
@@ -138,7 +138,7 @@ pub carry-next : (w : ℕ) (front wires : List ℕ) (count i carried : ℕ) → 
 carry-next w front wires count i carried h k all inv =
     rw (
       inv,
-      array-behind wires count i h (omega arith) all,
+      array-after wires count i h (omega arith) all,
       add-one i,
       take-suc-set wires i carried (omega arith),
       drop-set-lt (suc i) wires i carried (omega arith),

@@ -19,7 +19,7 @@ use Rattle.circuit.specs.declared.write.ControlList.{ControlList}
 use Rattle.circuit.specs.declared.write.ControlLists.{ControlLists}
 use Rattle.circuit.specs.declared.write.NewGate.{NewGate}
 use Rattle.circuit.proofs.LoopsOverWires.{part-none}
-use Rattle.circuit.proofs.ControlInsertion.{held-most, take-held, array-behind, bytes-empty, bytes-there}
+use Rattle.circuit.proofs.ControlInsertion.{held-most, take-held, array-after, bytes-empty, bytes-there}
 
 -- a list's bit is no more than its value, so the map fits a byte
 bit-most : (value : ℕ) (l : List ℕ) → listBit value l ≤ value
@@ -88,7 +88,7 @@ module _ (room wires : List ℕ) (place count i : ℕ) (first : List ℕ) (at : 
 
   pub wires-next : i < count → count ≤ mostControls → length wires ≡ mostControls →
       sets first at (take count wires) ≡ sets (set room place (getD wires i 0)) (place + 1) (part wires (i + 1) (count - (i + 1)))
-  wires-next h l all = rw (inv, array-behind wires count i h l all, add-one place)
+  wires-next h l all = rw (inv, array-after wires count i h l all, add-one place)
 
 pub ruleset wired = (needs, held-most, wires-begin, wires-past, wires-end, wires-next)
 

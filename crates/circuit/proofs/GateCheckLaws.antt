@@ -11,7 +11,7 @@ use Rattle.model.specs.Circuit.{gateIsWellFormed}
 use Rattle.circuit.proofs.WellFormedGate.{checked-is}
 use Rattle.circuit.specs.declared.GateAt.{GateAt}
 use Rattle.circuit.specs.GatesInBytes.{listIn, gateIn}
-use Rattle.circuit.specs.GateChecks.{tidy, free, paired, checked}
+use Rattle.circuit.specs.GateChecks.{controlsWellFormed, free, paired, checked}
 
 -- the ways out of `is_free`
 module _ (most : ℕ) (ones zeros : List ℕ) (w : ℕ) where
@@ -34,13 +34,13 @@ module _ (most : ℕ) (ones zeros : List ℕ) (w : ℕ) where
       free-rest e other q = rw (le-leb 1 w (omega arith), le-leb w most h, ← is, e, ← q)
 
 -- the ways out of `well_formed`
-module _ (bs : List ℕ) (g : GateAt) (most : ℕ) (neat : Bool) (is : neat ≡ tidy 0 most (listIn bs (g .ones)) (listIn bs (g .zeros))) where
+module _ (bs : List ℕ) (g : GateAt) (most : ℕ) (neat : Bool) (is : neat ≡ controlsWellFormed 0 most (listIn bs (g .ones)) (listIn bs (g .zeros))) where
   formed : gateIsWellFormed most (gateIn bs g) ≡ checked most (g .swaps) (listIn bs (g .ones)) (listIn bs (g .zeros)) (g .target) (g .second)
   formed = checked-is most (g .swaps) (listIn bs (g .ones)) (listIn bs (g .zeros)) (g .target) (g .second)
 
-  pub formed-untidy : neat ≡ false → false ≡ gateIsWellFormed most (gateIn bs g)
+  pub formed-bad-controls : neat ≡ false → false ≡ gateIsWellFormed most (gateIn bs g)
   unfolding checked
-  formed-untidy e = rw (formed, ← is, e)
+  formed-bad-controls e = rw (formed, ← is, e)
 
   module _ (e : neat ≡ true) (hits : Bool) (q : hits ≡ free most (listIn bs (g .ones)) (listIn bs (g .zeros)) (g .target)) where
     pub formed-target : hits ≡ false → false ≡ gateIsWellFormed most (gateIn bs g)
@@ -64,4 +64,4 @@ module _ (bs : List ℕ) (g : GateAt) (most : ℕ) (neat : Bool) (is : neat ≡ 
 
 pub ruleset frees = (needs, free-zero, free-high, free-one, free-rest)
 
-pub ruleset forms = (needs, not-true, not-false, formed-untidy, formed-target, formed-flip, formed-order, formed-swap)
+pub ruleset forms = (needs, not-true, not-false, formed-bad-controls, formed-target, formed-flip, formed-order, formed-swap)

@@ -16,7 +16,7 @@ use Rattle.model.specs.Gates.{Gate}
 use Rattle.model.specs.Circuit.{wireList, gateOf, gateIsWellFormed, readGate, readGates}
 use Rattle.model.proofs.BooleanLaws.{byBool, byLt}
 use Rattle.model.proofs.ByteAtAPlace.{byte-there, byte-past}
-use Rattle.circuit.specs.GatesInBytes.{inputAt, settled, fills, listIn, listSeen, gateIn, gateSeen, judged, gateEnd}
+use Rattle.circuit.specs.GatesInBytes.{inputAt, settled, fills, listIn, listParsed, gateIn, gateParsed, gateChecked, gateEnd}
 use Rattle.circuit.specs.declared.WireList.{WireList}
 use Rattle.circuit.specs.declared.ListRead.{ListRead}
 use Rattle.circuit.specs.declared.ListRead.the-variants.{Wires, NoWires}
@@ -36,97 +36,97 @@ unfolding settled andThen
 settled-refused (parsed b j) k f e = let z : _≡_ {A = ℕ} 0 1 = cc in absurd (omega arith)
 settled-refused (refused n) k f e = refl
 
-settled-judged : (most : ℕ) (g : Gate) (i : Input) → settled (judged most g i) ≡ judged most g i
+settled-checked : (most : ℕ) (g : Gate) (i : Input) → settled (gateChecked most g i) ≡ gateChecked most g i
 unfolding settled provided
-settled-judged most g i = byBool (gateIsWellFormed most g) (λ e. rw e) (λ e. rw e)
+settled-checked most g i = byBool (gateIsWellFormed most g) (λ e. rw e) (λ e. rw e)
 
--- the ways out of `judge`
+-- the ways out of `check-gate`
 module _ (bs : List ℕ) (g : GateAt) (most : ℕ) (good : Bool) (is : good ≡ gateIsWellFormed most (gateIn bs g)) where
-  pub judged-good : good ≡ true → gateSeen bs (Found g) ≡ judged most (gateIn bs g) (inputAt bs (g .next))
-  unfolding gateSeen provided
-  judged-good e = rw (← is, e)
+  pub check-good : good ≡ true → gateParsed bs (Found g) ≡ gateChecked most (gateIn bs g) (inputAt bs (g .next))
+  unfolding gateParsed provided
+  check-good e = rw (← is, e)
 
-  pub judged-bad : good ≡ false → gateSeen bs NoGate ≡ judged most (gateIn bs g) (inputAt bs (g .next))
-  unfolding gateSeen provided
-  judged-bad e = rw (← is, e)
+  pub check-bad : good ≡ false → gateParsed bs NoGate ≡ gateChecked most (gateIn bs g) (inputAt bs (g .next))
+  unfolding gateParsed provided
+  check-bad e = rw (← is, e)
 
-pub ruleset judges = (needs, judged-good, judged-bad)
+pub ruleset gate-checks = (needs, check-good, check-bad)
 
 -- the ways out of `end_gate`
 module _ (bs : List ℕ) (most target : ℕ) (ones zeros : WireList) (swaps : Bool) (r : GateRead) where
   abbrev Ends : Type 0
-  Ends = gateSeen bs r ≡ settled (gateEnd most swaps (listIn bs ones) (listIn bs zeros) target (inputAt bs (zeros .next)))
+  Ends = gateParsed bs r ≡ settled (gateEnd most swaps (listIn bs ones) (listIn bs zeros) target (inputAt bs (zeros .next)))
 
   abbrev Judged : GateAt → Type 0
-  Judged g = gateSeen bs r ≡ judged most (gateIn bs g) (inputAt bs (g .next))
+  Judged g = gateParsed bs r ≡ gateChecked most (gateIn bs g) (inputAt bs (g .next))
 
   pub end-flip : swaps ≡ false →
       Judged (record { target = target; ones = ones; zeros = zeros; swaps = false; second = 0; next = zeros .next }) → Ends
   unfolding andThen gateOf
-  end-flip e s = rw (e, s) (sym (settled-judged most _ _))
+  end-flip e s = rw (e, s) (sym (settled-checked most _ _))
 
   pub end-swap : swaps ≡ true → zeros .next < length bs →
       Judged (record { target = target; ones = ones; zeros = zeros; swaps = true; second = getD bs (zeros .next) 0; next = zeros .next + 1 }) → Ends
   unfolding andThen gateOf
-  end-swap e h s = rw (e, byte-there bs (zeros .next) 0 h, s) (sym (settled-judged most _ _))
+  end-swap e h s = rw (e, byte-there bs (zeros .next) 0 h, s) (sym (settled-checked most _ _))
 
 pub end-short : (bs : List ℕ) (most target : ℕ) (ones zeros : WireList) (swaps : Bool) → swaps ≡ true → length bs ≤ zeros .next →
-    gateSeen bs NoGate ≡ settled (gateEnd most swaps (listIn bs ones) (listIn bs zeros) target (inputAt bs (zeros .next)))
-unfolding gateSeen settled andThen gateOf
+    gateParsed bs NoGate ≡ settled (gateEnd most swaps (listIn bs ones) (listIn bs zeros) target (inputAt bs (zeros .next)))
+unfolding gateParsed settled andThen gateOf
 end-short bs most target ones zeros swaps e h = rw (e, byte-past bs (zeros .next) 0 h)
 
 pub ruleset ends = (needs, not-true, not-false, end-flip, end-swap, end-short)
 
 -- a gate behind its map, its target and the first list of its controls
-abbrev behindOnes : ℕ → ℕ → ℕ → List ℕ → Input → Parsed Gate
-behindOnes most map target ones i =
+abbrev afterOnes : ℕ → ℕ → ℕ → List ℕ → Input → Parsed Gate
+afterOnes most map target ones i =
     andThen (optional (eqb (map / 2 % 2) 1) wireList [] i) (λ zeros j. gateEnd most (eqb (map / 4 % 2) 1) ones zeros target j)
 
 -- the ways out of `read_gate`
 module _ (bs : List ℕ) (at most : ℕ) where
-  gate-lacks : length bs < at + 2 → gateSeen bs NoGate ≡ settled (readGate most (inputAt bs at))
-  unfolding gateSeen settled readGate andThen
+  gate-lacks : length bs < at + 2 → gateParsed bs NoGate ≡ settled (readGate most (inputAt bs at))
+  unfolding gateParsed settled readGate andThen
   gate-lacks h = byLt at (length bs)
       (λ l. rw (byte-there bs at 0 l, byte-past bs (at + 1) 0 (omega arith)))
       (λ l. rw (byte-past bs at 0 l))
 
-  pub gate-none : length bs < 2 → gateSeen bs NoGate ≡ settled (readGate most (inputAt bs at))
+  pub gate-none : length bs < 2 → gateParsed bs NoGate ≡ settled (readGate most (inputAt bs at))
   gate-none h = gate-lacks (omega arith)
 
   module _ (l : 2 ≤ length bs) where
-    pub gate-short : length bs - 2 < at → gateSeen bs NoGate ≡ settled (readGate most (inputAt bs at))
+    pub gate-short : length bs - 2 < at → gateParsed bs NoGate ≡ settled (readGate most (inputAt bs at))
     gate-short h = gate-lacks (omega arith)
 
     module _ (h : at ≤ length bs - 2) where
       opened : readGate most (inputAt bs at) ≡ provided (ltb (getD bs at 0) 8) notWellFormed
           (andThen (optional (eqb (getD bs at 0 % 2) 1) wireList [] (inputAt bs (at + 2)))
-          (λ ones i. behindOnes most (getD bs at 0) (getD bs (at + 1) 0) ones i))
+          (λ ones i. afterOnes most (getD bs at 0) (getD bs (at + 1) 0) ones i))
       unfolding readGate andThen
       opened =
           let e : (at + 1) + 1 ≡ at + 2 = omega arith in
           rw (byte-there bs at 0 (omega arith), byte-there bs (at + 1) 0 (omega arith), e, div-one (getD bs at 0))
 
-      pub gate-map : 7 < getD bs at 0 → gateSeen bs NoGate ≡ settled (readGate most (inputAt bs at))
-      unfolding gateSeen settled provided
+      pub gate-map : 7 < getD bs at 0 → gateParsed bs NoGate ≡ settled (readGate most (inputAt bs at))
+      unfolding gateParsed settled provided
       gate-map k = rw (opened, le-ltb (getD bs at 0) 8 (omega arith))
 
       module _ (k : getD bs at 0 ≤ 7) (x : ListRead)
-          (p : listSeen bs x ≡ settled (optional (eqb (getD bs at 0 % 2) 1) wireList [] (inputAt bs (at + 2)))) where
+          (p : listParsed bs x ≡ settled (optional (eqb (getD bs at 0 % 2) 1) wireList [] (inputAt bs (at + 2)))) where
         kept : readGate most (inputAt bs at) ≡ andThen (optional (eqb (getD bs at 0 % 2) 1) wireList [] (inputAt bs (at + 2)))
-            (λ ones i. behindOnes most (getD bs at 0) (getD bs (at + 1) 0) ones i)
+            (λ ones i. afterOnes most (getD bs at 0) (getD bs (at + 1) 0) ones i)
         unfolding provided
         kept = rw (opened, lt-ltb (getD bs at 0) 8 (omega arith))
 
-        pub gate-ones : x ≡ NoWires → gateSeen bs NoGate ≡ settled (readGate most (inputAt bs at))
-        unfolding gateSeen listSeen
+        pub gate-ones : x ≡ NoWires → gateParsed bs NoGate ≡ settled (readGate most (inputAt bs at))
+        unfolding gateParsed listParsed
         gate-ones e = rw kept
             (settled-refused (optional (eqb (getD bs at 0 % 2) 1) wireList [] (inputAt bs (at + 2))) notWellFormed
-            (λ ones i. behindOnes most (getD bs at 0) (getD bs (at + 1) 0) ones i) (rw e at p))
+            (λ ones i. afterOnes most (getD bs at 0) (getD bs (at + 1) 0) ones i) (rw e at p))
 
         module _ (ones : WireList) (e : x ≡ Wires ones) (y : ListRead)
-            (q : listSeen bs y ≡ settled (optional (eqb (getD bs at 0 / 2 % 2) 1) wireList [] (inputAt bs (ones .next)))) where
-          with-ones : readGate most (inputAt bs at) ≡ behindOnes most (getD bs at 0) (getD bs (at + 1) 0) (listIn bs ones) (inputAt bs (ones .next))
-          unfolding listSeen andThen
+            (q : listParsed bs y ≡ settled (optional (eqb (getD bs at 0 / 2 % 2) 1) wireList [] (inputAt bs (ones .next)))) where
+          with-ones : readGate most (inputAt bs at) ≡ afterOnes most (getD bs at 0) (getD bs (at + 1) 0) (listIn bs ones) (inputAt bs (ones .next))
+          unfolding listParsed andThen
           with-ones =
               rw (
                 kept,
@@ -134,17 +134,17 @@ module _ (bs : List ℕ) (at most : ℕ) where
                     (listIn bs ones) (inputAt bs (ones .next)) (rw e at p),
               )
 
-          pub gate-zeros : y ≡ NoWires → gateSeen bs NoGate ≡ settled (readGate most (inputAt bs at))
-          unfolding gateSeen listSeen
+          pub gate-zeros : y ≡ NoWires → gateParsed bs NoGate ≡ settled (readGate most (inputAt bs at))
+          unfolding gateParsed listParsed
           gate-zeros f = rw with-ones
               (settled-refused (optional (eqb (getD bs at 0 / 2 % 2) 1) wireList [] (inputAt bs (ones .next))) notWellFormed
               (λ zeros i. gateEnd most (eqb (getD bs at 0 / 4 % 2) 1) (listIn bs ones) zeros (getD bs (at + 1) 0) i) (rw f at q))
 
           pub gate-end : (zeros : WireList) → y ≡ Wires zeros → (r : GateRead) →
-              gateSeen bs r ≡ settled (gateEnd most (eqb (getD bs at 0 / 4 % 2) 1) (listIn bs ones) (listIn bs zeros) (getD bs (at + 1) 0)
+              gateParsed bs r ≡ settled (gateEnd most (eqb (getD bs at 0 / 4 % 2) 1) (listIn bs ones) (listIn bs zeros) (getD bs (at + 1) 0)
               (inputAt bs (zeros .next))) →
-              gateSeen bs r ≡ settled (readGate most (inputAt bs at))
-          unfolding listSeen andThen
+              gateParsed bs r ≡ settled (readGate most (inputAt bs at))
+          unfolding listParsed andThen
           gate-end zeros f r s =
               rw (
                 with-ones,
@@ -187,9 +187,9 @@ module _ (bs : List ℕ) (at most left : ℕ) (whole : Bool) (inv : whole ≡ fi
       (λ l. rw (lt-leb (length bs) at l, ne-eqb (length bs - at) 0 (λ e. omega arith)))
       (λ l. rw (le-leb (length bs) at l, eq-eqb (length bs - at) 0 (omega arith))))
 
-  module _ (h : 0 < left) (x : GateRead) (p : gateSeen bs x ≡ settled (readGate most (inputAt bs at))) where
+  module _ (h : 0 < left) (x : GateRead) (p : gateParsed bs x ≡ settled (readGate most (inputAt bs at))) where
     pub fill-bad : x ≡ NoGate → false ≡ whole
-    unfolding gateSeen fills
+    unfolding gateParsed fills
     fill-bad e =
         rw (
           inv,
@@ -199,7 +199,7 @@ module _ (bs : List ℕ) (at most left : ℕ) (whole : Bool) (inv : whole ≡ fi
         )
 
     pub fill-next : (g : GateAt) → x ≡ Found g → whole ≡ fills (readGates most (left - 1) (inputAt bs (g .next)))
-    unfolding gateSeen andThen
+    unfolding gateParsed andThen
     fill-next g e =
         rw (
           inv,

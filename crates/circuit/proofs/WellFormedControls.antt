@@ -1,4 +1,4 @@
--- Two lists of controls, walked at once: what the loop of `are_tidy` keeps.
+-- Two lists of controls, walked at once: what the loop of `controls_well_formed` keeps.
 use mathlib.Core.Path.{_≡_, refl, sym}
 use mathlib.Core.Bool.{Bool, true, false, and-true, and-false}
 use mathlib.Core.List.{List, [], _∷_}
@@ -11,7 +11,7 @@ use lib.Dec.{eqb}
 use Rattle.model.specs.Lists.{member}
 use Rattle.model.proofs.BooleanLaws.{byBool, byEq, byLt, eqb-same, not-true-false, or-false, or-false-left, or-false-right}
 use Rattle.circuit.specs.GatesInBytes.{part}
-use Rattle.circuit.specs.GateChecks.{rising, meets, tidy}
+use Rattle.circuit.specs.GateChecks.{rising, meets, controlsWellFormed}
 use Rattle.circuit.proofs.LoopsOverWires.{part-step, part-none, part-past}
 use Rattle.circuit.proofs.WellFormedGate.{rising-above}
 
@@ -45,32 +45,32 @@ fresh-cons : (w x most : ℕ) (l : List ℕ) → w < x → rising x most l ≡ t
 unfolding member
 fresh-cons w x most l h r = or-false (eqb w x) (member w l) (ne-eqb w x (λ e. omega arith)) (fresh x most l w r (omega arith))
 
-tidy-no-ones : (low most : ℕ) (m : List ℕ) → tidy low most [] m ≡ rising low most m
-unfolding tidy rising meets
-tidy-no-ones low most m = and-true (rising low most m)
+controls-no-ones : (low most : ℕ) (m : List ℕ) → controlsWellFormed low most [] m ≡ rising low most m
+unfolding controlsWellFormed rising meets
+controls-no-ones low most m = and-true (rising low most m)
 
-tidy-no-zeros : (low most : ℕ) (l : List ℕ) → tidy low most l [] ≡ rising low most l
-unfolding tidy rising
-tidy-no-zeros low most l = simp (meets-none, and-true)
+controls-no-zeros : (low most : ℕ) (l : List ℕ) → controlsWellFormed low most l [] ≡ rising low most l
+unfolding controlsWellFormed rising
+controls-no-zeros low most l = simp (meets-none, and-true)
 
 -- the lower of the two next wires is of the first list
-tidy-one : (low most a b : ℕ) (l m : List ℕ) → low < a → a < b → tidy low most (a ∷ l) (b ∷ m) ≡ tidy a most l (b ∷ m)
-unfolding tidy rising
-tidy-one low most a b l m h k = byLt most b
+controls-one : (low most a b : ℕ) (l m : List ℕ) → low < a → a < b → controlsWellFormed low most (a ∷ l) (b ∷ m) ≡ controlsWellFormed a most l (b ∷ m)
+unfolding controlsWellFormed rising
+controls-one low most a b l m h k = byLt most b
     (λ q. simp (lt-leb b most q, and-false))
     (λ q. byBool (rising b most m)
     (λ r. rw (lt-ltb low a h, lt-ltb low b (omega arith), lt-ltb a b k, le-leb a most (omega arith), meets-first a l (b ∷ m) (fresh-cons a b most m k r)))
     (λ r. simp (r, and-false)))
 
-tidy-same : (low most a : ℕ) (l m : List ℕ) → tidy low most (a ∷ l) (a ∷ m) ≡ tidy a most (a ∷ l) m
-unfolding tidy rising
-tidy-same low most a l m = simp (meets-same, le-ltb a a (omega arith), and-false)
+controls-same : (low most a : ℕ) (l m : List ℕ) → controlsWellFormed low most (a ∷ l) (a ∷ m) ≡ controlsWellFormed a most (a ∷ l) m
+unfolding controlsWellFormed rising
+controls-same low most a l m = simp (meets-same, le-ltb a a (omega arith), and-false)
 
 -- the lower of the two next wires is of the second list
-tidy-zero : (low most a b : ℕ) (l m : List ℕ) → low < b → b ≤ a → tidy low most (a ∷ l) (b ∷ m) ≡ tidy b most (a ∷ l) m
-unfolding tidy rising
-tidy-zero low most a b l m h k = byEq b a
-    (λ e. rw e (tidy-same low most a l m))
+controls-zero : (low most a b : ℕ) (l m : List ℕ) → low < b → b ≤ a → controlsWellFormed low most (a ∷ l) (b ∷ m) ≡ controlsWellFormed b most (a ∷ l) m
+unfolding controlsWellFormed rising
+controls-zero low most a b l m h k = byEq b a
+    (λ e. rw e (controls-same low most a l m))
     (λ f. byLt most a
     (λ q. simp (lt-leb a most q, and-false))
     (λ q. byBool (rising a most l)
@@ -78,21 +78,21 @@ tidy-zero low most a b l m h k = byEq b a
         meets-second b (a ∷ l) m (fresh-cons b a most l (omega arith) r)))
     (λ r. simp (r, and-false))))
 
--- what the loop of `are_tidy` keeps
-module _ (bs : List ℕ) (one ones zero zeros low most : ℕ) (whole : Bool) (inv : whole ≡ tidy low most (part bs one ones) (part bs zero zeros)) where
+-- what the loop of `controls_well_formed` keeps
+module _ (bs : List ℕ) (one ones zero zeros low most : ℕ) (whole : Bool) (inv : whole ≡ controlsWellFormed low most (part bs one ones) (part bs zero zeros)) where
   module _ (rest : Bool) (is : rest ≡ rising low most (part bs zero zeros)) where
-    pub tidied-ones : ones ≤ 0 → rest ≡ whole
-    tidied-ones l = rw (is, inv, part-none bs one ones l) (sym (tidy-no-ones low most (part bs zero zeros)))
+    pub controls-loop-ones : ones ≤ 0 → rest ≡ whole
+    controls-loop-ones l = rw (is, inv, part-none bs one ones l) (sym (controls-no-ones low most (part bs zero zeros)))
 
-    pub tidied-ones-past : length bs ≤ one → rest ≡ whole
-    tidied-ones-past l = rw (is, inv, part-past bs one ones l) (sym (tidy-no-ones low most (part bs zero zeros)))
+    pub controls-loop-ones-past : length bs ≤ one → rest ≡ whole
+    controls-loop-ones-past l = rw (is, inv, part-past bs one ones l) (sym (controls-no-ones low most (part bs zero zeros)))
 
   module _ (rest : Bool) (is : rest ≡ rising low most (part bs one ones)) where
-    pub tidied-zeros : zeros ≡ 0 → rest ≡ whole
-    tidied-zeros l = rw (is, inv, part-none bs zero zeros (omega arith)) (sym (tidy-no-zeros low most (part bs one ones)))
+    pub controls-loop-zeros : zeros ≡ 0 → rest ≡ whole
+    controls-loop-zeros l = rw (is, inv, part-none bs zero zeros (omega arith)) (sym (controls-no-zeros low most (part bs one ones)))
 
-    pub tidied-zeros-past : length bs ≤ zero → rest ≡ whole
-    tidied-zeros-past l = rw (is, inv, part-past bs zero zeros l) (sym (tidy-no-zeros low most (part bs one ones)))
+    pub controls-loop-zeros-past : length bs ≤ zero → rest ≡ whole
+    controls-loop-zeros-past l = rw (is, inv, part-past bs zero zeros l) (sym (controls-no-zeros low most (part bs one ones)))
 
   module _ (l : 0 < ones) (h : one < length bs) (f : zeros ≡ 0 → ⊥) (k : zero < length bs) where
     first : part bs one ones ≡ getD bs one 0 ∷ part bs (one + 1) (ones - 1)
@@ -102,22 +102,22 @@ module _ (bs : List ℕ) (one ones zero zeros low most : ℕ) (whole : Bool) (in
     second = part-step bs zero zeros (omega arith) k
 
     module _ (lower : getD bs one 0 < getD bs zero 0) where
-      pub tidied-one-low : getD bs one 0 ≤ low → false ≡ whole
-      unfolding tidy rising
-      tidied-one-low e = rw (inv, first, le-ltb low (getD bs one 0) e)
+      pub controls-loop-one-low : getD bs one 0 ≤ low → false ≡ whole
+      unfolding controlsWellFormed rising
+      controls-loop-one-low e = rw (inv, first, le-ltb low (getD bs one 0) e)
 
-      pub tidied-one : low < getD bs one 0 → whole ≡ tidy (getD bs one 0) most (part bs (one + 1) (ones - 1)) (part bs zero zeros)
-      tidied-one e = rw (inv, first, second)
-          (tidy-one low most (getD bs one 0) (getD bs zero 0) (part bs (one + 1) (ones - 1)) (part bs (zero + 1) (zeros - 1)) e lower)
+      pub controls-loop-one : low < getD bs one 0 → whole ≡ controlsWellFormed (getD bs one 0) most (part bs (one + 1) (ones - 1)) (part bs zero zeros)
+      controls-loop-one e = rw (inv, first, second)
+          (controls-one low most (getD bs one 0) (getD bs zero 0) (part bs (one + 1) (ones - 1)) (part bs (zero + 1) (zeros - 1)) e lower)
 
     module _ (lower : getD bs zero 0 ≤ getD bs one 0) where
-      pub tidied-zero-low : getD bs zero 0 ≤ low → false ≡ whole
-      unfolding tidy rising
-      tidied-zero-low e = simp (inv, second, le-ltb low (getD bs zero 0) e, and-false)
+      pub controls-loop-zero-low : getD bs zero 0 ≤ low → false ≡ whole
+      unfolding controlsWellFormed rising
+      controls-loop-zero-low e = simp (inv, second, le-ltb low (getD bs zero 0) e, and-false)
 
-      pub tidied-zero : low < getD bs zero 0 → whole ≡ tidy (getD bs zero 0) most (part bs one ones) (part bs (zero + 1) (zeros - 1))
-      tidied-zero e = rw (inv, first, second)
-          (tidy-zero low most (getD bs one 0) (getD bs zero 0) (part bs (one + 1) (ones - 1)) (part bs (zero + 1) (zeros - 1)) e lower)
+      pub controls-loop-zero : low < getD bs zero 0 → whole ≡ controlsWellFormed (getD bs zero 0) most (part bs one ones) (part bs (zero + 1) (zeros - 1))
+      controls-loop-zero e = rw (inv, first, second)
+          (controls-zero low most (getD bs one 0) (getD bs zero 0) (part bs (one + 1) (ones - 1)) (part bs (zero + 1) (zeros - 1)) e lower)
 
-pub ruleset tidies =
-    (needs, tidied-ones, tidied-ones-past, tidied-zeros, tidied-zeros-past, tidied-one-low, tidied-one, tidied-zero-low, tidied-zero)
+pub ruleset control-checks =
+    (needs, controls-loop-ones, controls-loop-ones-past, controls-loop-zeros, controls-loop-zeros-past, controls-loop-one-low, controls-loop-one, controls-loop-zero-low, controls-loop-zero)

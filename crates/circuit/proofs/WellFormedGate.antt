@@ -13,7 +13,7 @@ use Rattle.model.proofs.BooleanLaws.{byBool, same-test, and-left, and-right, an
 use Rattle.model.proofs.ListLaws.{member-cases, member-append}
 use Rattle.model.proofs.AscendingWires.{ascends-tail, ascends-fresh, ascends-distinct, within-append}
 use Rattle.circuit.specs.GatesInBytes.{gateWith}
-use Rattle.circuit.specs.GateChecks.{rising, meets, tidy, free, paired, checked}
+use Rattle.circuit.specs.GateChecks.{rising, meets, controlsWellFormed, free, paired, checked}
 
 -- the three parts of a test on a list's first wire
 module _ (a b c : Bool) where
@@ -128,7 +128,7 @@ swap-order false false false false false true true true true true zeros = simp a
 -- the code's checks are document 01's
 pub checked-is : (most : ℕ) (swaps : Bool) (ones zeros : List ℕ) (u v : ℕ) →
     gateIsWellFormed most (gateWith swaps (record { ones = ones; zeros = zeros }) u v) ≡ checked most swaps ones zeros u v
-unfolding gateIsWellFormed checked paired tidy free wires controlsOf lowerFirst distinct within member
+unfolding gateIsWellFormed checked paired controlsWellFormed free wires controlsOf lowerFirst distinct within member
 checked-is most false ones zeros u v = byBool (ascends ones)
     (λ a. byBool (ascends zeros)
     (λ b. rw (

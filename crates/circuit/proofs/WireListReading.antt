@@ -15,7 +15,7 @@ use Rattle.model.specs.Circuit.{bytes, wireList}
 use Rattle.model.proofs.BooleanLaws.{byLt}
 use Rattle.model.proofs.ByteAtAPlace.{byte-there, byte-past}
 use Rattle.circuit.proofs.LoopsOverWires.{part-step}
-use Rattle.circuit.specs.GatesInBytes.{part, inputAt, settled, listSeen}
+use Rattle.circuit.specs.GatesInBytes.{part, inputAt, settled, listParsed}
 use Rattle.circuit.specs.declared.ListRead.the-variants.{Wires, NoWires}
 
 -- n bytes from a place on, where they are there
@@ -42,30 +42,30 @@ bytes-past bs (suc n) at h l =
 -- the ways out of `read_list`
 module _ (bs : List ℕ) (at : ℕ) (stands : Bool) where
   pub list-absent : stands ≡ false →
-      listSeen bs (Wires (record { from = at; count = 0; next = at })) ≡ settled (optional stands wireList [] (inputAt bs at))
-  unfolding listSeen settled optional
+      listParsed bs (Wires (record { from = at; count = 0; next = at })) ≡ settled (optional stands wireList [] (inputAt bs at))
+  unfolding listParsed settled optional
   list-absent e = rw e
 
   module _ (e : stands ≡ true) where
-    pub list-past : length bs ≤ at → listSeen bs NoWires ≡ settled (optional stands wireList [] (inputAt bs at))
-    unfolding listSeen settled optional wireList andThen
+    pub list-past : length bs ≤ at → listParsed bs NoWires ≡ settled (optional stands wireList [] (inputAt bs at))
+    unfolding listParsed settled optional wireList andThen
     list-past h = rw (e, byte-past bs at 0 h)
 
     module _ (h : at < length bs) (n : ℕ) (is : n ≡ getD bs at 0) where
-      pub list-zero : n ≡ 0 → listSeen bs NoWires ≡ settled (optional stands wireList [] (inputAt bs at))
-      unfolding listSeen settled optional wireList andThen provided
+      pub list-zero : n ≡ 0 → listParsed bs NoWires ≡ settled (optional stands wireList [] (inputAt bs at))
+      unfolding listParsed settled optional wireList andThen provided
       list-zero z = rw (e, byte-there bs at 0 h, ← is, z)
 
       module _ (f : n ≡ 0 → ⊥) where
-        pub list-short : length bs - at ≤ n → listSeen bs NoWires ≡ settled (optional stands wireList [] (inputAt bs at))
-        unfolding listSeen settled optional wireList andThen provided
+        pub list-short : length bs - at ≤ n → listParsed bs NoWires ≡ settled (optional stands wireList [] (inputAt bs at))
+        unfolding listParsed settled optional wireList andThen provided
         list-short l =
             let k : length bs < (at + 1) + n = omega arith in
             rw (e, byte-there bs at 0 h, ← is, le-leb 1 n (omega arith), bytes-past bs n (at + 1) (omega arith) k)
 
         pub list-whole : n < length bs - at →
-            listSeen bs (Wires (record { from = at + 1; count = n; next = at + 1 + n })) ≡ settled (optional stands wireList [] (inputAt bs at))
-        unfolding listSeen settled optional wireList andThen provided
+            listParsed bs (Wires (record { from = at + 1; count = n; next = at + 1 + n })) ≡ settled (optional stands wireList [] (inputAt bs at))
+        unfolding listParsed settled optional wireList andThen provided
         list-whole l =
             let k : (at + 1) + n ≤ length bs = omega arith in
             rw (e, byte-there bs at 0 h, ← is, le-leb 1 n (omega arith), bytes-at bs n (at + 1) k)

@@ -16,8 +16,8 @@ meets [] m = false
 meets (w ∷ l) m = member w m || meets l m
 
 -- the controls of a gate: the wires of each list ascend from above `low` to at most `most`, and no wire is in both
-unfoldable pub tidy : ℕ → ℕ → List ℕ → List ℕ → Bool
-tidy low most ones zeros = rising low most ones && rising low most zeros && not (meets ones zeros)
+unfoldable pub controlsWellFormed : ℕ → ℕ → List ℕ → List ℕ → Bool
+controlsWellFormed low most ones zeros = rising low most ones && rising low most zeros && not (meets ones zeros)
 
 -- a wire of the gate beside its controls: 1 to `most`, and in neither list
 unfoldable pub free : ℕ → List ℕ → List ℕ → ℕ → Bool
@@ -30,4 +30,4 @@ paired most false ones zeros u v = true
 
 -- a NOT on u, or a swap of u and v, under controls
 unfoldable pub checked : ℕ → Bool → List ℕ → List ℕ → ℕ → ℕ → Bool
-checked most swaps ones zeros u v = tidy 0 most ones zeros && free most ones zeros u && paired most swaps ones zeros u v
+checked most swaps ones zeros u v = controlsWellFormed 0 most ones zeros && free most ones zeros u && paired most swaps ones zeros u v

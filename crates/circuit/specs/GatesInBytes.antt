@@ -38,9 +38,9 @@ fills (refused k) = false
 abbrev pub listIn : List ℕ → WireList → List ℕ
 listIn bs l = part bs (l .from) (l .count)
 
-unfoldable pub listSeen : List ℕ → ListRead → Parsed (List ℕ)
-listSeen bs (Wires l) = parsed (listIn bs l) (inputAt bs (l .next))
-listSeen bs NoWires = refused notWellFormed
+unfoldable pub listParsed : List ℕ → ListRead → Parsed (List ℕ)
+listParsed bs (Wires l) = parsed (listIn bs l) (inputAt bs (l .next))
+listParsed bs NoWires = refused notWellFormed
 
 abbrev pub controlsIn : List ℕ → GateAt → Controls
 controlsIn bs g = record { ones = listIn bs (g .ones); zeros = listIn bs (g .zeros) }
@@ -54,14 +54,14 @@ gateWith false cs u v = flip cs u
 abbrev pub gateIn : List ℕ → GateAt → Gate
 gateIn bs g = gateWith (g .swaps) (controlsIn bs g) (g .target) (g .second)
 
-unfoldable pub gateSeen : List ℕ → GateRead → Parsed Gate
-gateSeen bs (Found g) = parsed (gateIn bs g) (inputAt bs (g .next))
-gateSeen bs NoGate = refused notWellFormed
+unfoldable pub gateParsed : List ℕ → GateRead → Parsed Gate
+gateParsed bs (Found g) = parsed (gateIn bs g) (inputAt bs (g .next))
+gateParsed bs NoGate = refused notWellFormed
 
 -- the gate and what is left behind it, if it is well formed
-abbrev pub judged : ℕ → Gate → Input → Parsed Gate
-judged most g i = provided (gateIsWellFormed most g) notWellFormed (parsed g i)
+abbrev pub gateChecked : ℕ → Gate → Input → Parsed Gate
+gateChecked most g i = provided (gateIsWellFormed most g) notWellFormed (parsed g i)
 
 -- a gate behind its controls: a swap's second wire, then the verdict
 abbrev pub gateEnd : ℕ → Bool → List ℕ → List ℕ → ℕ → Input → Parsed Gate
-gateEnd most swaps ones zeros target i = andThen (gateOf swaps (record { ones = ones; zeros = zeros }) target i) (λ g j. judged most g j)
+gateEnd most swaps ones zeros target i = andThen (gateOf swaps (record { ones = ones; zeros = zeros }) target i) (λ g j. gateChecked most g j)

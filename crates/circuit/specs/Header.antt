@@ -12,10 +12,10 @@ use Rattle.circuit.specs.declared.HeaderRead.{HeaderRead}
 use Rattle.circuit.specs.declared.HeaderRead.the-variants.{Opened, NoHeader}
 
 -- the gates behind a header
-abbrev pub gatesBehind : List ℕ → Header → Parsed (List Gate)
-gatesBehind bs h = readGates (h .wires) (h .gates) (inputAt bs headerLength)
+abbrev pub gatesAfter : List ℕ → Header → Parsed (List Gate)
+gatesAfter bs h = readGates (h .wires) (h .gates) (inputAt bs headerLength)
 
 -- the circuit that stands behind a header, if it is well formed
-unfoldable pub circuitBehind : List ℕ → HeaderRead → Outcome Circuit
-circuitBehind bs (Opened h) = wellFormed (wholeCircuit (h .qubits) (h .ancillas) (gatesBehind bs h))
-circuitBehind bs NoHeader = refuses notWellFormed
+unfoldable pub circuitAfter : List ℕ → HeaderRead → Outcome Circuit
+circuitAfter bs (Opened h) = wellFormed (wholeCircuit (h .qubits) (h .ancillas) (gatesAfter bs h))
+circuitAfter bs NoHeader = refuses notWellFormed

@@ -6,9 +6,9 @@ ghost use Rattle.model.specs.Lists.{member};
 ghost use Rattle.model.specs.Circuit.{wireList, readGate, readGates, gateIsWellFormed};
 ghost use Rattle.model.specs.Reading.{optional};
 ghost use Rattle.model.specs.Answers.{circuitRead};
-ghost use Rattle.circuit.specs.GatesInBytes.{part, inputAt, settled, fills, listIn, listSeen, gateIn, gateSeen, judged, gateEnd};
-ghost use Rattle.circuit.specs.GateChecks.{rising, free, tidy};
-ghost use Rattle.circuit.specs.Header.{circuitBehind};
+ghost use Rattle.circuit.specs.GatesInBytes.{part, inputAt, settled, fills, listIn, listParsed, gateIn, gateParsed, gateChecked, gateEnd};
+ghost use Rattle.circuit.specs.GateChecks.{rising, free, controlsWellFormed};
+ghost use Rattle.circuit.specs.Header.{circuitAfter};
 ghost use Rattle.answers.specs.Structs.{headerOf, refusedHeader};
 ghost use Rattle.model.specs.Limits.{notWellFormed};
 use answers::CircuitHeader;
@@ -102,8 +102,8 @@ pub fn ascending(bytes: &[u8], from: usize, count: usize, floor: u8, most: u8) -
 
 // Do the wires of each list ascend from 1 to `most`, with no wire in both?
 // Both lists are walked at once, the lower of their next wires first: each must be above the one before.
-fn are_tidy(bytes: &[u8], ones: WireList, zeros: WireList, most: u8) -> bool
-    ensures { λ r. ⌜ r ≡ tidy 0 most (listIn (now (bytes .entry)) ones) (listIn (now (bytes .entry)) zeros) ⌝ }
+fn controls_well_formed(bytes: &[u8], ones: WireList, zeros: WireList, most: u8) -> bool
+    ensures { λ r. ⌜ r ≡ controlsWellFormed 0 most (listIn (now (bytes .entry)) ones) (listIn (now (bytes .entry)) zeros) ⌝ }
 {
     let mut low = 0;
     let mut one = ones.from;
@@ -163,7 +163,7 @@ fn well_formed(bytes: &[u8], gate: GateAt, most: u8) -> bool
 {
     let ones = gate.ones;
     let zeros = gate.zeros;
-    if !are_tidy(bytes, ones, zeros, most) {
+    if !controls_well_formed(bytes, ones, zeros, most) {
         return false;
     }
     if !is_free(bytes, ones, zeros, most, gate.target) {
@@ -180,7 +180,7 @@ fn well_formed(bytes: &[u8], gate: GateAt, most: u8) -> bool
 
 // "count and wires", where the list's bit stands in the map; otherwise no wire.
 fn read_list(bytes: &[u8], at: usize, stands: bool) -> ListRead
-    ensures { λ r. ⌜ listSeen (now (bytes .entry)) r ≡ settled (optional stands wireList [] (inputAt (now (bytes .entry)) at)) ⌝ }
+    ensures { λ r. ⌜ listParsed (now (bytes .entry)) r ≡ settled (optional stands wireList [] (inputAt (now (bytes .entry)) at)) ⌝ }
 {
     if !stands {
         return ListRead::Wires(WireList {
@@ -207,9 +207,9 @@ fn read_list(bytes: &[u8], at: usize, stands: bool) -> ListRead
 }
 
 // The gate, if it is well formed.
-pub fn judge(bytes: &[u8], gate: GateAt, most: u8) -> GateRead
-    ensures { λ r. ⌜ gateSeen (now (bytes .entry)) r
-        ≡ judged most (gateIn (now (bytes .entry)) gate) (inputAt (now (bytes .entry)) (gate .next)) ⌝ }
+pub fn check_gate(bytes: &[u8], gate: GateAt, most: u8) -> GateRead
+    ensures { λ r. ⌜ gateParsed (now (bytes .entry)) r
+        ≡ gateChecked most (gateIn (now (bytes .entry)) gate) (inputAt (now (bytes .entry)) (gate .next)) ⌝ }
 {
     if well_formed(bytes, gate, most) {
         GateRead::Found(gate)
@@ -227,7 +227,7 @@ fn end_gate(
     swaps: bool,
     most: u8,
 ) -> GateRead
-    ensures { λ r. ⌜ gateSeen (now (bytes .entry)) r ≡ settled (gateEnd most swaps (listIn (now (bytes .entry)) ones)
+    ensures { λ r. ⌜ gateParsed (now (bytes .entry)) r ≡ settled (gateEnd most swaps (listIn (now (bytes .entry)) ones)
         (listIn (now (bytes .entry)) zeros) target (inputAt (now (bytes .entry)) (zeros .next))) ⌝ }
 {
     let next = zeros.next;
@@ -240,7 +240,7 @@ fn end_gate(
             second: 0,
             next: next,
         };
-        return judge(bytes, gate, most);
+        return check_gate(bytes, gate, most);
     }
     if bytes.len() <= next {
         return GateRead::NoGate;
@@ -253,12 +253,12 @@ fn end_gate(
         second: bytes[next],
         next: next + 1,
     };
-    judge(bytes, gate, most)
+    check_gate(bytes, gate, most)
 }
 
 // One gate over wires 1 to `most`, from a place on.
 pub fn read_gate(bytes: &[u8], at: usize, most: u8) -> GateRead
-    ensures { λ r. ⌜ gateSeen (now (bytes .entry)) r ≡ settled (readGate most (inputAt (now (bytes .entry)) at)) ⌝ }
+    ensures { λ r. ⌜ gateParsed (now (bytes .entry)) r ≡ settled (readGate most (inputAt (now (bytes .entry)) at)) ⌝ }
 {
     if bytes.len() < 2 {
         return GateRead::NoGate;
@@ -308,7 +308,7 @@ fn little_endian(a: u8, b: u8, c: u8, d: u8) -> u32
 
 // A circuit's header: edition byte 1, n of 1 to 32, at most 255 wires, in at most 65,536 bytes.
 pub fn read_header(bytes: &[u8]) -> HeaderRead
-    ensures { λ r. ⌜ circuitBehind (now (bytes .entry)) r ≡ circuitRead (now (bytes .entry)) ⌝ }
+    ensures { λ r. ⌜ circuitAfter (now (bytes .entry)) r ≡ circuitRead (now (bytes .entry)) ⌝ }
 {
     if MOST_CIRCUIT < bytes.len() {
         return HeaderRead::NoHeader;

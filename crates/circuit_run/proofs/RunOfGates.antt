@@ -21,7 +21,7 @@ use Rattle.wires.specs.StateOfABlock.{stateIn, inState}
 use Rattle.wires.specs.declared.Wires.{Wires}
 use Rattle.wires.proofs.BlocksAndStates.{IsBlock, block-bytes, bytes-inside, state-of-block, act-inside}
 use Rattle.wires.proofs.WireOperations.{is-block, same-state}
-use Rattle.circuit.specs.GatesInBytes.{inputAt, settled, gateIn, gateSeen}
+use Rattle.circuit.specs.GatesInBytes.{inputAt, settled, gateIn, gateParsed}
 use Rattle.circuit.specs.declared.GateAt.{GateAt}
 use Rattle.circuit.specs.declared.GateRead.{GateRead}
 use Rattle.circuit.specs.declared.GateRead.the-variants.{Found, NoGate}
@@ -68,15 +68,15 @@ module _ (bs : List ℕ) (at most left : ℕ) (wires : Wires) (whole : Option Wi
       (λ l. rw (lt-leb (length bs) at l, ne-eqb (length bs - at) 0 (λ e. omega arith)))
       (λ l. rw (le-leb (length bs) at l, eq-eqb (length bs - at) 0 (omega arith))))
 
-  module _ (h : 0 < left) (x : GateRead) (p : gateSeen bs x ≡ settled (readGate most (inputAt bs at))) where
+  module _ (h : 0 < left) (x : GateRead) (p : gateParsed bs x ≡ settled (readGate most (inputAt bs at))) where
     pub run-bad : x ≡ NoGate → none ≡ whole
-    unfolding gateSeen
+    unfolding gateParsed
     run-bad e = rw (inv, ran-more most left (inputAt bs at) h) (sym (ran-refused wires (readGate most (inputAt bs at)) _ (rw e at p)))
 
     pub run-next : (g : GateAt) → x ≡ Found g → IsBlock (wires .bits) → most < 256 →
         (next : Wires) → next ≡ inState (act (gateIn bs g) (stateIn (wires .bits))) wires →
         whole ≡ ranOf next (readGates most (left - 1) (inputAt bs (g .next)))
-    unfolding gateSeen andThen
+    unfolding gateParsed andThen
     run-next g e b k next n =
         let found : readGate most (inputAt bs at) ≡ parsed (gateIn bs g) (inputAt bs (g .next)) =
         settled-parsed (readGate most (inputAt bs at)) (gateIn bs g) (inputAt bs (g .next)) (rw e at p) in

@@ -25,8 +25,8 @@ abbrev pub endedAs : Bool → Wires → Option Wires
 endedAs true wires = some wires
 endedAs false wires = none
 
-abbrev pub seen : Ran → Option Wires
-seen r = endedAs (r .ended) (r .wires)
+abbrev pub wiresAtEnd : Ran → Option Wires
+wiresAtEnd r = endedAs (r .ended) (r .wires)
 
 -- gates that were read act on the wires in order; "no byte is left"
 unfoldable pub ranOf : Wires → Parsed (List Gate) → Option Wires

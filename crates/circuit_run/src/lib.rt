@@ -5,7 +5,7 @@ ghost use Rattle.model.specs.Circuit.{readGates};
 ghost use Rattle.model.specs.Answers.{circuitRun};
 ghost use Rattle.wires.specs.StateOfABlock.{stateIn, inState};
 ghost use Rattle.circuit.specs.GatesInBytes.{part, inputAt, gateIn, controlsIn};
-ghost use Rattle.circuit_run.specs.RunAnswers.{allHold, seen, ranOf, endAnswer};
+ghost use Rattle.circuit_run.specs.RunAnswers.{allHold, wiresAtEnd, ranOf, endAnswer};
 ghost use Rattle.answers.specs.Structs.{refusedBlock, blockAnswer};
 use answers::CircuitBlock;
 use circuit::GateAt;
@@ -66,7 +66,7 @@ fn act(bytes: &[u8], gate: GateAt, wires: Wires) -> Wires
 
 // Each gate is read, judged and let act, then the next: the run ends where the gates fill the bytes.
 fn run_gates(bytes: &[u8], from: usize, most: u8, count: u32, wires: Wires) -> Ran
-    ensures { λ r. ⌜ seen r ≡ ranOf wires (readGates most count (inputAt (now (bytes .entry)) from)) ⌝ }
+    ensures { λ r. ⌜ wiresAtEnd r ≡ ranOf wires (readGates most count (inputAt (now (bytes .entry)) from)) ⌝ }
 {
     let mut current = wires;
     let mut at = from;
@@ -103,7 +103,7 @@ pub fn refused(number: u8) -> CircuitBlock
 
 // "Reading a circuit gives 14 before 13."
 pub fn answer(ran: Ran, word: u64) -> CircuitBlock
-    ensures { λ r. ⌜ r ≡ endAnswer word (seen ran) ⌝ }
+    ensures { λ r. ⌜ r ≡ endAnswer word (wiresAtEnd ran) ⌝ }
 {
     let wires = ran.wires;
     let low = fits(word, wires.data);

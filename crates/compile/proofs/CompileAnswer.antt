@@ -1,4 +1,4 @@
--- The ways out of `compile_judged` and `compile`: what each has learnt, and that the answer is document 01's.
+-- The ways out of `compile_checked` and `compile`: what each has learnt, and that the answer is document 01's.
 use mathlib.Core.Path.{_≡_, refl, ap, subst}
 use mathlib.Core.List.{List}
 use Prim.Native.Nat.{ℕ, _≤_, _<_}
@@ -13,9 +13,9 @@ use Rattle.agreement.proofs.CompilePromise.{accepted-is, accepted-few, compiles
 use Rattle.table.specs.Index.{programAt}
 use Rattle.reach.specs.CallsInATable.{reachAt}
 use Rattle.reach.proofs.MatrixOfAProgram.{count-at}
-use Rattle.verdict.specs.declared.Judged.{Judged}
-use Rattle.verdict.specs.VerdictAnswers.{judgedAs}
-use Rattle.verdict.proofs.AcceptanceAndRefusal.{refused-judged, accepted-judged}
+use Rattle.verdict.specs.declared.Checked.{Checked}
+use Rattle.verdict.specs.VerdictAnswers.{checkedOutcome}
+use Rattle.verdict.proofs.AcceptanceAndRefusal.{refused-checked, accepted-checked}
 use Rattle.compile.specs.declared.Compiled.{Compiled}
 use Rattle.compile.specs.Passes.{Compiles, walks-twice, emissionAnswer, compiledOf}
 use Rattle.compile.specs.AnswerAndRoom.{Answered, answered, answeredOf}
@@ -32,42 +32,42 @@ pub answer-halves : (o : Outcome (List ℕ)) (room : List ℕ) {r : Compiled} {r
 answer-halves o room is = (ap answerIn is, ap roomIn is)
 
 -- the matrix is that of reach
-pub judged-compiles : (bs ix m : List ℕ) (p n : ℕ) (room ws : List ℕ) (r : Compiled) (room₁ ws₁ : List ℕ) → m ≡ reachAt p bs ix →
+pub checked-compiles : (bs ix m : List ℕ) (p n : ℕ) (room ws : List ℕ) (r : Compiled) (room₁ ws₁ : List ℕ) → m ≡ reachAt p bs ix →
     Compiles bs ix m p n room ws r room₁ ws₁ → Compiles bs ix (reachAt p bs ix) p n room ws r room₁ ws₁
-judged-compiles bs ix m p n room ws r room₁ ws₁ e c = subst (λ (x : List ℕ). Compiles bs ix x p n room ws r room₁ ws₁) e c
+checked-compiles bs ix m p n room ws r room₁ ws₁ e c = subst (λ (x : List ℕ). Compiles bs ix x p n room ws r room₁ ws₁) e c
 
-module _ (bs ix : List ℕ) (n : ℕ) (room ws : List ℕ) (j : Judged) (is : judgedAs j bs ix ≡ accepted bs n) where
+module _ (bs ix : List ℕ) (n : ℕ) (room ws : List ℕ) (j : Checked) (is : checkedOutcome j bs ix ≡ accepted bs n) where
   abbrev P : Program
   P = programAt (j .procedures) bs ix
 
-  abbrev said : Answered
-  said = answeredOf (compile bs n (length room) (length ws)) room
+  abbrev expected : Answered
+  expected = answeredOf (compile bs n (length room) (length ws)) room
 
-  pub compile-refused : (j .number ≡ 0 → ⊥) → answered (record { number = j .number; length = 0 }) room ≡ said
+  pub compile-refused : (j .number ≡ 0 → ⊥) → answered (record { number = j .number; length = 0 }) room ≡ expected
   unfolding compile after number valueOr roomAfter
-  compile-refused some = rw (refused-judged bs ix n 0 j is some)
+  compile-refused some = rw (refused-checked bs ix n 0 j is some)
 
   module _ (none : j .number ≡ 0) where
-    judged : accepted bs n ≡ gives P
-    judged = accepted-judged bs ix n 0 j is none
+    checked : accepted bs n ≡ gives P
+    checked = accepted-checked bs ix n 0 j is none
 
-    pub compile-short : length ws < leastWorkspace → answered (record { number = shortWorkspace; length = 0 }) room ≡ said
+    pub compile-short : length ws < leastWorkspace → answered (record { number = shortWorkspace; length = 0 }) room ≡ expected
     unfolding compile after require number valueOr roomAfter
-    compile-short h = rw (judged, lt-leb leastWorkspace (length ws) h)
+    compile-short h = rw (checked, lt-leb leastWorkspace (length ws) h)
 
-    pub compile-many : mostQubits < n → answered (record { number = wrongQubits; length = 0 }) room ≡ said
-    compile-many h = let few = accepted-is bs n P judged .few in absurd (beyond few h)
+    pub compile-many : mostQubits < n → answered (record { number = wrongQubits; length = 0 }) room ≡ expected
+    compile-many h = let few = accepted-is bs n P checked .few in absurd (beyond few h)
       where
         beyond : n ≤ mostQubits → mostQubits < n → ⊥
         beyond few h = omega arith
 
     pub compile-emits : leastWorkspace ≤ length ws → n ≤ mostQubits → (r : Compiled) (room₁ ws₁ : List ℕ) →
-        Compiles bs ix (reachAt (j .procedures) bs ix) (j .procedures) n room ws r room₁ ws₁ → answered r room₁ ≡ said
+        Compiles bs ix (reachAt (j .procedures) bs ix) (j .procedures) n room ws r room₁ ws₁ → answered r room₁ ≡ expected
     unfolding emissionAnswer
     compile-emits h low r room₁ ws₁ (walks-twice c) =
-      let few : j .procedures ≤ mostProcedures = rw (count-at (j .procedures) bs ix) at (accepted-few bs n P judged) in
+      let few : j .procedures ≤ mostProcedures = rw (count-at (j .procedures) bs ix) at (accepted-few bs n P checked) in
       let both = c few refl low (omega arith) in
-      let same = compiles bs n (length room) (length ws) P judged h in
+      let same = compiles bs n (length room) (length ws) P checked h in
       rw (both .0, both .1, same)
 
 pub ruleset answers = (needs, compile-refused, compile-short, compile-many, compile-emits)

@@ -21,7 +21,7 @@ use Rattle.circuit.proofs.GateBytes.{sets-append}
 use Rattle.table.specs.Index.{programAt}
 use Rattle.reach.specs.CallsInATable.{reachAt}
 use Rattle.events.specs.declared.Emit.{Emit}
-use Rattle.events.specs.Scan.{Seen, emitOf, roomOf, begun, emissionEnd, wireOf}
+use Rattle.events.specs.Scan.{Progress, emitOf, roomOf, begun, emissionEnd, wireOf}
 use Rattle.events.proofs.ScanOfEvents.{emission-status, emission-ends, emission-within, measured-room}
 use Rattle.emit.specs.WalkPromises.{Emits}
 use Rattle.emit.proofs.EmissionOfMain.{use-main}
@@ -97,7 +97,7 @@ write-walk {bs = bs} {ix = ix} {p = p} {n = n} {measured = measured} {room = roo
     let header₁ : headerLength ≤ usable (length room₁) = rw same header in
     let fits₁ : fit (usable (length room₁)) headerLength (emission P n) ≡ 0 = rw same fits in
     let e = use-main A few reach small space .0 ∙ emission-ends true P n room₁ header₁ fits₁ in
-    let used : b .used ≡ headerLength + length bytes = ap (λ (x : Seen). emitOf x .used) e in
+    let used : b .used ≡ headerLength + length bytes = ap (λ (x : Progress). emitOf x .used) e in
     let left : room₂ ≡ sets room₁ headerLength bytes = ap roomOf e in
     let long = circuit-length P n in
     (number-given P n (b .used) (used ∙ sym long), left ∙ rw room-is (both-stored P n room header fits)))
@@ -121,7 +121,7 @@ module _ {bs ix m : List ℕ} {p n : ℕ} {room ws : List ℕ} {a : Emit} {room�
     (few : p ≤ mostProcedures) (reach : m ≡ reachAt p bs ix) (small : n ≤ mostQubits) (space : slotsLength ≤ length ws)
     (header : headerLength ≤ usable (length room)) where
   measured-status : a .status ≡ fit (usable (length room)) headerLength (emission (programAt p bs ix) n)
-  measured-status = ap (λ (x : Seen). emitOf x .status) (use-main A few reach small space .0) ∙ emission-status false (programAt p bs ix) n room header
+  measured-status = ap (λ (x : Progress). emitOf x .status) (use-main A few reach small space .0) ∙ emission-status false (programAt p bs ix) n room header
 
   measured-same : room₁ ≡ room
   measured-same = ap roomOf (use-main A few reach small space .0) ∙ measured-room (emission (programAt p bs ix) n) (begun n) room

@@ -13,7 +13,7 @@ use events::{Emit, wire};
 use emit::emit_main;
 use limits::{HEADER_LENGTH, INDEX_LENGTH, LEAST_WORKSPACE, MATRIX_LENGTH, MOST_N, NO_ROOM, SHORT_WORKSPACE, WRONG_QUBITS};
 use reach::fill_reach;
-use verdict::judge;
+use verdict::check_table;
 
 // What compile answers: 0 or the number that refuses, and the circuit's length in bytes.
 pub struct Compiled {
@@ -76,7 +76,7 @@ fn compile_emission(
 }
 
 // The circuit of a table that was judged, by its index.
-fn compile_judged(table: &[u8], index: &[u16; INDEX_LENGTH], p: u8, n: u8, room: &mut [u8], workspace: &mut [u8]) -> Compiled
+fn compile_checked(table: &[u8], index: &[u16; INDEX_LENGTH], p: u8, n: u8, room: &mut [u8], workspace: &mut [u8]) -> Compiled
     ensures { λ r. ⌜ Compiles (now (table .entry)) (now (index .entry)) (reachAt p (now (table .entry)) (now (index .entry))) p n
         (now (room .entry)) (now (workspace .entry)) r (now (room .exit)) (now (workspace .exit)) ⌝ }
 {
@@ -92,8 +92,8 @@ fn translate(table: &[u8], n: u32, room: &mut [u8], workspace: &mut [u8]) -> Com
         answeredOf (model.compile (now (table .entry)) n (length (now (room .entry))) (length (now (workspace .entry)))) (now (room .entry)) ⌝ }
 {
     let mut index = [0u16; INDEX_LENGTH];
-    let judged = judge(table, n, &mut index);
-    let number = judged.number;
+    let checked = check_table(table, n, &mut index);
+    let number = checked.number;
     if number != 0 {
         return Compiled { number, length: 0 };
     }
@@ -104,11 +104,11 @@ fn translate(table: &[u8], n: u32, room: &mut [u8], workspace: &mut [u8]) -> Com
     if MOST_N < n {
         return Compiled { number: WRONG_QUBITS, length: 0 };
     }
-    compile_judged(table, &index, judged.procedures, n as u8, room, workspace)
+    compile_checked(table, &index, checked.procedures, n as u8, room, workspace)
 }
 
 // "all of it is zero afterwards, at any length"
-pub fn wipe(workspace: &mut [u8])
+pub fn clear(workspace: &mut [u8])
     ensures { λ r. ⌜ now (workspace .exit) ≡ workspaceAfter (now (workspace .entry)) ⌝ }
 {
     let mut i = 0;
@@ -125,6 +125,6 @@ pub fn compile(table: &[u8], n: u32, room: &mut [u8], workspace: &mut [u8]) -> C
     ensures { λ r. ⌜ now (workspace .exit) ≡ workspaceAfter (now (workspace .entry)) ⌝ }
 {
     let compiled = translate(table, n, room, workspace);
-    wipe(workspace);
+    clear(workspace);
     compiled
 }

@@ -28,11 +28,11 @@ use Rattle.table.specs.Index.{startOf, statementAt, programAt}
 use Rattle.reach.proofs.MatrixOfAProgram.{count-at, body-at}
 use Rattle.step.proofs.StatementAtARecord.{spent-skip}
 use Rattle.events.specs.declared.Emit.{Emit}
-use Rattle.events.specs.Scan.{Seen, seen, emitOf, freed, placed, stored, scan, slotProcedure, slotList, wireOf, slotOf, heldIn}
+use Rattle.events.specs.Scan.{Progress, progress, emitOf, freed, placed, stored, scan, slotProcedure, slotList, wireOf, slotOf, heldIn}
 use Rattle.events.specs.Slots.{appears, seekOf}
 use Rattle.events.specs.FollowedEvents.{Follows, Opens, Invokes}
 use Rattle.emit.specs.WalkPromises.{
-  Ready, Roomy, bodyDepth, chainsIn, bodiesUpTo, leftOf, rightOf, SeenIn, Call, walks-call, Left, Right, Fore, walks-fore, Back, walks-back, Bodies,
+  Ready, Roomy, bodyDepth, chainsIn, bodiesUpTo, leftOf, rightOf, DoneIn, Call, walks-call, Left, Right, BodyLeft, walks-body-left, BodyRight, walks-body-right, Bodies,
   walks-bodies, Rest, walks-rest, Inner, walks-inner, Body, walks-body,
 }
 use Rattle.events.proofs.ScanOfEvents.{scan-append, scan-stopped, scan-places, scan-no-gate, scan-many, scan-frees, nextAfter, stacked-after}
@@ -68,28 +68,28 @@ module _ (bs ix : List ℕ) (p k : ℕ) where
   bodies-all (suc n) all next = refl
 
 -- no slot, no procedure
-pub none-seen : (ws : List ℕ) (base n : ℕ) → SeenIn ws base n base []
+pub none-done : (ws : List ℕ) (base n : ℕ) → DoneIn ws base n base []
 unfolding appears member
-none-seen ws base n f = let e : base - base ≡ 0 = omega arith in rw e
+none-done ws base n f = let e : base - base ≡ 0 = omega arith in rw e
 
 module _ {bs ix m : List ℕ} {p k : ℕ} {write : Bool} {st : Emit} {room ws : List ℕ} {r : Emit} {room₁ ws₁ : List ℕ} where
-  use-fore : {d : ℕ} → Fore bs ix m p k write st room ws r room₁ ws₁ d → Ready bs ix m p st ws → d ≤ mostWires →
+  use-body-left : {d : ℕ} → BodyLeft bs ix m p k write st room ws r room₁ ws₁ d → Ready bs ix m p st ws → d ≤ mostWires →
       Opens write (leftOf bs ix p k (slotOf ws d) (st .next)) (bodyInvocations (programAt p bs ix) (chainsIn bs ix p k) (slotOf ws d) (st .next))
         st room ws r room₁ ws₁
-  use-fore (walks-fore g) = g
+  use-body-left (walks-body-left g) = g
 
-  use-back : {d first : ℕ} → Back bs ix m p k write st room ws r room₁ ws₁ d first → Ready bs ix m p st ws → d ≤ mostWires →
+  use-body-right : {d first : ℕ} → BodyRight bs ix m p k write st room ws r room₁ ws₁ d first → Ready bs ix m p st ws → d ≤ mostWires →
       (st .status ≡ 0 → first + length (bodyInvocations (programAt p bs ix) (chainsIn bs ix p k) (slotOf ws d) first) ≤ wireCount) →
       Follows write (rightOf bs ix p k (slotOf ws d) first (st .next)) st room ws r room₁ ws₁
-  use-back (walks-back g) = g
+  use-body-right (walks-body-right g) = g
 
   pub use-bodies : {base n j upto : ℕ} → Bodies bs ix m p k write st room ws r room₁ ws₁ base n j upto → Ready bs ix m p st ws → base ≤ j →
-      upto ≤ st .next → base ≤ st .next → (known : List ℕ) → SeenIn ws base n j known →
+      upto ≤ st .next → base ≤ st .next → (known : List ℕ) → DoneIn ws base n j known →
       Follows write (bodiesUpTo bs ix p k n known (heldIn ws j (upto - j)) (heldIn ws base (st .next - base)) (st .next) .events) st room ws r room₁ ws₁
   use-bodies (walks-bodies g) = g
 
   use-body : {base n d upto : ℕ} → Body bs ix m p k write st room ws r room₁ ws₁ base n d upto → Ready bs ix m p st ws → base ≤ d → d < upto →
-      upto ≤ st .next → (known : List ℕ) → SeenIn ws base n (d + 1) known →
+      upto ≤ st .next → (known : List ℕ) → DoneIn ws base n (d + 1) known →
       Follows write
         (let news = bodyInvocations (programAt p bs ix) (chainsIn bs ix p k) (slotOf ws d) (st .next) in
           around (programAt p bs ix) (chainsIn bs ix p k) (slotOf ws d) (heldIn ws (d + 1) (upto - (d + 1))) (st .next)
@@ -104,14 +104,14 @@ module _ (bs ix : List ℕ) (p k : ℕ) (ws : List ℕ) (base n j upto : ℕ) wh
   unfolding bodiesUpTo
   no-bodies known calls all next e = rw e
 
-  up-found : (v d : ℕ) → v ≡ n → (n ≡ 0 → ⊥) → base ≤ j → (known : List ℕ) → SeenIn ws base n j known → (all : List Invocation) (next : ℕ) →
+  up-found : (v d : ℕ) → v ≡ n → (n ≡ 0 → ⊥) → base ≤ j → (known : List ℕ) → DoneIn ws base n j known → (all : List Invocation) (next : ℕ) →
       d ≡ seekOf ws base n j (upto - j) → d < upto →
       (bodiesUpTo bs ix p k v known (heldIn ws j (upto - j)) all next ≡
         around (programAt p bs ix) (chainsIn bs ix p k) (slotOf ws d) (heldIn ws (d + 1) (upto - (d + 1))) next
           (bodiesUpTo bs ix p k v (slotProcedure ws d ∷ known) (heldIn ws (d + 1) (upto - (d + 1)))
             (all ++ bodyInvocations (programAt p bs ix) (chainsIn bs ix p k) (slotOf ws d) next)
             (next + length (bodyInvocations (programAt p bs ix) (chainsIn bs ix p k) (slotOf ws d) next))))
-      × SeenIn ws base n (d + 1) (slotProcedure ws d ∷ known)
+      × DoneIn ws base n (d + 1) (slotProcedure ws d ∷ known)
   unfolding bodiesUpTo
   up-found zero d q nz le known S all next e h = absurd (nz (sym q))
   up-found (suc v) d q nz le known S all next e h =
@@ -121,7 +121,7 @@ module _ (bs ix : List ℕ) (p k : ℕ) (ws : List ℕ) (base n j upto : ℕ) wh
           le S e (omega arith) in
     (rw (q, ← end) (t .0), t .1)
 
-  up-none : (v d : ℕ) → v ≡ n → (n ≡ 0 → ⊥) → base ≤ j → (known : List ℕ) → SeenIn ws base n j known → (all : List Invocation) (next : ℕ) →
+  up-none : (v d : ℕ) → v ≡ n → (n ≡ 0 → ⊥) → base ≤ j → (known : List ℕ) → DoneIn ws base n j known → (all : List Invocation) (next : ℕ) →
       d ≡ seekOf ws base n j (upto - j) → upto ≤ d →
       bodiesUpTo bs ix p k v known (heldIn ws j (upto - j)) all next ≡ bodiesFrom (programAt p bs ix) (chainsIn bs ix p k) (v - 1) all next
   unfolding bodiesUpTo
@@ -157,7 +157,7 @@ module _ {bs ix m : List ℕ} {p k : ℕ} {write : Bool} {st : Emit} {room ws : 
       follows-as write
         (ap (λ (o : Emitted). o .events) (bodies-all bs ix p k (n - 1) all (st .next) ∙
           sym (up-none bs ix p k ws base n j upto n d refl nz le known S all (st .next) e h)))
-        (use-bodies A R (le-refl base) (le-refl (st .next)) over [] (none-seen ws base (n - 1))))
+        (use-bodies A R (le-refl base) (le-refl (st .next)) over [] (none-done ws base (n - 1))))
 
 -- the ways out of `emit_rest`: the bodies that follow and the right part
 module _ {bs ix m : List ℕ} {p k : ℕ} {write : Bool} {st : Emit} {room ws : List ℕ} {base n d upto first : ℕ} where
@@ -165,13 +165,13 @@ module _ {bs ix m : List ℕ} {p k : ℕ} {write : Bool} {st : Emit} {room ws : 
   rest-past h = walks-rest (λ R le lt top over Q known S. not-below d upto h lt)
 
   pub rest-walk : {a : Emit} {room₁ ws₁ : List ℕ} {b : Emit} {room₂ ws₂ : List ℕ} → d < upto →
-      Bodies bs ix m p k write st room ws a room₁ ws₁ base n (d + 1) upto → Back bs ix m p k write a room₁ ws₁ b room₂ ws₂ d first →
+      Bodies bs ix m p k write st room ws a room₁ ws₁ base n (d + 1) upto → BodyRight bs ix m p k write a room₁ ws₁ b room₂ ws₂ d first →
       Rest bs ix m p k write st room ws b room₂ ws₂ base n d upto first
   rest-walk {a = a} {ws₁ = ws₁} h A B = walks-rest (λ R le lt top over Q known S.
     let F = use-bodies A R (omega arith) (omega arith) (omega arith) known S in
     let slot : slotOf ws₁ d ≡ slotOf ws d = slot-kept ws ws₁ (st .next) (F .kept) d (omega arith) in
     let small = R .low in
-    let G = use-back B (ready-then R F) (omega arith) (λ ok. rw slot (Q (was-ok F ok))) in
+    let G = use-body-right B (ready-then R F) (omega arith) (λ ok. rw slot (Q (was-ok F ok))) in
     let later = heldIn ws (d + 1) (upto - (d + 1)) in
     let all = heldIn ws base (st .next - base) in
     follows-append write F (follows-if write
@@ -182,21 +182,21 @@ module _ {bs ix m : List ℕ} {p k : ℕ} {write : Bool} {st : Emit} {room ws : 
   use-rest : {first : ℕ} {r : Emit} {room₁ ws₁ : List ℕ} → Rest bs ix m p k write st room ws r room₁ ws₁ base n d upto first →
       Ready bs ix m p st ws → base ≤ d → d < upto → upto ≤ first → first ≤ st .next →
       (st .status ≡ 0 → first + length (bodyInvocations (programAt p bs ix) (chainsIn bs ix p k) (slotOf ws d) first) ≤ wireCount) →
-      (known : List ℕ) → SeenIn ws base n (d + 1) known →
+      (known : List ℕ) → DoneIn ws base n (d + 1) known →
       Follows write
         (let inner = bodiesUpTo bs ix p k n known (heldIn ws (d + 1) (upto - (d + 1))) (heldIn ws base (st .next - base)) (st .next) in
           inner .events ++ rightOf bs ix p k (slotOf ws d) first (inner .next)) st room ws r room₁ ws₁
   use-rest (walks-rest g) = g
 
 module _ {bs ix m : List ℕ} {p k : ℕ} {write : Bool} {st : Emit} {room ws : List ℕ} {base n d upto : ℕ} where
-  pub inner-walk : {a : Emit} {room₁ ws₁ : List ℕ} {b : Emit} {room₂ ws₂ : List ℕ} → Fore bs ix m p k write st room ws a room₁ ws₁ d →
+  pub inner-walk : {a : Emit} {room₁ ws₁ : List ℕ} {b : Emit} {room₂ ws₂ : List ℕ} → BodyLeft bs ix m p k write st room ws a room₁ ws₁ d →
       Rest bs ix m p k write a room₁ ws₁ b room₂ ws₂ base n d upto (st .next) → Inner bs ix m p k write st room ws b room₂ ws₂ base n d upto
   inner-walk {a = a} {ws₁ = ws₁} A B = walks-inner (λ R le lt top known S.
     let P = programAt p bs ix in
     let ch = chainsIn bs ix p k in
     let s = slotOf ws d in
     let small = R .low in
-    let O = use-fore A R (omega arith) in
+    let O = use-body-left A R (omega arith) in
     let F = O .follows in
     let news = bodyInvocations P ch s (st .next) in
     let slot : slotOf ws₁ d ≡ s = slot-kept ws ws₁ (st .next) (F .kept) d (omega arith) in
@@ -204,18 +204,18 @@ module _ {bs ix m : List ℕ} {p k : ℕ} {write : Bool} {st : Emit} {room ws : 
           held-kept ws ws₁ (st .next) (F .kept) (d + 1) (upto - (d + 1)) (omega arith) in
     let up : a .status ≡ 0 → a .next ≡ st .next + length news = λ ok. follows-next write F ok
           ∙ left-next bs ix p k (recursive P (s .procedure)) (body P (s .procedure)) (s .list) (under (s .ancilla)) (st .next) (R .some) in
-    let seen₁ : SeenIn ws₁ base n (d + 1) known = λ f. S f ∙ sym (appears-kept ws ws₁ (st .next) (F .kept) base (d + 1 - base) f n (omega arith)) in
+    let done₁ : DoneIn ws₁ base n (d + 1) known = λ f. S f ∙ sym (appears-kept ws ws₁ (st .next) (F .kept) base (d + 1 - base) f n (omega arith)) in
     let R₁ = ready-then R F in
     let all : a .status ≡ 0 → heldIn ws₁ base (a .next - base) ≡ heldIn ws base (st .next - base) ++ news = λ ok.
           let e : a .next - base ≡ (st .next - base) + length news = let z = up ok in omega arith in
           let w : base + (st .next - base) ≡ st .next = omega arith in
           rw (e, held-append ws₁ base (st .next - base) (length news), w, O .held ok,
             held-kept ws ws₁ (st .next) (F .kept) base (st .next - base) (omega arith)) in
-    let G = use-rest B R₁ le lt top (F .rises) (λ ok. rw slot (let z = up ok in let l = R₁ .low in omega arith)) known seen₁ in
+    let G = use-rest B R₁ le lt top (F .rises) (λ ok. rw slot (let z = up ok in let l = R₁ .low in omega arith)) known done₁ in
     follows-append write F (follows-if write (λ ok. rw (slot, later, all ok, up ok)) G))
 
   use-inner : {r : Emit} {room₁ ws₁ : List ℕ} → Inner bs ix m p k write st room ws r room₁ ws₁ base n d upto →
-      Ready bs ix m p st ws → base ≤ d → d < upto → upto ≤ st .next → (known : List ℕ) → SeenIn ws base n (d + 1) known →
+      Ready bs ix m p st ws → base ≤ d → d < upto → upto ≤ st .next → (known : List ℕ) → DoneIn ws base n (d + 1) known →
       Follows write
         (let news = bodyInvocations (programAt p bs ix) (chainsIn bs ix p k) (slotOf ws d) (st .next) in
           let inner = bodiesUpTo bs ix p k n known (heldIn ws (d + 1) (upto - (d + 1))) (heldIn ws base (st .next - base) ++ news)
@@ -243,16 +243,16 @@ around-is P ch d later next inner =
 
 module _ {bs ix m : List ℕ} {p k : ℕ} {write : Bool} {st : Emit} {room ws : List ℕ} {base n d upto : ℕ} where
   pub body-walk : {a : Emit} {room₁ : List ℕ} {b : Emit} {room₂ ws₂ : List ℕ} {r : Emit} {room₃ : List ℕ} → d < upto →
-      seen a room₁ ≡ scan write (allEntryGates (slotOf ws d) (heldIn ws (d + 1) (upto - (d + 1)))) (seen st room) →
+      progress a room₁ ≡ scan write (allEntryGates (slotOf ws d) (heldIn ws (d + 1) (upto - (d + 1)))) (progress st room) →
       Inner bs ix m p k write a room₁ ws b room₂ ws₂ base n d upto →
-      seen r room₃ ≡ scan write (reverse (allEntryGates (slotOf ws₂ d) (heldIn ws₂ (d + 1) (upto - (d + 1))))) (seen b room₂) →
+      progress r room₃ ≡ scan write (reverse (allEntryGates (slotOf ws₂ d) (heldIn ws₂ (d + 1) (upto - (d + 1))))) (progress b room₂) →
       Body bs ix m p k write st room ws r room₃ ws₂ base n d upto
   body-walk {a = a} {room₁ = room₁} {b = b} {room₂ = room₂} {ws₂ = ws₂} {r = r} {room₃ = room₃} h e A q = walks-body (λ R le lt top known S.
     let s = slotOf ws d in
     let later = heldIn ws (d + 1) (upto - (d + 1)) in
     let E = allEntryGates s later in
     let only = entries-only s later in
-    let same : a .next ≡ st .next = ap (λ (x : Seen). emitOf x .next) e ∙ gates-next write E st room only in
+    let same : a .next ≡ st .next = ap (λ (x : Progress). emitOf x .next) e ∙ gates-next write E st room only in
     let F = follows-gates write E st room ws a room₁ only e in
     let G = use-inner A (ready-then R F) le lt (omega arith) known S in
     let slot : slotOf ws₂ d ≡ s = slot-kept ws ws₂ (a .next) (G .kept) d (omega arith) in
@@ -277,48 +277,48 @@ under-roomy p f depth w cs deep e = byLt p f
     (λ lt. let none : depth ≡ 0 = deep ∙ rw (lt-ltb p f lt) in rw e (record { ones = omega arith; zeros = omega arith }))
     (λ le. let all : depth ≡ mostDepth = deep ∙ rw (le-ltb p f le) in rw e (record { ones = omega arith; zeros = omega arith }))
 
--- the ways out of `emit_fore` and `emit_back`
+-- the ways out of `emit_body_left` and `emit_body_right`
 module _ {bs ix m : List ℕ} {p k : ℕ} {write : Bool} {st : Emit} {room ws : List ℕ} {d : ℕ} {r : Emit} {room₁ ws₁ : List ℕ} {f i depth w : ℕ} {l : List ℕ}
     {cs : Controls} (is-f : f ≡ slotProcedure ws d) (is-l : l ≡ slotList ws d) (at : i ≡ startOf ix (rootsAt + f)) (deep : depth ≡ bodyDepth p f)
     (is-w : w ≡ wireOf d) (is-cs : cs ≡ under w) where
-  pub fore-walk : Left bs ix m p k write st room ws r room₁ ws₁ f i depth l cs → Fore bs ix m p k write st room ws r room₁ ws₁ d
+  pub body-left-walk : Left bs ix m p k write st room ws r room₁ ws₁ f i depth l cs → BodyLeft bs ix m p k write st room ws r room₁ ws₁ d
   unfolding slotOf
-  fore-walk A = walks-fore (λ R h.
+  body-left-walk A = walks-body-left (λ R h.
     let O = use-left A R (under-roomy p f depth w cs deep is-cs) in
     rw (body-is p bs ix f i depth at deep, is-f, is-l, is-cs, is-w) at O)
 
-  pub back-walk : {first : ℕ} → Right bs ix m p k write st room ws r room₁ ws₁ f i depth l cs first → Back bs ix m p k write st room ws r room₁ ws₁ d first
+  pub body-right-walk : {first : ℕ} → Right bs ix m p k write st room ws r room₁ ws₁ f i depth l cs first → BodyRight bs ix m p k write st room ws r room₁ ws₁ d first
   unfolding slotOf
-  back-walk {first = first} A = walks-back (λ R h Q.
+  body-right-walk {first = first} A = walks-body-right (λ R h Q.
     let F = use-right A R (under-roomy p f depth w cs deep is-cs) (λ ok. rw (body-is p bs ix f i depth at deep, is-f, is-l) (Q ok)) in
     rw (body-is p bs ix f i depth at deep, is-f, is-l, is-cs, is-w) at F)
 
 -- a chain's end: its first ancilla is flipped back, and all its ancillas are given back
 finish-between : (write : Bool) (g : Gate) (a : ℕ) (b : Emit) (room : List ℕ) → a ≤ b .next →
-    (a ≤ emitOf (scan write (places g ∷ frees a ∷ []) (seen b room)) .next) × (emitOf (scan write (places g ∷ frees a ∷ []) (seen b room)) .next ≤ b .next)
+    (a ≤ emitOf (scan write (places g ∷ frees a ∷ []) (progress b room)) .next) × (emitOf (scan write (places g ∷ frees a ∷ []) (progress b room)) .next ≤ b .next)
 finish-between write g a b room h = byBool (eqb (b .status) 0)
     (λ z. let ok = eqb-true (b .status) 0 z in byLt (usable (length room)) (b .used + length (encode g))
       (λ lt. rw (scan-no-gate write (frees a ∷ []) b room ok g lt) (h, le-refl (b .next)))
       (λ le. byLt (b .gates) mostCircuit
         (λ few. rw (scan-places write (frees a ∷ []) b room ok g le few,
             scan-frees write [] (placed b (length (encode g))) (stored write room (b .used) (encode g)) refl a,
-            ← scan-nothing write (seen (freed (placed b (length (encode g))) a) (stored write room (b .used) (encode g)))) (le-refl a, h))
+            ← scan-nothing write (progress (freed (placed b (length (encode g))) a) (stored write room (b .used) (encode g)))) (le-refl a, h))
         (λ many. rw (scan-many write (frees a ∷ []) b room ok g many) (h, le-refl (b .next)))))
     (λ z. rw (scan-stopped write (places g ∷ frees a ∷ []) b room z) (h, le-refl (b .next)))
 
 follows-finish : {write : Bool} {xs : List Event} {st : Emit} {room ws : List ℕ} {b : Emit} {room₁ ws₁ : List ℕ} {r : Emit} {room₂ : List ℕ} (g h : Gate) →
     Follows write xs st room ws b room₁ ws₁ → (b .status ≡ 0 → g ≡ h) →
-    seen r room₂ ≡ scan write (places g ∷ frees (st .next) ∷ []) (seen b room₁) →
+    progress r room₂ ≡ scan write (places g ∷ frees (st .next) ∷ []) (progress b room₁) →
     Follows write (xs ++ (places h ∷ frees (st .next) ∷ [])) st room ws r room₂ ws₁
 follows-finish {write = write} {xs = xs} {st = st} {room = room} {b = b} {room₁ = room₁} {r = r} {room₂ = room₂} g h F w e =
     let t = finish-between write g (st .next) b room₁ (F .rises) in
-    let n : r .next ≡ emitOf (scan write (places g ∷ frees (st .next) ∷ []) (seen b room₁)) .next = ap (λ (x : Seen). emitOf x .next) e in
-    let e₁ : seen r room₂ ≡ scan write (places h ∷ frees (st .next) ∷ []) (seen b room₁) = byEq (b .status) 0
-          (λ z. e ∙ ap (λ (v : Gate). scan write (places v ∷ frees (st .next) ∷ []) (seen b room₁)) (w z))
+    let n : r .next ≡ emitOf (scan write (places g ∷ frees (st .next) ∷ []) (progress b room₁)) .next = ap (λ (x : Progress). emitOf x .next) e in
+    let e₁ : progress r room₂ ≡ scan write (places h ∷ frees (st .next) ∷ []) (progress b room₁) = byEq (b .status) 0
+          (λ z. e ∙ ap (λ (v : Gate). scan write (places v ∷ frees (st .next) ∷ []) (progress b room₁)) (w z))
           (λ z. e ∙ scan-stopped write _ b room₁ (ne-eqb (b .status) 0 z) ∙ sym (scan-stopped write _ b room₁ (ne-eqb (b .status) 0 z))) in
     record {
       scanned = e₁ ∙ ap (scan write (places h ∷ frees (st .next) ∷ [])) (F .scanned)
-        ∙ sym (scan-append write xs (places h ∷ frees (st .next) ∷ []) (seen st room));
+        ∙ sym (scan-append write xs (places h ∷ frees (st .next) ∷ []) (progress st room));
       long = F .long;
       rises = rw n (t .0);
       low = λ k. let a = F .low k in let c = t .1 in rw n (omega arith);
@@ -374,7 +374,7 @@ module _ {bs ix m : List ℕ} {p k : ℕ} {write : Bool} {st : Emit} {room ws : 
 
     module _ {a : Emit} {room₁ ws₁ : List ℕ} (nz : n ≡ 0 → ⊥) (A : Invokes f l cs write st room ws a room₁ ws₁) where
       pub call-flat : {r : Emit} {room₂ : List ℕ} → k ≡ 0 →
-          seen r room₂ ≡ scan write (places (flip cs (wireOf (st .next))) ∷ frees (st .next) ∷ []) (seen a room₁) →
+          progress r room₂ ≡ scan write (places (flip cs (wireOf (st .next))) ∷ frees (st .next) ∷ []) (progress a room₁) →
           Call bs ix m p k write st room ws r room₂ ws₁ f l cs
       call-flat e q = walks-call (λ R.
         let O = use-invokes A (R .space) in
@@ -387,7 +387,7 @@ module _ {bs ix m : List ℕ} {p k : ℕ} {write : Bool} {st : Emit} {room ws : 
 
       pub call-chain : {b : Emit} {room₂ ws₂ : List ℕ} {r : Emit} {room₃ : List ℕ} → (k ≡ 0 → ⊥) →
           Bodies bs ix m p (k - 1) write a room₁ ws₁ b room₂ ws₂ (st .next) n (st .next) (a .next) →
-          seen r room₃ ≡ scan write (places (flip cs (wireOf (st .next))) ∷ frees (st .next) ∷ []) (seen b room₂) →
+          progress r room₃ ≡ scan write (places (flip cs (wireOf (st .next))) ∷ frees (st .next) ∷ []) (progress b room₂) →
           Call bs ix m p k write st room ws r room₃ ws₂ f l cs
       call-chain {b = b} {room₂ = room₂} {ws₂ = ws₂} h B q = walks-call (λ R.
         let P = programAt p bs ix in
@@ -396,7 +396,7 @@ module _ {bs ix m : List ℕ} {p k : ℕ} {write : Bool} {st : Emit} {room ws : 
         let end = places (flip cs next) ∷ frees next ∷ [] in
         let O = use-invokes A (R .space) in
         let F = O .follows in
-        let G = use-bodies B (ready-then R F) (le-refl next) (le-refl (a .next)) (F .rises) [] (none-seen ws₁ next n) in
+        let G = use-bodies B (ready-then R F) (le-refl next) (le-refl (a .next)) (F .rises) [] (none-done ws₁ next n) in
         let held : a .status ≡ 0 → heldIn ws₁ next (a .next - next) ≡ invocation f l next ∷ [] = λ ok.
               let one : a .next - next ≡ length (invoked f l next) = let z = taken-low A some (R .space) (R .low) ok .0 in
                     rw (one-more f l cs next some .1) (omega arith) in
@@ -414,5 +414,5 @@ module _ {bs ix m : List ℕ} {p k : ℕ} {write : Bool} {st : Emit} {room ws : 
 
 pub ruleset chaining = (
     needs, call-stopped, call-empty, call-flat, call-chain, bodies-stopped, bodies-empty, bodies-found, bodies-on, body-past, body-walk, inner-walk,
-    rest-past, rest-walk, fore-walk, back-walk
+    rest-past, rest-walk, body-left-walk, body-right-walk
   )

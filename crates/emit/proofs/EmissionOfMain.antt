@@ -16,7 +16,7 @@ use Rattle.table.specs.Index.{startOf, statementAt, programAt}
 use Rattle.reach.specs.CallsInATable.{reachAt}
 use Rattle.reach.proofs.MatrixOfAProgram.{count-at}
 use Rattle.events.specs.declared.Emit.{Emit}
-use Rattle.events.specs.Scan.{seen, scan, begun}
+use Rattle.events.specs.Scan.{progress, scan, begun}
 use Rattle.emit.specs.WalkPromises.{Ready, Roomy, chainsIn, Whole, Emits, walks-main}
 use Rattle.emit.proofs.WholeStatement.{use-whole}
 
@@ -38,11 +38,11 @@ main-walk {bs = bs} {ix = ix} {m = m} {p = p} {n = n} {write = write} {room = ro
     let R : Ready bs ix m p (begun n) ws = record { few = few; reach = reach; some = omega arith; low = omega arith; space = space } in
     let C : Roomy mostDepth cs = rw c (record { ones = omega arith; zeros = omega arith }) in
     let F = use-whole A R C in
-    (F .scanned ∙ ap (λ es. scan write es (seen (begun n) room)) (emission-is p bs ix n p root l cs small refl a q c), F .long))
+    (F .scanned ∙ ap (λ es. scan write es (progress (begun n) room)) (emission-is p bs ix n p root l cs small refl a q c), F .long))
 
 pub use-main : {bs ix m : List ℕ} {p n : ℕ} {write : Bool} {room ws : List ℕ} {r : Emit} {room₁ ws₁ : List ℕ} → Emits bs ix m p n write room ws r room₁ ws₁ →
     p ≤ mostProcedures → m ≡ reachAt p bs ix → n ≤ mostQubits → slotsLength ≤ length ws →
-    (seen r room₁ ≡ scan write (emission (programAt p bs ix) n) (seen (begun n) room)) × (length ws₁ ≡ length ws)
+    (progress r room₁ ≡ scan write (emission (programAt p bs ix) n) (progress (begun n) room)) × (length ws₁ ≡ length ws)
 use-main (walks-main g) = g
 
 pub ruleset emitting = (needs, main-walk)

@@ -28,7 +28,7 @@ use Rattle.step.proofs.ChosenBranch.{chosen-means}
 use Rattle.reach.specs.Matrix.{recursiveIn}
 use Rattle.reach.proofs.ReachByMatrix.{recursive-entry}
 use Rattle.events.specs.declared.Emit.{Emit}
-use Rattle.events.specs.Scan.{Seen, seen, emitOf, scan, heldIn}
+use Rattle.events.specs.Scan.{Progress, progress, emitOf, scan, heldIn}
 use Rattle.events.specs.FollowedEvents.{Follows, Opens, Invokes, fills-slot}
 use Rattle.emit.specs.WalkPromises.{Ready, Roomy, chainsIn, Whole, Call, Left, walks-left}
 use Rattle.events.proofs.ScanOfEvents.{scan-was}
@@ -55,7 +55,7 @@ module _ {r r₁ : ℕ → Bool} (s : Statement) {w : ℕ} (e : r₁ ≡ r) (is 
 pub was-ok : {write : Bool} {es : List Event} {st : Emit} {room ws : List ℕ} {r : Emit} {room₁ ws₁ : List ℕ} →
     Follows write es st room ws r room₁ ws₁ → r .status ≡ 0 → st .status ≡ 0
 was-ok {write = write} {es = es} {st = st} {room = room} F ok =
-    scan-was write es st room (sym (ap (λ (s : Seen). emitOf s .status) (F .scanned)) ∙ ok)
+    scan-was write es st room (sym (ap (λ (s : Progress). emitOf s .status) (F .scanned)) ∙ ok)
 
 module _ {write : Bool} {st : Emit} {room ws : List ℕ} {r : Emit} {room₁ ws₁ : List ℕ} where
   pub opens-by : {es es₁ : List Event} {news news₁ : List Invocation} → es ≡ es₁ → news ≡ news₁ → Opens write es news st room ws r room₁ ws₁ →
@@ -161,7 +161,7 @@ module _ {bs ix m : List ℕ} {p k : ℕ} {write : Bool} {st : Emit} {room ws : 
     left-idle x e o = left-skipped (idle-skip p bs ix depth i l nz is x e o)
 
     module _ {r : Emit} {room₁ : List ℕ} where
-      pub left-touches : {q : ℕ} → found ≡ step.Touches q → seen r room₁ ≡ scan write (places (flip cs q) ∷ []) (seen st room) →
+      pub left-touches : {q : ℕ} → found ≡ step.Touches q → progress r room₁ ≡ scan write (places (flip cs q) ∷ []) (progress st room) →
           Left bs ix m p k write st room ws r room₁ ws f i depth l cs
       left-touches {q = q} e g =
         let h = at-step p bs ix depth i l nz is e in

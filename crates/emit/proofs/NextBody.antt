@@ -16,7 +16,7 @@ use Rattle.agreement.proofs.EmissionClauses.{bodies-here, bodies-past}
 use Rattle.records.proofs.FieldLaws.{and-cond}
 use Rattle.events.specs.Scan.{slotListLength, slotProcedure, slotOf, heldIn}
 use Rattle.events.specs.Slots.{pairAt, appears, opensAt, seekOf}
-use Rattle.emit.specs.WalkPromises.{SeenIn}
+use Rattle.emit.specs.WalkPromises.{DoneIn}
 use Rattle.events.proofs.EntryGates.{bytes-length}
 
 or-none : (a : Bool) → a || false ≡ a
@@ -52,7 +52,7 @@ module _ (ws : List ℕ) (base m j : ℕ) (le : base ≤ j) where
     let a : base + (j - base) ≡ j = omega arith in
     rw e (appears-more ws base (j - base) f m ∙ rw a)
 
-  module _ (known : List ℕ) (S : SeenIn ws base m j known) where
+  module _ (known : List ℕ) (S : DoneIn ws base m j known) where
     -- the definitions' test of slot j is the code's
     opens-is : isFirst m known (slotOf ws j) ≡ opensAt ws base m j
     unfolding slotOf opensAt
@@ -60,9 +60,9 @@ module _ (ws : List ℕ) (base m j : ℕ) (le : base ≤ j) where
       (and-cond (eqb (slotListLength ws j) m) (not (appears ws base (j - base) (slotProcedure ws j) m)))
 
     -- a slot passed over adds no procedure
-    seen-past : opensAt ws base m j ≡ false → SeenIn ws base m (j + 1) known
+    done-past : opensAt ws base m j ≡ false → DoneIn ws base m (j + 1) known
     unfolding opensAt pairAt
-    seen-past o f = rw (appears-next f, S f) (byBool (appears ws base (j - base) f m)
+    done-past o f = rw (appears-next f, S f) (byBool (appears ws base (j - base) f m)
       (λ t. rw t)
       (λ t. rw t (byEq (slotProcedure ws j) f
         (λ e. byEq (slotListLength ws j) m
@@ -75,9 +75,9 @@ module _ (ws : List ℕ) (base m j : ℕ) (le : base ≤ j) where
         absurd-case false p q = clash refl q
 
     -- a slot that opens a body adds its procedure
-    seen-here : opensAt ws base m j ≡ true → SeenIn ws base m (j + 1) (slotProcedure ws j ∷ known)
+    done-here : opensAt ws base m j ≡ true → DoneIn ws base m (j + 1) (slotProcedure ws j ∷ known)
     unfolding opensAt pairAt member
-    seen-here o f = byEq (slotListLength ws j) m
+    done-here o f = byEq (slotListLength ws j) m
       (λ q. rw (appears-next f, S f, eq-eqb (slotListLength ws j) m q) (byEq (slotProcedure ws j) f
         (λ e. rw (eq-eqb (slotProcedure ws j) f e, eq-eqb f (slotProcedure ws j) (sym e)) (sym (or-done (appears ws base (j - base) f m))))
         (λ e. rw (ne-eqb (slotProcedure ws j) f e, ne-eqb f (slotProcedure ws j) (λ z. e (sym z))) (sym (or-none (appears ws base (j - base) f m))))))
@@ -94,14 +94,14 @@ seek-le ws base m j c d e = rw e (seek-low ws base m j c)
 module _ (P : Program) (ch : Chains) (ws : List ℕ) (base m : ℕ) (shorter : List Invocation → ℕ → Emitted) (known : List ℕ)
     (all : List Invocation) (next : ℕ) where
   -- no slot opens a body: those of shorter lists follow
-  pub seek-none : (j c : ℕ) → base ≤ j → SeenIn ws base m j known → j + c ≤ seekOf ws base m j c →
+  pub seek-none : (j c : ℕ) → base ≤ j → DoneIn ws base m j known → j + c ≤ seekOf ws base m j c →
       bodies P ch m shorter known (heldIn ws j c) all next ≡ shorter all next
   unfolding bodies heldIn seekOf
   seek-none j zero le S h = refl
   seek-none j (suc c) le S h = byBool (opensAt ws base m j)
     (λ o. absurd (past j c (rw o at h)))
     (λ o. bodies-past P ch m shorter known (slotOf ws j) (heldIn ws (j + 1) c) all next (opens-is ws base m j le known S ∙ o)
-      ∙ seek-none (j + 1) c (omega arith) (seen-past ws base m j le known S o) (further j c _ (rw o at h)))
+      ∙ seek-none (j + 1) c (omega arith) (done-past ws base m j le known S o) (further j c _ (rw o at h)))
     where
       past : (j c : ℕ) → j + suc c ≤ j → ⊥
       past j c h = omega arith
@@ -114,13 +114,13 @@ module _ (P : Program) (ch : Chains) (ws : List ℕ) (base m : ℕ) (shorter : L
     (bodies P ch m shorter (slotProcedure ws d ∷ known) (heldIn ws (d + 1) rest) (all ++ bodyInvocations P ch (slotOf ws d) next)
       (next + length (bodyInvocations P ch (slotOf ws d) next)))
 
-  at-here : (j c : ℕ) → base ≤ j → SeenIn ws base m j known → opensAt ws base m j ≡ true →
+  at-here : (j c : ℕ) → base ≤ j → DoneIn ws base m j known → opensAt ws base m j ≡ true →
       bodies P ch m shorter known (heldIn ws j (suc c)) all next ≡ found-here j c
   unfolding heldIn slotOf
   at-here j c le S o = bodies-here P ch m shorter known (slotOf ws j) (heldIn ws (j + 1) c) all next (opens-is ws base m j le known S ∙ o)
 
-  pub seek-found : (j c d : ℕ) → base ≤ j → SeenIn ws base m j known → d ≡ seekOf ws base m j c → d < j + c →
-      (bodies P ch m shorter known (heldIn ws j c) all next ≡ found-here d (j + c - (d + 1))) × SeenIn ws base m (d + 1) (slotProcedure ws d ∷ known)
+  pub seek-found : (j c d : ℕ) → base ≤ j → DoneIn ws base m j known → d ≡ seekOf ws base m j c → d < j + c →
+      (bodies P ch m shorter known (heldIn ws j c) all next ≡ found-here d (j + c - (d + 1))) × DoneIn ws base m (d + 1) (slotProcedure ws d ∷ known)
   unfolding heldIn seekOf
   seek-found j zero d le S e h = absurd (past j d e h)
     where
@@ -130,8 +130,8 @@ module _ (P : Program) (ch : Chains) (ws : List ℕ) (base m : ℕ) (shorter : L
     (λ o.
       let here : d ≡ j = rw o at e in
       let rest : j + suc c - (j + 1) ≡ c = omega arith in
-      rw (here, rest) (at-here j c le S o, seen-here ws base m j le known S o))
+      rw (here, rest) (at-here j c le S o, done-here ws base m j le known S o))
     (λ o.
       let end : j + suc c ≡ j + 1 + c = omega arith in
-      let ih = seek-found (j + 1) c d (omega arith) (seen-past ws base m j le known S o) (rw o at e) (omega arith) in
+      let ih = seek-found (j + 1) c d (omega arith) (done-past ws base m j le known S o) (rw o at e) (omega arith) in
       (bodies-past P ch m shorter known (slotOf ws j) (heldIn ws (j + 1) c) all next (opens-is ws base m j le known S ∙ o) ∙ ih .0 ∙ rw end, ih .1))

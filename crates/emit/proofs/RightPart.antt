@@ -29,7 +29,7 @@ use Rattle.step.proofs.StatementAtARecord.{Idle, at-step, idle-skip, spent-skip
 use Rattle.step.proofs.ChosenBranch.{chosen-means}
 use Rattle.reach.specs.Matrix.{recursiveIn}
 use Rattle.events.specs.declared.Emit.{Emit}
-use Rattle.events.specs.Scan.{seen, scan, wireOf}
+use Rattle.events.specs.Scan.{progress, scan, wireOf}
 use Rattle.events.specs.FollowedEvents.{Follows}
 use Rattle.emit.specs.WalkPromises.{Ready, Roomy, chainsIn, Whole, Right, walks-right}
 use Rattle.emit.proofs.CallCounts.{same-count}
@@ -131,7 +131,7 @@ module _ {bs ix m : List ℕ} {p k : ℕ} {write : Bool} {st : Emit} {room ws : 
 
     module _ {r : Emit} {room₁ : List ℕ} where
       pub right-recurs : {g at : ℕ} {rest : List ℕ} {b : Bool} → found ≡ step.Calls g at → b ≡ recursiveIn m f g → b ≡ true →
-          rest ≡ remaining (removalsOf bs at) l → seen r room₁ ≡ scan write (returns rest cs (wireOf first)) (seen st room) →
+          rest ≡ remaining (removalsOf bs at) l → progress r room₁ ≡ scan write (returns rest cs (wireOf first)) (progress st room) →
           Right bs ix m p k write st room ws r room₁ ws f i depth l cs first
       right-recurs {g = g} {at = at} {rest = rest} e h t d s =
         let rec = recursive (programAt p bs ix) f in

@@ -23,7 +23,7 @@ use Rattle.step.specs.Steps.{stepAt}
 use Rattle.step.proofs.StatementAtARecord.{Idle, at-step, idle-skip, spent-skip}
 use Rattle.step.proofs.ChosenBranch.{chosen-means}
 use Rattle.events.specs.declared.Emit.{Emit}
-use Rattle.events.specs.Scan.{seen, scan}
+use Rattle.events.specs.Scan.{progress, scan}
 use Rattle.events.specs.FollowedEvents.{Follows}
 use Rattle.emit.specs.WalkPromises.{Ready, Roomy, chainsIn, Whole, walks-whole, Call, walks-call}
 use Rattle.circuit.proofs.ControlInsertion.{asking-takes}
@@ -128,7 +128,7 @@ module _ {bs ix m : List ℕ} {p k : ℕ} {write : Bool} {st : Emit} {room ws : 
     whole-idle x e o = whole-skipped (idle-skip p bs ix depth i l nz is x e o)
 
     module _ {r : Emit} {room₁ : List ℕ} where
-      pub whole-touches : {q : ℕ} → found ≡ step.Touches q → seen r room₁ ≡ scan write (places (flip cs q) ∷ []) (seen st room) →
+      pub whole-touches : {q : ℕ} → found ≡ step.Touches q → progress r room₁ ≡ scan write (places (flip cs q) ∷ []) (progress st room) →
           Whole bs ix m p k write st room ws r room₁ ws i depth l cs
       whole-touches e g = let h = at-step p bs ix depth i l nz is e in
         walks-whole (λ R C. follows-as write (whole-not (chainsIn bs ix p k) l cs (st .next) (statementAt p bs ix depth i) (h .2) (h .3))

@@ -18,7 +18,7 @@ use Rattle.model.specs.Emission.{
 use Rattle.table.specs.Index.{statementAt, programAt}
 use Rattle.reach.specs.CallsInATable.{reachAt}
 use Rattle.events.specs.declared.Emit.{Emit}
-use Rattle.events.specs.Scan.{seen, scan, begun, slotOf, heldIn}
+use Rattle.events.specs.Scan.{progress, scan, begun, slotOf, heldIn}
 use Rattle.events.specs.Slots.{appears}
 use Rattle.events.specs.FollowedEvents.{Follows, Opens}
 
@@ -58,8 +58,8 @@ module _ (bs ix : List ℕ) (p k : ℕ) where
   rightOf d next top = right chainsIn (recursive programIn (d .procedure)) (body programIn (d .procedure)) (d .list) (under (d .ancilla)) next top
 
 -- `procedures` are those of the slots from `base` to before `from` with lists of length n
-abbrev pub SeenIn : List ℕ → ℕ → ℕ → ℕ → List ℕ → Type 0
-SeenIn ws base n from procedures = (f : ℕ) → member f procedures ≡ appears ws base (from - base) f n
+abbrev pub DoneIn : List ℕ → ℕ → ℕ → ℕ → List ℕ → Type 0
+DoneIn ws base n from procedures = (f : ℕ) → member f procedures ≡ appears ws base (from - base) f n
 
 -- one for each walker
 pub data Whole (bs ix m : List ℕ) (p k : ℕ) (write : Bool) (st : Emit) (room ws : List ℕ) (r : Emit) (room₁ ws₁ : List ℕ)
@@ -88,23 +88,23 @@ pub data Right (bs ix m : List ℕ) (p k : ℕ) (write : Bool) (st : Emit) (room
         st room ws r room₁ ws₁) →
       Right bs ix m p k write st room ws r room₁ ws₁ f i depth l cs first
 
-pub data Fore (bs ix m : List ℕ) (p k : ℕ) (write : Bool) (st : Emit) (room ws : List ℕ) (r : Emit) (room₁ ws₁ : List ℕ)
+pub data BodyLeft (bs ix m : List ℕ) (p k : ℕ) (write : Bool) (st : Emit) (room ws : List ℕ) (r : Emit) (room₁ ws₁ : List ℕ)
     (d : ℕ) : Type 0 where
-  walks-fore : (Ready bs ix m p st ws → d ≤ mostWires →
+  walks-body-left : (Ready bs ix m p st ws → d ≤ mostWires →
       Opens write (leftOf bs ix p k (slotOf ws d) (st .next)) (bodyInvocations (programAt p bs ix) (chainsIn bs ix p k) (slotOf ws d) (st .next))
         st room ws r room₁ ws₁) →
-      Fore bs ix m p k write st room ws r room₁ ws₁ d
+      BodyLeft bs ix m p k write st room ws r room₁ ws₁ d
 
-pub data Back (bs ix m : List ℕ) (p k : ℕ) (write : Bool) (st : Emit) (room ws : List ℕ) (r : Emit) (room₁ ws₁ : List ℕ)
+pub data BodyRight (bs ix m : List ℕ) (p k : ℕ) (write : Bool) (st : Emit) (room ws : List ℕ) (r : Emit) (room₁ ws₁ : List ℕ)
     (d first : ℕ) : Type 0 where
-  walks-back : (Ready bs ix m p st ws → d ≤ mostWires →
+  walks-body-right : (Ready bs ix m p st ws → d ≤ mostWires →
       (st .status ≡ 0 → first + length (bodyInvocations (programAt p bs ix) (chainsIn bs ix p k) (slotOf ws d) first) ≤ wireCount) →
       Follows write (rightOf bs ix p k (slotOf ws d) first (st .next)) st room ws r room₁ ws₁) →
-      Back bs ix m p k write st room ws r room₁ ws₁ d first
+      BodyRight bs ix m p k write st room ws r room₁ ws₁ d first
 
 pub data Bodies (bs ix m : List ℕ) (p k : ℕ) (write : Bool) (st : Emit) (room ws : List ℕ) (r : Emit) (room₁ ws₁ : List ℕ)
     (base n j upto : ℕ) : Type 0 where
-  walks-bodies : (Ready bs ix m p st ws → base ≤ j → upto ≤ st .next → base ≤ st .next → (procedures : List ℕ) → SeenIn ws base n j procedures →
+  walks-bodies : (Ready bs ix m p st ws → base ≤ j → upto ≤ st .next → base ≤ st .next → (procedures : List ℕ) → DoneIn ws base n j procedures →
       Follows write (bodiesUpTo bs ix p k n procedures (heldIn ws j (upto - j)) (heldIn ws base (st .next - base)) (st .next) .events)
         st room ws r room₁ ws₁) →
       Bodies bs ix m p k write st room ws r room₁ ws₁ base n j upto
@@ -113,7 +113,7 @@ pub data Rest (bs ix m : List ℕ) (p k : ℕ) (write : Bool) (st : Emit) (room 
     (base n d upto first : ℕ) : Type 0 where
   walks-rest : (Ready bs ix m p st ws → base ≤ d → d < upto → upto ≤ first → first ≤ st .next →
       (st .status ≡ 0 → first + length (bodyInvocations (programAt p bs ix) (chainsIn bs ix p k) (slotOf ws d) first) ≤ wireCount) →
-      (procedures : List ℕ) → SeenIn ws base n (d + 1) procedures →
+      (procedures : List ℕ) → DoneIn ws base n (d + 1) procedures →
       Follows write
         (let inner = bodiesUpTo bs ix p k n procedures (heldIn ws (d + 1) (upto - (d + 1))) (heldIn ws base (st .next - base)) (st .next) in
           inner .events ++ rightOf bs ix p k (slotOf ws d) first (inner .next)) st room ws r room₁ ws₁) →
@@ -121,7 +121,7 @@ pub data Rest (bs ix m : List ℕ) (p k : ℕ) (write : Bool) (st : Emit) (room 
 
 pub data Inner (bs ix m : List ℕ) (p k : ℕ) (write : Bool) (st : Emit) (room ws : List ℕ) (r : Emit) (room₁ ws₁ : List ℕ)
     (base n d upto : ℕ) : Type 0 where
-  walks-inner : (Ready bs ix m p st ws → base ≤ d → d < upto → upto ≤ st .next → (procedures : List ℕ) → SeenIn ws base n (d + 1) procedures →
+  walks-inner : (Ready bs ix m p st ws → base ≤ d → d < upto → upto ≤ st .next → (procedures : List ℕ) → DoneIn ws base n (d + 1) procedures →
       Follows write
         (let news = bodyInvocations (programAt p bs ix) (chainsIn bs ix p k) (slotOf ws d) (st .next) in
           let inner = bodiesUpTo bs ix p k n procedures (heldIn ws (d + 1) (upto - (d + 1))) (heldIn ws base (st .next - base) ++ news)
@@ -132,7 +132,7 @@ pub data Inner (bs ix m : List ℕ) (p k : ℕ) (write : Bool) (st : Emit) (room
 
 pub data Body (bs ix m : List ℕ) (p k : ℕ) (write : Bool) (st : Emit) (room ws : List ℕ) (r : Emit) (room₁ ws₁ : List ℕ)
     (base n d upto : ℕ) : Type 0 where
-  walks-body : (Ready bs ix m p st ws → base ≤ d → d < upto → upto ≤ st .next → (procedures : List ℕ) → SeenIn ws base n (d + 1) procedures →
+  walks-body : (Ready bs ix m p st ws → base ≤ d → d < upto → upto ≤ st .next → (procedures : List ℕ) → DoneIn ws base n (d + 1) procedures →
       Follows write
         (let news = bodyInvocations (programAt p bs ix) (chainsIn bs ix p k) (slotOf ws d) (st .next) in
           around (programAt p bs ix) (chainsIn bs ix p k) (slotOf ws d) (heldIn ws (d + 1) (upto - (d + 1))) (st .next)
@@ -144,5 +144,5 @@ pub data Body (bs ix m : List ℕ) (p k : ℕ) (write : Bool) (st : Emit) (room 
 -- main emitted, from its start
 pub data Emits (bs ix m : List ℕ) (p n : ℕ) (write : Bool) (room ws : List ℕ) (r : Emit) (room₁ ws₁ : List ℕ) : Type 0 where
   walks-main : (p ≤ mostProcedures → m ≡ reachAt p bs ix → n ≤ mostQubits → slotsLength ≤ length ws →
-      (seen r room₁ ≡ scan write (emission (programAt p bs ix) n) (seen (begun n) room)) × (length ws₁ ≡ length ws)) →
+      (progress r room₁ ≡ scan write (emission (programAt p bs ix) n) (progress (begun n) room)) × (length ws₁ ≡ length ws)) →
       Emits bs ix m p n write room ws r room₁ ws₁

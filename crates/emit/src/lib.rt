@@ -8,7 +8,7 @@ ghost use Rattle.circuit.specs.GatesToWrite.{controlsFrom};
 ghost use Rattle.table.specs.Index.{statementAt};
 ghost use Rattle.step.specs.Steps.{qubitsOf};
 ghost use Rattle.reach.specs.Matrix.{recursiveIn};
-ghost use Rattle.emit.specs.WalkPromises.{bodyDepth, Whole, Call, Left, Right, Fore, Back, Bodies, Rest, Inner, Body, Emits};
+ghost use Rattle.emit.specs.WalkPromises.{bodyDepth, Whole, Call, Left, Right, BodyLeft, BodyRight, Bodies, Rest, Inner, Body, Emits};
 use circuit::write::{ControlLists, asking, no_controls};
 use events::{Emit, emit_entries, emit_flip, finish, flip_again, invoke, load, procedure, seek, under, wire};
 use limits::{HEADER_LENGTH, MATRIX_LENGTH, MOST_CALLS, MOST_DEPTH, ROOTS_AT};
@@ -191,7 +191,7 @@ fn emit_inner(
         r (now (room .exit)) (now (ws .exit)) base m d upto ⌝ }
 {
     let first = st.next;
-    let a = emit_fore(table, index, p, matrix, k, d, write, room, ws, st);
+    let a = emit_body_left(table, index, p, matrix, k, d, write, room, ws, st);
     emit_rest(table, index, p, matrix, k, base, m, d, upto, first, write, room, ws, a)
 }
 
@@ -207,15 +207,15 @@ fn emit_rest(
         return st;
     }
     let a = emit_bodies(table, index, p, matrix, k, base, m, d + 1, upto, write, room, ws, st);
-    emit_back(table, index, p, matrix, k, d, first, write, room, ws, a)
+    emit_body_right(table, index, p, matrix, k, d, first, write, room, ws, a)
 }
 
 // The left part of the body of slot d.
-fn emit_fore(
+fn emit_body_left(
     table: &[u8], index: &[u16], p: u8, matrix: &[u8; MATRIX_LENGTH], k: u8, d: u16,
     write: bool, room: &mut [u8], ws: &mut [u8], st: Emit,
 ) -> Emit
-    ensures { λ r. ⌜ Fore (now (table .entry)) (now (index .entry)) (now (matrix .entry)) p k write st (now (room .entry)) (now (ws .entry))
+    ensures { λ r. ⌜ BodyLeft (now (table .entry)) (now (index .entry)) (now (matrix .entry)) p k write st (now (room .entry)) (now (ws .entry))
         r (now (room .exit)) (now (ws .exit)) d ⌝ }
 {
     let f = procedure(ws, d);
@@ -227,11 +227,11 @@ fn emit_fore(
 }
 
 // Its right part.
-fn emit_back(
+fn emit_body_right(
     table: &[u8], index: &[u16], p: u8, matrix: &[u8; MATRIX_LENGTH], k: u8, d: u16, first: u16,
     write: bool, room: &mut [u8], ws: &mut [u8], st: Emit,
 ) -> Emit
-    ensures { λ r. ⌜ Back (now (table .entry)) (now (index .entry)) (now (matrix .entry)) p k write st (now (room .entry)) (now (ws .entry))
+    ensures { λ r. ⌜ BodyRight (now (table .entry)) (now (index .entry)) (now (matrix .entry)) p k write st (now (room .entry)) (now (ws .entry))
         r (now (room .exit)) (now (ws .exit)) d first ⌝ }
 {
     let f = procedure(ws, d);
@@ -322,8 +322,8 @@ fn emit_right(
         Step::Branches(q, a, b) => {
             let second = sum(first, count_calls(table, index, p, matrix, f, a, depth - 1, list));
             let one = asking(controls, q, true);
-            let behind = emit_right(table, index, p, matrix, k, f, b, depth - 1, list, one, second, write, room, ws, st);
-            emit_right(table, index, p, matrix, k, f, a, depth - 1, list, asking(controls, q, false), first, write, room, ws, behind)
+            let one_end = emit_right(table, index, p, matrix, k, f, b, depth - 1, list, one, second, write, room, ws, st);
+            emit_right(table, index, p, matrix, k, f, a, depth - 1, list, asking(controls, q, false), first, write, room, ws, one_end)
         }
         Step::Calls(g, at) => {
             if recursive(matrix, f, g) {

@@ -18,7 +18,7 @@ use Rattle.model.proofs.BooleanLaws.{byBool, byLt, byEq, not-zero}
 use Rattle.step.specs.declared.Qubits.{Qubits}
 use Rattle.step.specs.Steps.{qubitsOf}
 use Rattle.events.specs.declared.Emit.{Emit}
-use Rattle.events.specs.Scan.{Seen, seen, emitOf, roomOf, stopped, taken, freed, scan, slotAt, wireOf, slotOf, heldIn}
+use Rattle.events.specs.Scan.{Progress, progress, emitOf, roomOf, stopped, taken, freed, scan, slotAt, wireOf, slotOf, heldIn}
 use Rattle.events.specs.Slots.{filled, taking, returned}
 use Rattle.events.specs.FollowedEvents.{Opens, Invokes, fills-slot}
 use Rattle.events.proofs.ScanOfEvents.{scan-stopped, scan-takes, scan-no-wire, scan-frees}
@@ -26,29 +26,29 @@ use Rattle.events.proofs.EntryGates.{scan-nothing, scan-first}
 use Rattle.events.proofs.ConsecutiveWalks.{follows-none, follows-stopped, gates-next, getD-before, filled-is}
 
 -- the ways out of `finish`
-returned-scan : (write : Bool) (a : ℕ) (st : Emit) (room : List ℕ) → seen (returned a st) room ≡ scan write (frees a ∷ []) (seen st room)
+returned-scan : (write : Bool) (a : ℕ) (st : Emit) (room : List ℕ) → progress (returned a st) room ≡ scan write (frees a ∷ []) (progress st room)
 unfolding returned
 returned-scan write a st room = byBool (eqb (st .status) 0)
-    (λ z. rw z (scan-nothing write (seen (freed st a) room) ∙ sym (scan-frees write [] st room (eqb-true (st .status) 0 z) a)))
+    (λ z. rw z (scan-nothing write (progress (freed st a) room) ∙ sym (scan-frees write [] st room (eqb-true (st .status) 0 z) a)))
     (λ z. rw z (sym (scan-stopped write (frees a ∷ []) st room z)))
 
-pub finished : (write : Bool) (cs : Controls) (base w : ℕ) (x : Seen) (a r : Emit) (room : List ℕ) → w ≡ wireOf base →
-    seen a room ≡ scan write (places (flip cs w) ∷ []) x → r ≡ returned base a →
-    seen r room ≡ scan write (places (flip cs (wireOf base)) ∷ frees base ∷ []) x
+pub finished : (write : Bool) (cs : Controls) (base w : ℕ) (x : Progress) (a r : Emit) (room : List ℕ) → w ≡ wireOf base →
+    progress a room ≡ scan write (places (flip cs w) ∷ []) x → r ≡ returned base a →
+    progress r room ≡ scan write (places (flip cs (wireOf base)) ∷ frees base ∷ []) x
 finished write cs base w x a r room e p q =
-    rw (q, ← e) (scan-first write (places (flip cs w)) (frees base ∷ []) x (seen a room) (seen (returned base a) room) p (returned-scan write base a room))
+    rw (q, ← e) (scan-first write (places (flip cs w)) (frees base ∷ []) x (progress a room) (progress (returned base a) room) p (returned-scan write base a room))
 
 -- the ways out of `flip_again`
-no-return : (write : Bool) (cs : Controls) (a : ℕ) (x : Seen) → x ≡ scan write (returns [] cs a) x
+no-return : (write : Bool) (cs : Controls) (a : ℕ) (x : Progress) → x ≡ scan write (returns [] cs a) x
 unfolding returns
 no-return write cs a x = scan-nothing write x
 
-one-return : (write : Bool) (cs : Controls) (a q : ℕ) (l : List ℕ) (x y : Seen) → y ≡ scan write (places (flip cs a) ∷ []) x →
+one-return : (write : Bool) (cs : Controls) (a q : ℕ) (l : List ℕ) (x y : Progress) → y ≡ scan write (places (flip cs a) ∷ []) x →
     y ≡ scan write (returns (q ∷ l) cs a) x
 unfolding returns
 one-return write cs a q l x y p = p
 
-module _ (write : Bool) (l : List ℕ) (cs : Controls) (a n : ℕ) (x : Seen) (is : n ≡ length l) where
+module _ (write : Bool) (l : List ℕ) (cs : Controls) (a n : ℕ) (x : Progress) (is : n ≡ length l) where
   pub again-none : n ≡ 0 → x ≡ scan write (returns l cs (wireOf a)) x
   again-none e = none l (sym is ∙ e)
     where
@@ -56,7 +56,7 @@ module _ (write : Bool) (l : List ℕ) (cs : Controls) (a n : ℕ) (x : Seen) (i
       none [] e = no-return write cs (wireOf a) x
       none (q ∷ l) e = absurd (not-zero (length l) e)
 
-  pub again-some : (w : ℕ) (y : Seen) → (n ≡ 0 → ⊥) → w ≡ wireOf a → y ≡ scan write (places (flip cs w) ∷ []) x →
+  pub again-some : (w : ℕ) (y : Progress) → (n ≡ 0 → ⊥) → w ≡ wireOf a → y ≡ scan write (places (flip cs w) ∷ []) x →
       y ≡ scan write (returns l cs (wireOf a)) x
   again-some w y h e p = some l (λ z. h (is ∙ z)) (rw e at p)
     where
@@ -67,11 +67,11 @@ module _ (write : Bool) (l : List ℕ) (cs : Controls) (a n : ℕ) (x : Seen) (i
 pub ruleset finishing = (needs, finished, again-none, again-some)
 
 -- the ways out of `invoke`
-seen-emit : {a b : Emit} {x y : List ℕ} → seen a x ≡ seen b y → a ≡ b
-seen-emit e = ap emitOf e
+progress-emit : {a b : Emit} {x y : List ℕ} → progress a x ≡ progress b y → a ≡ b
+progress-emit e = ap emitOf e
 
-seen-list : {a b : Emit} {x y : List ℕ} → seen a x ≡ seen b y → x ≡ y
-seen-list e = ap roomOf e
+progress-list : {a b : Emit} {x y : List ℕ} → progress a x ≡ progress b y → x ≡ y
+progress-list e = ap roomOf e
 
 one-held : (ws : List ℕ) (a : ℕ) (d : Invocation) → slotOf ws a ≡ d → heldIn ws a 1 ≡ d ∷ []
 unfolding heldIn
@@ -87,37 +87,37 @@ module _ (f : ℕ) (cs : Controls) (write : Bool) (st : Emit) (room ws : List �
   invoke-none l n is e = fills-slot (λ space. none-invoked l (sym is ∙ e))
 
   module _ (q : ℕ) (l : List ℕ) (short : length (q ∷ l) ≤ mostQubits) (space : slotsLength ≤ length ws) where
-    refused-before : (a r : Emit) (room₁ ws₁ : List ℕ) → (st .status ≡ 0 → ⊥) → seen a ws₁ ≡ seen st ws →
-        seen r room₁ ≡ scan write (places (flip cs (wireOf (st .next))) ∷ []) (seen a room) →
+    refused-before : (a r : Emit) (room₁ ws₁ : List ℕ) → (st .status ≡ 0 → ⊥) → progress a ws₁ ≡ progress st ws →
+        progress r room₁ ≡ scan write (places (flip cs (wireOf (st .next))) ∷ []) (progress a room) →
         Opens write (invokes (q ∷ l) cs (st .next)) (invoked f (q ∷ l) (st .next)) st room ws r room₁ ws₁
     refused-before a r room₁ ws₁ h e p =
-      let still : seen r room₁ ≡ seen st room = p ∙ rw (seen-emit e) (scan-stopped write _ st room (ne-eqb (st .status) 0 h)) in
-      rw (seen-emit still, seen-list still, seen-list e)
+      let still : progress r room₁ ≡ progress st room = p ∙ rw (progress-emit e) (scan-stopped write _ st room (ne-eqb (st .status) 0 h)) in
+      rw (progress-emit still, progress-list still, progress-list e)
         (record { follows = follows-stopped write _ st room ws h; held = λ z. absurd (h z) })
 
-    refused-now : (a r : Emit) (room₁ ws₁ : List ℕ) → st .status ≡ 0 → mostWires < st .next → seen a ws₁ ≡ seen (stopped st manyWires) ws →
-        seen r room₁ ≡ scan write (places (flip cs (wireOf (st .next))) ∷ []) (seen a room) →
+    refused-now : (a r : Emit) (room₁ ws₁ : List ℕ) → st .status ≡ 0 → mostWires < st .next → progress a ws₁ ≡ progress (stopped st manyWires) ws →
+        progress r room₁ ≡ scan write (places (flip cs (wireOf (st .next))) ∷ []) (progress a room) →
         Opens write (invokes (q ∷ l) cs (st .next)) (invoked f (q ∷ l) (st .next)) st room ws r room₁ ws₁
     unfolding invokes
     refused-now a r room₁ ws₁ ok h e p =
-      let still : seen r room₁ ≡ seen (stopped st manyWires) room = p ∙ rw (seen-emit e) (scan-stopped write _ (stopped st manyWires) room refl) in
-      rw (seen-emit still, seen-list still, seen-list e) (record {
+      let still : progress r room₁ ≡ progress (stopped st manyWires) room = p ∙ rw (progress-emit e) (scan-stopped write _ (stopped st manyWires) room refl) in
+      rw (progress-emit still, progress-list still, progress-list e) (record {
         follows = record {
           scanned = sym (scan-no-wire write _ st room ok (st .next) h);
           long = refl; rises = le-refl (st .next); low = λ k. k; kept = λ i k. refl };
         held = λ z. absurd (not-zero 21 z) })
 
     invoked-now : (a r : Emit) (room₁ ws₁ : List ℕ) → st .status ≡ 0 → st .next ≤ mostWires →
-        seen a ws₁ ≡ seen (taken st (st .next)) (filled ws (st .next) f (q ∷ l)) →
-        seen r room₁ ≡ scan write (places (flip cs (wireOf (st .next))) ∷ []) (seen a room) →
+        progress a ws₁ ≡ progress (taken st (st .next)) (filled ws (st .next) f (q ∷ l)) →
+        progress r room₁ ≡ scan write (places (flip cs (wireOf (st .next))) ∷ []) (progress a room) →
         Opens write (invokes (q ∷ l) cs (st .next)) (invoked f (q ∷ l) (st .next)) st room ws r room₁ ws₁
     unfolding invokes invoked
     invoked-now a r room₁ ws₁ ok h e p =
       let n = st .next in
-      let placed-then : seen r room₁ ≡ scan write (places (flip cs n) ∷ []) (seen (taken st n) room) =
-            rw (seen-emit e, le-ltb mostWires n h) at p in
-      let up : r .next ≡ n + 1 = ap (λ (s : Seen). emitOf s .next) placed-then ∙ gates-next write _ (taken st n) room tt in
-      rw (seen-list e) (record {
+      let placed-then : progress r room₁ ≡ scan write (places (flip cs n) ∷ []) (progress (taken st n) room) =
+            rw (progress-emit e, le-ltb mostWires n h) at p in
+      let up : r .next ≡ n + 1 = ap (λ (s : Progress). emitOf s .next) placed-then ∙ gates-next write _ (taken st n) room tt in
+      rw (progress-list e) (record {
         follows = record {
           scanned = placed-then ∙ sym (scan-takes write (places (flip cs n) ∷ []) st room ok n h);
           long = length-sets ws (slotAt n) (f ∷ length (q ∷ l) ∷ q ∷ l);
@@ -125,8 +125,8 @@ module _ (f : ℕ) (cs : Controls) (write : Bool) (st : Emit) (room ws : List �
           kept = λ i k. getD-before ws (slotAt n) (f ∷ length (q ∷ l) ∷ q ∷ l) i k };
         held = λ z. one-held (filled ws n f (q ∷ l)) n (invocation f (q ∷ l) n) (filled-is ws n f (q ∷ l) space h short) })
 
-    pub invoked-slot : (a r : Emit) (room₁ ws₁ : List ℕ) → seen a ws₁ ≡ taking f (q ∷ l) st ws →
-        seen r room₁ ≡ scan write (places (flip cs (wireOf (st .next))) ∷ []) (seen a room) →
+    pub invoked-slot : (a r : Emit) (room₁ ws₁ : List ℕ) → progress a ws₁ ≡ taking f (q ∷ l) st ws →
+        progress r room₁ ≡ scan write (places (flip cs (wireOf (st .next))) ∷ []) (progress a room) →
         Opens write (invokes (q ∷ l) cs (st .next)) (invoked f (q ∷ l) (st .next)) st room ws r room₁ ws₁
     unfolding taking
     invoked-slot a r room₁ ws₁ e p = byEq (st .status) 0
@@ -136,13 +136,13 @@ module _ (f : ℕ) (cs : Controls) (write : Bool) (st : Emit) (room ws : List �
       (λ h. refused-before a r room₁ ws₁ h (rw (ne-eqb (st .status) 0 h) at e) p)
 
   some-invoked : (l : List ℕ) → (length l ≡ 0 → ⊥) → length l ≤ mostQubits → slotsLength ≤ length ws → (a r : Emit) (room₁ ws₁ : List ℕ) →
-      seen a ws₁ ≡ taking f l st ws → seen r room₁ ≡ scan write (places (flip cs (wireOf (st .next))) ∷ []) (seen a room) →
+      progress a ws₁ ≡ taking f l st ws → progress r room₁ ≡ scan write (places (flip cs (wireOf (st .next))) ∷ []) (progress a room) →
       Opens write (invokes l cs (st .next)) (invoked f l (st .next)) st room ws r room₁ ws₁
   some-invoked [] h short space a r room₁ ws₁ e p = absurd (h refl)
   some-invoked (q ∷ l) h short space a r room₁ ws₁ e p = invoked-slot q l short space a r room₁ ws₁ e p
 
   pub invoke-some : (list : Qubits) (n w : ℕ) (a r : Emit) (room₁ ws₁ : List ℕ) → length (list .at) ≡ mostQubits → n ≡ length (qubitsOf list) → (n ≡ 0 → ⊥) →
-      w ≡ wireOf (st .next) → seen a ws₁ ≡ taking f (qubitsOf list) st ws → seen r room₁ ≡ scan write (places (flip cs w) ∷ []) (seen a room) →
+      w ≡ wireOf (st .next) → progress a ws₁ ≡ taking f (qubitsOf list) st ws → progress r room₁ ≡ scan write (places (flip cs w) ∷ []) (progress a room) →
       Invokes f (qubitsOf list) cs write st room ws r room₁ ws₁
   invoke-some list n w a r room₁ ws₁ all is h v e p =
     let t : length (qubitsOf list) ≡ min (list .len) (length (list .at)) = length-take (list .len) (list .at) in

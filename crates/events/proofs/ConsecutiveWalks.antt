@@ -18,7 +18,7 @@ use Rattle.model.specs.Answers.{usable}
 use Rattle.model.proofs.BooleanLaws.{byBool, byLt, byEq}
 use Rattle.agreement.proofs.AncillaStack.{OnlyGates}
 use Rattle.events.specs.declared.Emit.{Emit}
-use Rattle.events.specs.Scan.{Seen, seen, emitOf, placed, stored, scan, bytesFrom, slotAt, slotListLength, slotProcedure, slotList, slotOf, heldIn}
+use Rattle.events.specs.Scan.{Progress, progress, emitOf, placed, stored, scan, bytesFrom, slotAt, slotListLength, slotProcedure, slotList, slotOf, heldIn}
 use Rattle.events.specs.Slots.{filled, pairAt, appears}
 use Rattle.events.specs.FollowedEvents.{Follows}
 use Rattle.events.proofs.ScanOfEvents.{scan-append, scan-stopped, scan-places, scan-no-gate, scan-many, scan-next, nextAfter}
@@ -26,8 +26,8 @@ use Rattle.events.proofs.GatesAndSlots.{place-stopped}
 use Rattle.events.proofs.EntryGates.{scan-nothing}
 
 -- gates leave the next wire
-pub gates-next : (write : Bool) (es : List Event) (st : Emit) (room : List ℕ) → OnlyGates es → emitOf (scan write es (seen st room)) .next ≡ st .next
-gates-next write [] st room x = ap (λ (s : Seen). emitOf s .next) (sym (scan-nothing write (seen st room)))
+pub gates-next : (write : Bool) (es : List Event) (st : Emit) (room : List ℕ) → OnlyGates es → emitOf (scan write es (progress st room)) .next ≡ st .next
+gates-next write [] st room x = ap (λ (s : Progress). emitOf s .next) (sym (scan-nothing write (progress st room)))
 gates-next write (takes w ∷ es) st room x = absurd x
 gates-next write (places g ∷ es) st room x = byBool (eqb (st .status) 0)
     (λ z. let ok = eqb-true (st .status) 0 z in byLt (usable (length room)) (st .used + length (encode g))
@@ -43,7 +43,7 @@ module _ (write : Bool) where
   -- nothing happens
   pub follows-none : (st : Emit) (room ws : List ℕ) → Follows write [] st room ws st room ws
   follows-none st room ws = record {
-    scanned = scan-nothing write (seen st room); long = refl; rises = le-refl (st .next); low = λ h. h; kept = λ i h. refl }
+    scanned = scan-nothing write (progress st room); long = refl; rises = le-refl (st .next); low = λ h. h; kept = λ i h. refl }
 
   -- a refusal absorbs what follows
   pub follows-stopped : (es : List Event) (st : Emit) (room ws : List ℕ) → (st .status ≡ 0 → ⊥) → Follows write es st room ws st room ws
@@ -52,17 +52,17 @@ module _ (write : Bool) where
 
   -- gates in the room
   pub follows-gates : (es : List Event) (st : Emit) (room ws : List ℕ) (r : Emit) (room₁ : List ℕ) → OnlyGates es →
-      seen r room₁ ≡ scan write es (seen st room) → Follows write es st room ws r room₁ ws
+      progress r room₁ ≡ scan write es (progress st room) → Follows write es st room ws r room₁ ws
   follows-gates es st room ws r room₁ x e =
-    let n : r .next ≡ st .next = ap (λ (s : Seen). emitOf s .next) e ∙ gates-next write es st room x in
+    let n : r .next ≡ st .next = ap (λ (s : Progress). emitOf s .next) e ∙ gates-next write es st room x in
     record { scanned = e; long = refl; rises = omega arith; low = λ h. omega arith; kept = λ i h. refl }
 
   module _ {st : Emit} {room ws : List ℕ} {a : Emit} {room₁ ws₁ : List ℕ} where
     -- the next wire behind events that are not refused
     pub follows-next : {es : List Event} → Follows write es st room ws a room₁ ws₁ → a .status ≡ 0 → a .next ≡ nextAfter (st .next) es
     follows-next {es = es} F ok =
-      ap (λ (s : Seen). emitOf s .next) (F .scanned)
-        ∙ scan-next write es st room (sym (ap (λ (s : Seen). emitOf s .status) (F .scanned)) ∙ ok)
+      ap (λ (s : Progress). emitOf s .next) (F .scanned)
+        ∙ scan-next write es st room (sym (ap (λ (s : Progress). emitOf s .status) (F .scanned)) ∙ ok)
 
     -- other events, where they are the same unless refused before
     pub follows-if : {es es₁ : List Event} → (st .status ≡ 0 → es ≡ es₁) → Follows write es st room ws a room₁ ws₁ → Follows write es₁ st room ws a room₁ ws₁
@@ -80,7 +80,7 @@ module _ (write : Bool) where
       pub follows-append : {xs ys : List Event} → Follows write xs st room ws a room₁ ws₁ → Follows write ys a room₁ ws₁ b room₂ ws₂ →
           Follows write (xs ++ ys) st room ws b room₂ ws₂
       follows-append {xs = xs} {ys = ys} F G = let up = F .rises in let more = G .rises in record {
-        scanned = G .scanned ∙ ap (scan write ys) (F .scanned) ∙ sym (scan-append write xs ys (seen st room));
+        scanned = G .scanned ∙ ap (scan write ys) (F .scanned) ∙ sym (scan-append write xs ys (progress st room));
         long = G .long ∙ F .long;
         rises = omega arith;
         low = λ h. G .low (F .low h);

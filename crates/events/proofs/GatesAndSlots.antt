@@ -4,7 +4,6 @@ use mathlib.Core.Bool.{Bool, true, false, not}
 use mathlib.Core.List.{List, [], _∷_, _++_, map}
 use Prim.Native.Nat.{ℕ, zero, suc, _+_, _-_, _*_, _≤_, _<_, max, min}
 use native.Mathlib.Numerals.{add-one}
-use native.Mathlib.Nat.{le-of-suc-le-suc, not-suc-le-zero}
 use native.Mathlib.Omega.{arith}
 use mir.Syntax.{w64}
 use mir.Val.{Fits}
@@ -27,7 +26,7 @@ use Rattle.circuit.proofs.GateBytes.{sets-past}
 use Rattle.step.specs.declared.Qubits.{Qubits}
 use Rattle.step.specs.Steps.{qubitsOf}
 use Rattle.events.specs.declared.Emit.{Emit}
-use Rattle.events.specs.Scan.{Seen, seen, stopped, freed, placed, stored, scan, bytesFrom, slotListLength, slotProcedure, slotList}
+use Rattle.events.specs.Scan.{Progress, progress, stopped, freed, placed, stored, scan, bytesFrom, slotListLength, slotProcedure, slotList}
 use Rattle.events.specs.Slots.{filled, taking, returned, pairAt, appears, opensAt, seekOf}
 use Rattle.events.proofs.ScanOfEvents.{scan-stopped, scan-places, scan-no-gate, scan-many}
 
@@ -46,44 +45,44 @@ module _ (room used n most : ℕ) (is : most ≡ usable room) where
 pub ruleset rooms = (needs, room-short, room-left)
 
 -- the ways out of `place`
-pub place-stopped : (write : Bool) (es : List Event) (st : Emit) (room : List ℕ) → (st .status ≡ 0 → ⊥) → seen st room ≡ scan write es (seen st room)
+pub place-stopped : (write : Bool) (es : List Event) (st : Emit) (room : List ℕ) → (st .status ≡ 0 → ⊥) → progress st room ≡ scan write es (progress st room)
 place-stopped write es st room f = sym (scan-stopped write es st room (ne-eqb (st .status) 0 f))
 
-scan-none : (write : Bool) (x : Seen) → scan write [] x ≡ x
+scan-none : (write : Bool) (x : Progress) → scan write [] x ≡ x
 unfolding scan
 scan-none write x = refl
 
 module _ (write : Bool) (g : NewGate) (st : Emit) (room : List ℕ) (ok : st .status ≡ 0) where
-  pub place-many : (r : Emit) → mostCircuit ≤ st .gates → r ≡ stopped st noRoom → seen r room ≡ scan write (places (gateFrom g) ∷ []) (seen st room)
+  pub place-many : (r : Emit) → mostCircuit ≤ st .gates → r ≡ stopped st noRoom → progress r room ≡ scan write (places (gateFrom g) ∷ []) (progress st room)
   place-many r h e = rw e (sym (scan-many write [] st room ok (gateFrom g) h))
 
   module _ (n : ℕ) (is : n ≡ length (encode (gateFrom g))) (b : Bool) (fits : b ≡ leb (st .used + n) (usable (length room))) where
     pub sum-fits : b ≡ true → Fits w64 (st .used + n)
     sum-fits e = let h = leb-true (st .used + n) (usable (length room)) (sym fits ∙ e) in record { fits = omega arith }
 
-    pub place-no-room : (r : Emit) → b ≡ false → r ≡ stopped st noRoom → seen r room ≡ scan write (places (gateFrom g) ∷ []) (seen st room)
+    pub place-no-room : (r : Emit) → b ≡ false → r ≡ stopped st noRoom → progress r room ≡ scan write (places (gateFrom g) ∷ []) (progress st room)
     place-no-room r e q = rw q (sym (scan-no-gate write [] st room ok (gateFrom g)
       (leb-false (st .used + length (encode (gateFrom g))) (usable (length room)) (rw (← is) (sym fits ∙ e)))))
 
     at-place : b ≡ true → st .gates < mostCircuit →
-        seen (placed st n) (stored write room (st .used) (encode (gateFrom g))) ≡ scan write (places (gateFrom g) ∷ []) (seen st room)
+        progress (placed st n) (stored write room (st .used) (encode (gateFrom g))) ≡ scan write (places (gateFrom g) ∷ []) (progress st room)
     at-place e h = rw is (sym (scan-places write [] st room ok (gateFrom g)
       (leb-true (st .used + length (encode (gateFrom g))) (usable (length room)) (rw (← is) (sym fits ∙ e))) h ∙ scan-none write _))
 
     pub place-written : (after : List ℕ) → b ≡ true → st .gates < mostCircuit → write ≡ true → after ≡ sets room (st .used) (encode (gateFrom g)) →
-        seen (placed st n) after ≡ scan write (places (gateFrom g) ∷ []) (seen st room)
+        progress (placed st n) after ≡ scan write (places (gateFrom g) ∷ []) (progress st room)
     place-written after e h w q = rw q (kept write w (at-place e h))
       where
-        kept : (v : Bool) → v ≡ true → {x : Seen} → seen (placed st n) (stored v room (st .used) (encode (gateFrom g))) ≡ x →
-            seen (placed st n) (sets room (st .used) (encode (gateFrom g))) ≡ x
+        kept : (v : Bool) → v ≡ true → {x : Progress} → progress (placed st n) (stored v room (st .used) (encode (gateFrom g))) ≡ x →
+            progress (placed st n) (sets room (st .used) (encode (gateFrom g))) ≡ x
         kept v e p = rw e at p
 
     pub place-measured : b ≡ true → st .gates < mostCircuit → write ≡ false →
-        seen (placed st n) room ≡ scan write (places (gateFrom g) ∷ []) (seen st room)
+        progress (placed st n) room ≡ scan write (places (gateFrom g) ∷ []) (progress st room)
     place-measured e h w = kept write w (at-place e h)
       where
-        kept : (v : Bool) → v ≡ false → {x : Seen} → seen (placed st n) (stored v room (st .used) (encode (gateFrom g))) ≡ x →
-            seen (placed st n) room ≡ x
+        kept : (v : Bool) → v ≡ false → {x : Progress} → progress (placed st n) (stored v room (st .used) (encode (gateFrom g))) ≡ x →
+            progress (placed st n) room ≡ x
         kept v e p = rw e at p
 
 pub ruleset placing = (needs, place-stopped, place-many, sum-fits, place-no-room, place-written, place-measured)
@@ -99,16 +98,16 @@ back-given a st e = rw (eq-eqb (st .status) 0 e)
 
 -- the ways out of `take`
 module _ (f : ℕ) (l : List ℕ) (st : Emit) (ws : List ℕ) where
-  pub take-stopped : (st .status ≡ 0 → ⊥) → seen st ws ≡ taking f l st ws
+  pub take-stopped : (st .status ≡ 0 → ⊥) → progress st ws ≡ taking f l st ws
   unfolding taking
   take-stopped h = rw (ne-eqb (st .status) 0 h)
 
-  pub take-past : (r : Emit) → st .status ≡ 0 → mostWires < st .next → r ≡ stopped st manyWires → seen r ws ≡ taking f l st ws
+  pub take-past : (r : Emit) → st .status ≡ 0 → mostWires < st .next → r ≡ stopped st manyWires → progress r ws ≡ taking f l st ws
   unfolding taking
   take-past r e h q = rw (q, eq-eqb (st .status) 0 e, lt-ltb mostWires (st .next) h)
 
   pub take-one : (after : List ℕ) (h : ℕ) → st .status ≡ 0 → st .next ≤ mostWires → after ≡ filled ws (st .next) f l → h ≡ max (st .highest) (st .next) →
-      seen (record { status = 0; used = st .used; gates = st .gates; next = st .next + 1; highest = h }) after ≡ taking f l st ws
+      progress (record { status = 0; used = st .used; gates = st .gates; next = st .next + 1; highest = h }) after ≡ taking f l st ws
   unfolding taking
   take-one after h e le p q = rw (p, q, eq-eqb (st .status) 0 e, le-ltb mostWires (st .next) le)
 
@@ -238,12 +237,6 @@ bytes-snoc : (bs : List ℕ) (at n : ℕ) → bytesFrom bs at n ++ (getD bs (at 
 unfolding bytesFrom
 bytes-snoc bs at zero = let e : at + 0 ≡ at = omega arith in rw e
 bytes-snoc bs at (suc n) = let e : at + suc n ≡ at + 1 + n = omega arith in rw e (ap (λ l. getD bs at 0 ∷ l) (bytes-snoc bs (at + 1) n))
-
-bytes-take : (bs : List ℕ) (at k n : ℕ) → k ≤ n → take k (bytesFrom bs at n) ≡ bytesFrom bs at k
-unfolding bytesFrom
-bytes-take bs at zero n h = refl
-bytes-take bs at (suc k) zero h = absurd (not-suc-le-zero h)
-bytes-take bs at (suc k) (suc n) h = ap (λ l. getD bs at 0 ∷ l) (bytes-take bs (at + 1) k n (le-of-suc-le-suc h))
 
 module _ (ws at : List ℕ) (from i : ℕ) (inv : take i at ≡ bytesFrom ws from i) where
   pub load-next : (v n : ℕ) → length at ≡ mostQubits → i < n → n ≤ mostQubits → v ≡ getD ws (from + i) 0 → take (i + 1) (set at i v) ≡ bytesFrom ws from (i + 1)

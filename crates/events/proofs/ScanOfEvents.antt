@@ -21,51 +21,51 @@ use Rattle.agreement.proofs.AncillaStack.{Stacked, highest, peak-highest, emiss
 use Rattle.agreement.proofs.FirstMisfit.{AllFit, fit-all, fits-length}
 use Rattle.circuit.proofs.GateBytes.{sets-append}
 use Rattle.events.specs.declared.Emit.{Emit}
-use Rattle.events.specs.Scan.{Seen, seen, emitOf, roomOf, stopped, taken, freed, placed, stored, goes, scan, begun, emissionEnd}
+use Rattle.events.specs.Scan.{Progress, progress, emitOf, roomOf, stopped, taken, freed, placed, stored, afterEvent, scan, begun, emissionEnd}
 
 -- events one after the other
-pub scan-append : (write : Bool) (xs ys : List Event) (x : Seen) → scan write (xs ++ ys) x ≡ scan write ys (scan write xs x)
+pub scan-append : (write : Bool) (xs ys : List Event) (x : Progress) → scan write (xs ++ ys) x ≡ scan write ys (scan write xs x)
 unfolding scan
 scan-append write [] ys x = refl
-scan-append write (e ∷ xs) ys (seen st room) = scan-append write xs ys _
+scan-append write (e ∷ xs) ys (progress st room) = scan-append write xs ys _
 
 -- a refusal absorbs what follows
-pub scan-stopped : (write : Bool) (es : List Event) (st : Emit) (room : List ℕ) → eqb (st .status) 0 ≡ false → scan write es (seen st room) ≡ seen st room
+pub scan-stopped : (write : Bool) (es : List Event) (st : Emit) (room : List ℕ) → eqb (st .status) 0 ≡ false → scan write es (progress st room) ≡ progress st room
 unfolding scan
 scan-stopped write [] st room h = refl
 scan-stopped write (e ∷ es) st room h = rw h (scan-stopped write es st room h)
 
 -- the clauses of the scan by their tests, where nothing was refused
 module _ (write : Bool) (es : List Event) (st : Emit) (room : List ℕ) (ok : st .status ≡ 0) where
-  pub scan-takes : (w : ℕ) → w ≤ mostWires → scan write (takes w ∷ es) (seen st room) ≡ scan write es (seen (taken st w) room)
-  unfolding scan goes
+  pub scan-takes : (w : ℕ) → w ≤ mostWires → scan write (takes w ∷ es) (progress st room) ≡ scan write es (progress (taken st w) room)
+  unfolding scan afterEvent
   scan-takes w h = rw (eq-eqb (st .status) 0 ok, le-ltb mostWires w h)
 
-  pub scan-no-wire : (w : ℕ) → mostWires < w → scan write (takes w ∷ es) (seen st room) ≡ seen (stopped st manyWires) room
-  unfolding scan goes
+  pub scan-no-wire : (w : ℕ) → mostWires < w → scan write (takes w ∷ es) (progress st room) ≡ progress (stopped st manyWires) room
+  unfolding scan afterEvent
   scan-no-wire w h = rw (eq-eqb (st .status) 0 ok, lt-ltb mostWires w h) (scan-stopped write es (stopped st manyWires) room refl)
 
   pub scan-places : (g : Gate) → st .used + length (encode g) ≤ usable (length room) → st .gates < mostCircuit →
-      scan write (places g ∷ es) (seen st room) ≡ scan write es (seen (placed st (length (encode g))) (stored write room (st .used) (encode g)))
-  unfolding scan goes
+      scan write (places g ∷ es) (progress st room) ≡ scan write es (progress (placed st (length (encode g))) (stored write room (st .used) (encode g)))
+  unfolding scan afterEvent
   scan-places g h k =
     rw (eq-eqb (st .status) 0 ok, le-leb (st .used + length (encode g)) (usable (length room)) h, lt-ltb (st .gates) mostCircuit k)
 
   pub scan-no-gate : (g : Gate) → usable (length room) < st .used + length (encode g) →
-      scan write (places g ∷ es) (seen st room) ≡ seen (stopped st noRoom) room
-  unfolding scan goes
+      scan write (places g ∷ es) (progress st room) ≡ progress (stopped st noRoom) room
+  unfolding scan afterEvent
   scan-no-gate g h = rw (eq-eqb (st .status) 0 ok, lt-leb (st .used + length (encode g)) (usable (length room)) h)
     (scan-stopped write es (stopped st noRoom) room refl)
 
   -- a gate too many is refused as one past the room; a law below says that it does not come to that
-  pub scan-many : (g : Gate) → mostCircuit ≤ st .gates → scan write (places g ∷ es) (seen st room) ≡ seen (stopped st noRoom) room
-  unfolding scan goes
+  pub scan-many : (g : Gate) → mostCircuit ≤ st .gates → scan write (places g ∷ es) (progress st room) ≡ progress (stopped st noRoom) room
+  unfolding scan afterEvent
   scan-many g h = rw (eq-eqb (st .status) 0 ok, le-ltb (st .gates) mostCircuit h) (byBool (leb (st .used + length (encode g)) (usable (length room)))
     (λ e. rw e (scan-stopped write es (stopped st noRoom) room refl))
     (λ e. rw e (scan-stopped write es (stopped st noRoom) room refl)))
 
-  pub scan-frees : (a : ℕ) → scan write (frees a ∷ es) (seen st room) ≡ scan write es (seen (freed st a) room)
-  unfolding scan goes
+  pub scan-frees : (a : ℕ) → scan write (frees a ∷ es) (progress st room) ≡ scan write es (progress (freed st a) room)
+  unfolding scan afterEvent
   scan-frees a = rw (eq-eqb (st .status) 0 ok)
 
 -- stores one after the other
@@ -122,11 +122,11 @@ module _ (write : Bool) where
 
   -- where every step fits
   pub scan-all : (es : List Event) (st : Emit) (room : List ℕ) → Sound st room → AllFit (usable (length room)) (st .used) es →
-      scan write es (seen st room) ≡ seen (ended st es) (stored write room (st .used) (encodeAll (gates es)))
+      scan write es (progress st room) ≡ progress (ended st es) (stored write room (st .used) (encodeAll (gates es)))
   unfolding scan gates encodeAll nextAfter highestAfter
   scan-all [] st room s h = at-end write st room (s .ok)
     where
-      at-end : (write : Bool) (st : Emit) (room : List ℕ) → st .status ≡ 0 → seen st room ≡ seen (record {
+      at-end : (write : Bool) (st : Emit) (room : List ℕ) → st .status ≡ 0 → progress st room ≡ progress (record {
         status = 0; used = st .used + 0; gates = st .gates + 0; next = st .next; highest = st .highest }) (stored write room (st .used) [])
       at-end true st room e = rw (add-zero (st .used), add-zero (st .gates), ← e)
       at-end false st room e = rw (add-zero (st .used), add-zero (st .gates), ← e)
@@ -147,7 +147,7 @@ module _ (write : Bool) where
 
   -- the number that comes out is the one of the definitions
   pub scan-fit : (es : List Event) (st : Emit) (room : List ℕ) → Sound st room →
-      emitOf (scan write es (seen st room)) .status ≡ fit (usable (length room)) (st .used) es
+      emitOf (scan write es (progress st room)) .status ≡ fit (usable (length room)) (st .used) es
   unfolding scan fit
   scan-fit [] st room s = s .ok
   scan-fit (takes w ∷ es) st room s = byLt mostWires w
@@ -184,19 +184,19 @@ no-wire q = omega arith
 no-gate : _≡_ {A = ℕ} noRoom 0 → ⊥
 no-gate q = omega arith
 
-next-here : (write : Bool) (st : Emit) (room : List ℕ) → emitOf (scan write [] (seen st room)) .next ≡ st .next
+next-here : (write : Bool) (st : Emit) (room : List ℕ) → emitOf (scan write [] (progress st room)) .next ≡ st .next
 unfolding scan
 next-here write st room = refl
 
 -- a scan that refuses nothing began where nothing was refused
-pub scan-was : (write : Bool) (es : List Event) (st : Emit) (room : List ℕ) → emitOf (scan write es (seen st room)) .status ≡ 0 → st .status ≡ 0
+pub scan-was : (write : Bool) (es : List Event) (st : Emit) (room : List ℕ) → emitOf (scan write es (progress st room)) .status ≡ 0 → st .status ≡ 0
 scan-was write es st room h = byBool (eqb (st .status) 0)
     (λ z. eqb-true (st .status) 0 z)
     (λ z. rw (scan-stopped write es st room z) at h)
 
 -- where nothing is refused, the next wire is the one behind the events
-pub scan-next : (write : Bool) (es : List Event) (st : Emit) (room : List ℕ) → emitOf (scan write es (seen st room)) .status ≡ 0 →
-    emitOf (scan write es (seen st room)) .next ≡ nextAfter (st .next) es
+pub scan-next : (write : Bool) (es : List Event) (st : Emit) (room : List ℕ) → emitOf (scan write es (progress st room)) .status ≡ 0 →
+    emitOf (scan write es (progress st room)) .next ≡ nextAfter (st .next) es
 unfolding nextAfter
 scan-next write [] st room h = next-here write st room
 scan-next write (takes w ∷ es) st room h =
@@ -220,27 +220,27 @@ module _ (write : Bool) (P : Program) (n : ℕ) (room : List ℕ) (header : head
   start-sound : Sound (begun n) room
   start-sound = record { ok = refl; few = omega arith; fits = header }
 
-  pub emission-status : emitOf (scan write (emission P n) (seen (begun n) room)) .status ≡ fit (usable (length room)) headerLength (emission P n)
+  pub emission-status : emitOf (scan write (emission P n) (progress (begun n) room)) .status ≡ fit (usable (length room)) headerLength (emission P n)
   emission-status = scan-fit write (emission P n) (begun n) room start-sound
 
   pub emission-ends : fit (usable (length room)) headerLength (emission P n) ≡ 0 →
-      scan write (emission P n) (seen (begun n) room) ≡ seen (emissionEnd P n) (stored write room headerLength (encodeAll (gates (emission P n))))
+      scan write (emission P n) (progress (begun n) room) ≡ progress (emissionEnd P n) (stored write room headerLength (encodeAll (gates (emission P n))))
   emission-ends e =
     let es = emission P n in
-    let back : nextAfter (n + 1) es ≡ n + 1 = let z : suc n ≡ n + 1 = omega arith in
+    let reversed : nextAfter (n + 1) es ≡ n + 1 = let z : suc n ≡ n + 1 = omega arith in
           stacked-after n (n + 1) (n + 1) es (subst (λ (v : ℕ). Stacked n v es v) z (emission-stacked P n)) in
     let top : highestAfter n es ≡ n + peak [] es = let a = highest-after n n es (omega arith) in let b = peak-highest P n in omega arith in
     let none : 0 + length (gates es) ≡ length (gates es) = omega arith in
-    scan-all write es (begun n) room start-sound (fit-all (usable (length room)) headerLength es e) ∙ rw (back, top, none)
+    scan-all write es (begun n) room start-sound (fit-all (usable (length room)) headerLength es e) ∙ rw (reversed, top, none)
 
   -- the bytes of the gates lie within the room
   pub emission-within : fit (usable (length room)) headerLength (emission P n) ≡ 0 → headerLength + length (encodeAll (gates (emission P n))) ≤ length room
   emission-within e =
     let a = fits-length (usable (length room)) headerLength (emission P n) header (fit-all (usable (length room)) headerLength (emission P n) e) in omega arith
 
-measured-go : (es : List Event) (e : Event) (st : Emit) (room : List ℕ) → ((s : Emit) → roomOf (scan false es (seen s room)) ≡ room) →
-    roomOf (scan false es (goes false e st room)) ≡ room
-unfolding goes
+measured-go : (es : List Event) (e : Event) (st : Emit) (room : List ℕ) → ((s : Emit) → roomOf (scan false es (progress s room)) ≡ room) →
+    roomOf (scan false es (afterEvent false e st room)) ≡ room
+unfolding afterEvent
 measured-go es (takes w) st room ih = byBool (ltb mostWires w)
     (λ z. rw z (ih (stopped st manyWires)))
     (λ z. rw z (ih (taken st w)))
@@ -252,7 +252,7 @@ measured-go es (places g) st room ih = byBool (leb (st .used + length (encode g)
 measured-go es (frees a) st room ih = ih (freed st a)
 
 -- the room of a measuring pass is as it was
-pub measured-room : (es : List Event) (st : Emit) (room : List ℕ) → roomOf (scan false es (seen st room)) ≡ room
+pub measured-room : (es : List Event) (st : Emit) (room : List ℕ) → roomOf (scan false es (progress st room)) ≡ room
 unfolding scan
 measured-room [] st room = refl
 measured-room (e ∷ es) st room = byBool (eqb (st .status) 0)

@@ -8,11 +8,11 @@ use Rattle.limits.specs.Sizes.{wireCount, slotsLength}
 use Rattle.model.specs.Gates.{Controls}
 use Rattle.model.specs.Emission.{Event, Invocation, invoked, invokes}
 use Rattle.events.specs.declared.Emit.{Emit}
-use Rattle.events.specs.Scan.{seen, scan, slotAt, heldIn}
+use Rattle.events.specs.Scan.{progress, scan, slotAt, heldIn}
 
 -- the events are scanned; the workspace below the first next wire is as it was
 pub record Follows (write : Bool) (es : List Event) (st : Emit) (room ws : List ℕ) (r : Emit) (room₁ ws₁ : List ℕ) : Type 0 where
-  pub scanned : seen r room₁ ≡ scan write es (seen st room)
+  pub scanned : progress r room₁ ≡ scan write es (progress st room)
   pub long : length ws₁ ≡ length ws
   pub rises : st .next ≤ r .next
   pub low : st .next ≤ wireCount → r .next ≤ wireCount

@@ -14,14 +14,14 @@ use Rattle.model.specs.Answers.{usable}
 use Rattle.events.specs.declared.Emit.{Emit}
 
 -- what is seen of an emission: where it stands, and the room
-pub data Seen : Type 0 where
-  seen : Emit → List ℕ → Seen
+pub data Progress : Type 0 where
+  progress : Emit → List ℕ → Progress
 
-abbrev pub emitOf : Seen → Emit
-emitOf (seen st room) = st
+abbrev pub emitOf : Progress → Emit
+emitOf (progress st room) = st
 
-abbrev pub roomOf : Seen → List ℕ
-roomOf (seen st room) = room
+abbrev pub roomOf : Progress → List ℕ
+roomOf (progress st room) = room
 
 -- the state behind a refusal, an ancilla taken, ancillas given back from one on, and a gate of some bytes
 abbrev pub stopped : Emit → ℕ → Emit
@@ -41,20 +41,20 @@ abbrev pub stored : Bool → List ℕ → ℕ → List ℕ → List ℕ
 stored write room at bytes = cond write (sets room at bytes) room
 
 -- one event where nothing was refused: "22 or 23 at the first ancilla or gate that does not fit". A room holds fewer than 65,536 gates.
-unfoldable pub goes : Bool → Event → Emit → List ℕ → Seen
-goes write (takes w) st room = cond (ltb mostWires w) (seen (stopped st manyWires) room) (seen (taken st w) room)
-goes write (places g) st room =
+unfoldable pub afterEvent : Bool → Event → Emit → List ℕ → Progress
+afterEvent write (takes w) st room = cond (ltb mostWires w) (progress (stopped st manyWires) room) (progress (taken st w) room)
+afterEvent write (places g) st room =
     cond (leb (st .used + length (encode g)) (usable (length room)))
     (cond (ltb (st .gates) mostCircuit)
-    (seen (placed st (length (encode g))) (stored write room (st .used) (encode g)))
-    (seen (stopped st noRoom) room))
-    (seen (stopped st noRoom) room)
-goes write (frees a) st room = seen (freed st a) room
+    (progress (placed st (length (encode g))) (stored write room (st .used) (encode g)))
+    (progress (stopped st noRoom) room))
+    (progress (stopped st noRoom) room)
+afterEvent write (frees a) st room = progress (freed st a) room
 
 -- the events in order; a refusal absorbs what follows it
-unfoldable pub scan : Bool → List Event → Seen → Seen
+unfoldable pub scan : Bool → List Event → Progress → Progress
 scan write [] x = x
-scan write (e ∷ es) (seen st room) = scan write es (cond (eqb (st .status) 0) (goes write e st room) (seen st room))
+scan write (e ∷ es) (progress st room) = scan write es (cond (eqb (st .status) 0) (afterEvent write e st room) (progress st room))
 
 -- an emission with n qubits starts behind the header, with wire n + 1
 abbrev pub begun : ℕ → Emit

@@ -9,18 +9,18 @@ use lib.Dec.{eqb, ltb}
 use Rattle.model.specs.Limits.{mostWires, manyWires}
 use Rattle.model.specs.Emission.{Event, swaps, entryGates}
 use Rattle.events.specs.declared.Emit.{Emit}
-use Rattle.events.specs.Scan.{Seen, seen, stopped, taken, freed, slotAt, slotListLength, slotProcedure, slotOf}
+use Rattle.events.specs.Scan.{Progress, progress, stopped, taken, freed, slotAt, slotListLength, slotProcedure, slotOf}
 
 -- an invocation put into the slot of its ancilla
 abbrev pub filled : List ℕ → ℕ → ℕ → List ℕ → List ℕ
 filled ws a f l = sets ws (slotAt a) (f ∷ length l ∷ l)
 
 -- the next ancilla is taken, and its slot filled
-unfoldable pub taking : ℕ → List ℕ → Emit → List ℕ → Seen
+unfoldable pub taking : ℕ → List ℕ → Emit → List ℕ → Progress
 taking f l st ws =
     cond (eqb (st .status) 0)
-    (cond (ltb mostWires (st .next)) (seen (stopped st manyWires) ws) (seen (taken st (st .next)) (filled ws (st .next) f l)))
-    (seen st ws)
+    (cond (ltb mostWires (st .next)) (progress (stopped st manyWires) ws) (progress (taken st (st .next)) (filled ws (st .next) f l)))
+    (progress st ws)
 
 -- the ancillas from a on are given back
 unfoldable pub returned : ℕ → Emit → Emit

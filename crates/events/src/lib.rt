@@ -12,7 +12,7 @@ ghost use Rattle.model.specs.Emission.{places, frees, swaps, entryGates, allEnt
 ghost use Rattle.model.specs.Answers.{usable};
 ghost use Rattle.circuit.specs.GatesToWrite.{controlsFrom, gateFrom};
 ghost use Rattle.step.specs.Steps.{qubitsOf};
-ghost use Rattle.events.specs.Scan.{seen, stopped, scan, slotListLength, slotProcedure, slotList, wireOf, slotOf, heldIn};
+ghost use Rattle.events.specs.Scan.{progress, stopped, scan, slotListLength, slotProcedure, slotList, wireOf, slotOf, heldIn};
 ghost use Rattle.events.specs.Slots.{filled, taking, returned, pairAt, appears, opensAt, seekOf, turned, entryAt, Differ};
 ghost use Rattle.events.specs.FollowedEvents.{Invokes};
 use circuit::write::{ControlLists, NewGate, asking, no_controls, flip_of, swap_of, gate_length, put_pair, put_gate};
@@ -56,7 +56,7 @@ fn in_room(room: usize, used: usize, length: usize) -> bool
 
 // A gate is placed, or 23. Only a writing pass touches the room.
 fn place(gate: NewGate, write: bool, room: &mut [u8], st: Emit) -> Emit
-    ensures { λ r. ⌜ seen r (now (room .exit)) ≡ scan write (places (gateFrom gate) ∷ []) (seen st (now (room .entry))) ⌝ }
+    ensures { λ r. ⌜ progress r (now (room .exit)) ≡ scan write (places (gateFrom gate) ∷ []) (progress st (now (room .entry))) ⌝ }
 {
     if st.status != 0 {
         return st;
@@ -80,14 +80,14 @@ fn place(gate: NewGate, write: bool, room: &mut [u8], st: Emit) -> Emit
 
 // A NOT is placed.
 pub fn emit_flip(controls: ControlLists, target: u8, write: bool, room: &mut [u8], st: Emit) -> Emit
-    ensures { λ r. ⌜ seen r (now (room .exit)) ≡ scan write (places (flip (controlsFrom controls) target) ∷ []) (seen st (now (room .entry))) ⌝ }
+    ensures { λ r. ⌜ progress r (now (room .exit)) ≡ scan write (places (flip (controlsFrom controls) target) ∷ []) (progress st (now (room .entry))) ⌝ }
 {
     place(flip_of(controls, target), write, room, st)
 }
 
 // A swap under an ancilla is placed.
 fn emit_swap(e: u8, first: u8, second: u8, write: bool, room: &mut [u8], st: Emit) -> Emit
-    ensures { λ r. ⌜ seen r (now (room .exit)) ≡ scan write (places (swapOf (model.under e) first second) ∷ []) (seen st (now (room .entry))) ⌝ }
+    ensures { λ r. ⌜ progress r (now (room .exit)) ≡ scan write (places (swapOf (model.under e) first second) ∷ []) (progress st (now (room .entry))) ⌝ }
 {
     place(swap_of(under(e), first, second), write, room, st)
 }
@@ -184,7 +184,7 @@ fn larger(a: u16, b: u16) -> u16
 
 // The next ancilla is taken for a call of f with a list, or 22.
 fn take(f: u8, list: Qubits, ws: &mut [u8], st: Emit) -> Emit
-    ensures { λ r. ⌜ seen r (now (ws .exit)) ≡ taking f (qubitsOf list) st (now (ws .entry)) ⌝ }
+    ensures { λ r. ⌜ progress r (now (ws .exit)) ≡ taking f (qubitsOf list) st (now (ws .entry)) ⌝ }
 {
     if st.status != 0 {
         return st;
@@ -302,9 +302,9 @@ fn differ_from(first: Qubits, later: Qubits, k: u8) -> u8
 
 // "for k = 1 up to the length, swap, under the entry ancilla, the wire now holding the k-th qubit of the later list with the k-th wire of the first
 // list, unless equal": from k on, in order or reversed.
-fn emit_swaps(e: u8, first: Qubits, later: Qubits, k: u8, back: bool, write: bool, room: &mut [u8], st: Emit) -> Emit
-    ensures { λ r. ⌜ seen r (now (room .exit)) ≡
-        scan write (turned back (swaps e (drop k (qubitsOf first)) (drop k (qubitsOf later)))) (seen st (now (room .entry))) ⌝ }
+fn emit_swaps(e: u8, first: Qubits, later: Qubits, k: u8, reversed: bool, write: bool, room: &mut [u8], st: Emit) -> Emit
+    ensures { λ r. ⌜ progress r (now (room .exit)) ≡
+        scan write (turned reversed (swaps e (drop k (qubitsOf first)) (drop k (qubitsOf later)))) (progress st (now (room .entry))) ⌝ }
 {
     let i = differ_from(first, later, k);
     if size(first) <= i {
@@ -316,56 +316,56 @@ fn emit_swaps(e: u8, first: Qubits, later: Qubits, k: u8, back: bool, write: boo
     let to = entry_at(first, i);
     let from = entry_at(later, i);
     let moved = exchanged(later, from, to);
-    if back {
-        let rest = emit_swaps(e, first, moved, i + 1, back, write, room, st);
+    if reversed {
+        let rest = emit_swaps(e, first, moved, i + 1, reversed, write, room, st);
         return emit_swap(e, from, to, write, room, rest);
     }
     let here = emit_swap(e, from, to, write, room, st);
-    emit_swaps(e, first, moved, i + 1, back, write, room, here)
+    emit_swaps(e, first, moved, i + 1, reversed, write, room, here)
 }
 
 // "flip the body's ancilla under the entry ancilla; then" the swaps: from slot e to the body of slot d, in order or reversed.
-fn emit_gates(ws: &[u8], d: u16, e: u16, back: bool, write: bool, room: &mut [u8], st: Emit) -> Emit
-    ensures { λ r. ⌜ seen r (now (room .exit)) ≡
-        scan write (turned back (entryGates (slotOf (now (ws .entry)) d) (slotOf (now (ws .entry)) e))) (seen st (now (room .entry))) ⌝ }
+fn emit_gates(ws: &[u8], d: u16, e: u16, reversed: bool, write: bool, room: &mut [u8], st: Emit) -> Emit
+    ensures { λ r. ⌜ progress r (now (room .exit)) ≡
+        scan write (turned reversed (entryGates (slotOf (now (ws .entry)) d) (slotOf (now (ws .entry)) e))) (progress st (now (room .entry))) ⌝ }
 {
     let first = load(ws, d);
     let later = load(ws, e);
     let a = wire(e);
     let controls = under(a);
     let target = wire(d);
-    if back {
-        let swapped = emit_swaps(a, first, later, 0, back, write, room, st);
+    if reversed {
+        let swapped = emit_swaps(a, first, later, 0, reversed, write, room, st);
         return emit_flip(controls, target, write, room, swapped);
     }
     let flipped = emit_flip(controls, target, write, room, st);
-    emit_swaps(a, first, later, 0, back, write, room, flipped)
+    emit_swaps(a, first, later, 0, reversed, write, room, flipped)
 }
 
 // These, if the slots are of one pair.
-fn emit_entry(ws: &[u8], d: u16, e: u16, back: bool, write: bool, room: &mut [u8], st: Emit) -> Emit
-    ensures { λ r. ⌜ seen r (now (room .exit)) ≡ scan write (turned back (entryAt (now (ws .entry)) d e)) (seen st (now (room .entry))) ⌝ }
+fn emit_entry(ws: &[u8], d: u16, e: u16, reversed: bool, write: bool, room: &mut [u8], st: Emit) -> Emit
+    ensures { λ r. ⌜ progress r (now (room .exit)) ≡ scan write (turned reversed (entryAt (now (ws .entry)) d e)) (progress st (now (room .entry))) ⌝ }
 {
     if pair_at(ws, e, procedure(ws, d), list_size(ws, d)) {
-        return emit_gates(ws, d, e, back, write, room, st);
+        return emit_gates(ws, d, e, reversed, write, room, st);
     }
     st
 }
 
 // "Before the shared body's left part, for each such call in order" the entry gates; behind its right part "the same gates come in reverse".
-pub fn emit_entries(ws: &[u8], d: u16, e: u16, upto: u16, back: bool, write: bool, room: &mut [u8], st: Emit) -> Emit
-    ensures { λ r. ⌜ seen r (now (room .exit)) ≡
-        scan write (turned back (allEntryGates (slotOf (now (ws .entry)) d) (heldIn (now (ws .entry)) e (upto - e)))) (seen st (now (room .entry))) ⌝ }
+pub fn emit_entries(ws: &[u8], d: u16, e: u16, upto: u16, reversed: bool, write: bool, room: &mut [u8], st: Emit) -> Emit
+    ensures { λ r. ⌜ progress r (now (room .exit)) ≡
+        scan write (turned reversed (allEntryGates (slotOf (now (ws .entry)) d) (heldIn (now (ws .entry)) e (upto - e)))) (progress st (now (room .entry))) ⌝ }
 {
     if upto <= e {
         return st;
     }
-    if back {
-        let rest = emit_entries(ws, d, e + 1, upto, back, write, room, st);
-        return emit_entry(ws, d, e, back, write, room, rest);
+    if reversed {
+        let rest = emit_entries(ws, d, e + 1, upto, reversed, write, room, st);
+        return emit_entry(ws, d, e, reversed, write, room, rest);
     }
-    let here = emit_entry(ws, d, e, back, write, room, st);
-    emit_entries(ws, d, e + 1, upto, back, write, room, here)
+    let here = emit_entry(ws, d, e, reversed, write, room, st);
+    emit_entries(ws, d, e + 1, upto, reversed, write, room, here)
 }
 
 // A call that names a pair takes the next ancilla and flips it under the controls in force. "A call with an empty list emits nothing"
@@ -382,8 +382,8 @@ pub fn invoke(f: u8, list: Qubits, controls: ControlLists, write: bool, room: &m
 
 // A chain's end: its first ancilla is flipped back, and all its ancillas are given back.
 pub fn finish(base: u16, controls: ControlLists, write: bool, room: &mut [u8], st: Emit) -> Emit
-    ensures { λ r. ⌜ seen r (now (room .exit)) ≡
-        scan write (places (flip (controlsFrom controls) (wireOf base)) ∷ frees base ∷ []) (seen st (now (room .entry))) ⌝ }
+    ensures { λ r. ⌜ progress r (now (room .exit)) ≡
+        scan write (places (flip (controlsFrom controls) (wireOf base)) ∷ frees base ∷ []) (progress st (now (room .entry))) ⌝ }
 {
     let flipped = emit_flip(controls, wire(base), write, room, st);
     give_back(flipped, base)
@@ -391,7 +391,7 @@ pub fn finish(base: u16, controls: ControlLists, write: bool, room: &mut [u8], s
 
 // A recursive call's ancilla is flipped "again at its place in the right". "A call with an empty list emits nothing"
 pub fn flip_again(list: Qubits, controls: ControlLists, a: u16, write: bool, room: &mut [u8], st: Emit) -> Emit
-    ensures { λ r. ⌜ seen r (now (room .exit)) ≡ scan write (returns (qubitsOf list) (controlsFrom controls) (wireOf a)) (seen st (now (room .entry))) ⌝ }
+    ensures { λ r. ⌜ progress r (now (room .exit)) ≡ scan write (returns (qubitsOf list) (controlsFrom controls) (wireOf a)) (progress st (now (room .entry))) ⌝ }
 {
     let m = size(list);
     if m == 0 {

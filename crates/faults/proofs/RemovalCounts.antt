@@ -16,7 +16,7 @@ use Rattle.reach.specs.declared.Parts.{Parts}
 use Rattle.reach.specs.declared.Parts.the-variants as parts
 use Rattle.reach.specs.CallsInATable.{partsAt}
 use Rattle.reach.proofs.MatrixOperations.{left-never}
-use Rattle.reach.proofs.PartsOfARecord.{Seen, as-skip, as-not, as-sequence, as-if, as-qcase, as-call, seen-here}
+use Rattle.reach.proofs.PartsOfARecord.{ArePartsOf, as-skip, as-not, as-sequence, as-if, as-qcase, as-call, parts-here}
 use Rattle.faults.specs.TouchedPositions.{Touched, touchesNone, touchesOne, joined}
 use Rattle.faults.specs.Rows.{rowOf, rowIs, marked}
 use Rattle.faults.specs.CallLengths.{removalCounts, countsBelow, sumsBelow}
@@ -28,14 +28,14 @@ countsBy part bs parts.Neither = touchesNone
 countsBy part bs (parts.Two a b t) = joined (removalCounts (part a)) (removalCounts (part b))
 countsBy part bs (parts.Call g at) = touchesOne (length (removalsOf bs at))
 
-counts-seen : (part : ℕ → Statement) (bs : List ℕ) {x : Parts} {s : Statement} → Seen part bs x s → removalCounts s ≡ countsBy part bs x
+counts-by-parts : (part : ℕ → Statement) (bs : List ℕ) {x : Parts} {s : Statement} → ArePartsOf part bs x s → removalCounts s ≡ countsBy part bs x
 unfolding removalCounts
-counts-seen part bs as-skip = refl
-counts-seen part bs (as-not rs a) = refl
-counts-seen part bs (as-sequence a b) = refl
-counts-seen part bs (as-if c a b) = refl
-counts-seen part bs (as-qcase rs q a b) = refl
-counts-seen part bs (as-call g at) = refl
+counts-by-parts part bs as-skip = refl
+counts-by-parts part bs (as-not rs a) = refl
+counts-by-parts part bs (as-sequence a b) = refl
+counts-by-parts part bs (as-if c a b) = refl
+counts-by-parts part bs (as-qcase rs q a b) = refl
+counts-by-parts part bs (as-call g at) = refl
 
 -- the set of how many removals the calls in the statement at record i carry
 abbrev countsAt : ℕ → List ℕ → List ℕ → ℕ → ℕ → ℕ
@@ -51,7 +51,7 @@ module _ (p : ℕ) (bs ix : List ℕ) (depth i : ℕ) (deep : depth ≡ 0 → �
   part = statementAt p bs ix (depth - 1)
 
   by-parts : (y : Parts) → x ≡ y → countsAt p bs ix depth i ≡ rowOf (countsBy part bs y)
-  by-parts y e = ap rowOf (counts-seen part bs (seen-here p bs ix depth i deep x parts-are)) ∙ ap (λ (z : Parts). rowOf (countsBy part bs z)) e
+  by-parts y e = ap rowOf (counts-by-parts part bs (parts-here p bs ix depth i deep x parts-are)) ∙ ap (λ (z : Parts). rowOf (countsBy part bs z)) e
 
   pub count-neither : x ≡ parts.Neither → 0 ≡ countsAt p bs ix depth i
   count-neither e = rw (by-parts parts.Neither e) none-row

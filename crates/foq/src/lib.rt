@@ -5,7 +5,7 @@ ghost use Rattle.model.specs.Answers.{circuitRead, circuitRun, roomAfter, works
 ghost use Rattle.model.specs.Answers as model;
 ghost use Rattle.answers.specs.Structs.{answerOf, lengthAnswer, headerOf, blockAnswer, Delivered};
 use answers::{Answer, CircuitBlock, CircuitHeader};
-use compile::wipe;
+use compile::clear;
 
 // The verdict: 0 for an accepted table, otherwise the refusal's number.
 #[no_mangle]
@@ -14,7 +14,7 @@ pub extern "C" fn foq_verdict(table: &[u8], n: u32, workspace: &mut [u8]) -> u32
     ensures { λ r. ⌜ now (workspace .exit) ≡ workspaceAfter (now (workspace .entry)) ⌝ }
 {
     let number = verdict::verdict(table, n, workspace.len());
-    wipe(workspace);
+    clear(workspace);
     number
 }
 
@@ -25,7 +25,7 @@ pub extern "C" fn foq_run(table: &[u8], n: u32, word: u64, workspace: &mut [u8])
     ensures { λ r. ⌜ now (workspace .exit) ≡ workspaceAfter (now (workspace .entry)) ⌝ }
 {
     let answer = run::run(table, n, word, workspace.len());
-    wipe(workspace);
+    clear(workspace);
     answer
 }
 

@@ -53,13 +53,13 @@ unfolding puts
 put-there b text at h = rw (puts-cons b [] text at h, add-one)
 
 -- first these bytes, then those
-pub put-behind : (xs ys text middle : List ℕ) (at mid : ℕ) → written middle mid ≡ puts xs text at → puts (xs ++ ys) text at ≡ puts ys middle mid
+pub put-after : (xs ys text middle : List ℕ) (at mid : ℕ) → written middle mid ≡ puts xs text at → puts (xs ++ ys) text at ≡ puts ys middle mid
 unfolding behind
-put-behind xs ys text middle at mid p = rw (puts-append xs ys text at, ← p)
+put-after xs ys text middle at mid p = rw (puts-append xs ys text at, ← p)
 
 pub put-then : (xs ys text middle end : List ℕ) (at mid last : ℕ) → written middle mid ≡ puts xs text at →
     written end last ≡ puts ys middle mid → written end last ≡ puts (xs ++ ys) text at
-put-then xs ys text middle end at mid last p q = rw (put-behind xs ys text middle at mid p) q
+put-then xs ys text middle end at mid last p q = rw (put-after xs ys text middle at mid p) q
 
 pub put-next : (x : ℕ) (ys text middle end : List ℕ) (at mid last : ℕ) → written middle mid ≡ puts (x ∷ []) text at →
     written end last ≡ puts ys middle mid → written end last ≡ puts (x ∷ ys) text at

@@ -15,7 +15,7 @@ use Rattle.model.specs.Circuit.{Circuit, readGate, readCircuit, fourBytes, enco
 use Rattle.model.specs.Answers.{Outcome, gives, refuses, wellFormed, circuitRead}
 use Rattle.model.specs.Listing.{gateLine, gateLines, firstLine, listed}
 use Rattle.model.proofs.RoundTrip.{AllWellFormed, left, read-encode, write-circuitRead}
-use Rattle.circuit.specs.GatesInBytes.{inputAt, settled, gateIn, gateSeen}
+use Rattle.circuit.specs.GatesInBytes.{inputAt, settled, gateIn, gateParsed}
 use Rattle.answers.specs.Structs.{headerOf}
 use Rattle.answers.specs.declared.CircuitHeader.{CircuitHeader}
 use Rattle.circuit.specs.declared.GateAt.{GateAt}
@@ -24,7 +24,7 @@ use Rattle.circuit.specs.declared.GateRead.the-variants.{Found, NoGate}
 use Rattle.circuit.proofs.GateReading.{settled-parsed}
 use Rattle.lines.specs.AppendedBytes.{Written, written, puts}
 use Rattle.lines.specs.ListingRows.{lineThen, linesRead}
-use Rattle.lines.proofs.AppendLaws.{put-behind, put-then}
+use Rattle.lines.proofs.AppendLaws.{put-after, put-then}
 
 -- the line of the next gate, then the others
 lines-more : (most k left : ℕ) (i : Input) → 0 < left →
@@ -46,21 +46,21 @@ module _ (bs text : List ℕ) (next most k left place : ℕ) (whole : Written)
   unfolding linesRead puts
   lines-end l = let z : left ≡ 0 = omega arith in rw (inv, z)
 
-  module _ (l : 0 < left) (x : GateRead) (p : gateSeen bs x ≡ settled (readGate most (inputAt bs next))) where
+  module _ (l : 0 < left) (x : GateRead) (p : gateParsed bs x ≡ settled (readGate most (inputAt bs next))) where
     pub lines-bad : x ≡ NoGate → written text place ≡ whole
-    unfolding gateSeen puts
+    unfolding gateParsed puts
     lines-bad e =
         rw (inv, lines-more most k left (inputAt bs next) l, no-line k (readGate most (inputAt bs next)) _ (rw e at p))
 
     pub lines-next : (g : GateAt) → x ≡ Found g → (text₁ : List ℕ) (place₁ : ℕ) →
         written text₁ place₁ ≡ puts (gateLine k (gateIn bs g)) text place →
         whole ≡ puts (linesRead most (k + 1) (left - 1) (inputAt bs (g .next))) text₁ place₁
-    unfolding gateSeen lineThen
+    unfolding gateParsed lineThen
     lines-next g e text₁ place₁ q =
         let found : readGate most (inputAt bs next) ≡ parsed (gateIn bs g) (inputAt bs (g .next)) =
             settled-parsed (readGate most (inputAt bs next)) (gateIn bs g) (inputAt bs (g .next)) (rw e at p) in
         rw (inv, lines-more most k left (inputAt bs next) l, found)
-        (put-behind (gateLine k (gateIn bs g)) (linesRead most (k + 1) (left - 1) (inputAt bs (g .next))) text text₁ place place₁ q)
+        (put-after (gateLine k (gateIn bs g)) (linesRead most (k + 1) (left - 1) (inputAt bs (g .next))) text text₁ place place₁ q)
 
 pub ruleset gating = (needs, lines-end, lines-bad, lines-next)
 
@@ -83,9 +83,9 @@ read-gives bs h e z = go (readCircuit bs) refl
         let n : _≡_ {A = ℕ} notWellFormed 0 = sym (ap (λ (y : CircuitHeader). y .number) f) ∙ z in absurd (omega arith)
 
 -- behind its header a circuit's bytes are its gates
-gates-behind : (bs : List ℕ) (c : Circuit) → write c ≡ bs → inputAt bs headerLength ≡ left (encodeAll (c .gates)) 0
+gates-after : (bs : List ℕ) (c : Circuit) → write c ≡ bs → inputAt bs headerLength ≡ left (encodeAll (c .gates)) 0
 unfolding write fourBytes
-gates-behind bs c e = rw (← e)
+gates-after bs c e = rw (← e)
 
 -- the ways out of `list_circuit`
 module _ (bs : List ℕ) (h : CircuitHeader) (is : h ≡ headerOf (circuitRead bs)) where
@@ -125,7 +125,7 @@ module _ (bs : List ℕ) (h : CircuitHeader) (is : h ≡ headerOf (circuitRead b
         let w = write-circuitRead bs (r .1) in
         let gates : List ℕ = gateLines 1 (c .gates) in
         let same : linesRead (c .dataWires + c .ancillas) 1 (length (c .gates)) (inputAt bs headerLength) ≡ gates =
-            rw (gates-behind bs c (w .1 (λ i. ok i .fits))) (lines-are (c .dataWires + c .ancillas) 1 (c .gates) (w .0 .all-gates)) in
+            rw (gates-after bs c (w .1 (λ i. ok i .fits))) (lines-are (c .dataWires + c .ancillas) 1 (c .gates) (w .0 .all-gates)) in
         rw (r .1)
         (put-then (firstLine (c .dataWires) (c .ancillas) (length (c .gates))) gates text one end at first last (rw e at p)
         (rw same at (rw e at q)))

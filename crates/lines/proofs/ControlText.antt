@@ -15,7 +15,7 @@ use Rattle.circuit.specs.GatesInBytes.{part}
 use Rattle.circuit.proofs.LoopsOverWires.{part-step, part-none, part-past}
 use Rattle.lines.specs.AppendedBytes.{Written, written, puts}
 use Rattle.lines.specs.ListingRows.{lower}
-use Rattle.lines.proofs.AppendLaws.{put-behind}
+use Rattle.lines.proofs.AppendLaws.{put-after}
 
 -- what the loop of `put_hyphens` keeps: all the hyphens are those that are left, behind those that were put
 module _ (bs text : List ℕ) (next left place : ℕ) (whole : Written) (inv : whole ≡ puts (hyphens (part bs next left)) text place) where
@@ -33,15 +33,15 @@ module _ (bs text : List ℕ) (next left place : ℕ) (whole : Written) (inv : w
   unfolding hyphens
   hyphens-next l h text₁ place₁ p =
       rw (inv, part-step bs next left l h)
-      (put-behind (signed hyphen (getD bs next 0)) (hyphens (part bs (next + 1) (left - 1))) text text₁ place place₁ p)
+      (put-after (signed hyphen (getD bs next 0)) (hyphens (part bs (next + 1) (left - 1))) text text₁ place place₁ p)
 
 pub ruleset hyphening = (needs, hyphens-none, hyphens-past, hyphens-next)
 
 -- a wire that is below w counts, the first that is not ends the count
 module _ (w z : ℕ) (zeros : List ℕ) where
-  lower-goes : z < w → lower w (z ∷ zeros) ≡ suc (lower w zeros)
+  lower-more : z < w → lower w (z ∷ zeros) ≡ suc (lower w zeros)
   unfolding lower
-  lower-goes h = rw (lt-ltb z w h, lower)
+  lower-more h = rw (lt-ltb z w h, lower)
 
   lower-stops : w ≤ z → lower w (z ∷ zeros) ≡ 0
   unfolding lower
@@ -51,7 +51,7 @@ lower-most : (w : ℕ) (zeros : List ℕ) → lower w zeros ≤ length zeros
 unfolding lower
 lower-most w [] = omega arith
 lower-most w (z ∷ zeros) = byLt z w
-    (λ h. rw (lower-goes w z zeros h) (let m : lower w zeros ≤ length zeros = lower-most w zeros in omega arith))
+    (λ h. rw (lower-more w z zeros h) (let m : lower w zeros ≤ length zeros = lower-most w zeros in omega arith))
     (λ h. rw (lower-stops w z zeros h) (omega arith))
 
 -- what the loop of `count_below` keeps: those that were counted, and those that will be
@@ -73,7 +73,7 @@ module _ (bs : List ℕ) (next left below w whole : ℕ) (inv : whole ≡ below 
         rw (inv, part-step bs next left l h, lower-stops w (getD bs next 0) (part bs (next + 1) (left - 1)) s) (sym (add-zero below))
 
     pub below-next : getD bs next 0 < w → whole ≡ (below + 1) + lower w (part bs (next + 1) (left - 1))
-    below-next s = rw (inv, part-step bs next left l h, lower-goes w (getD bs next 0) (part bs (next + 1) (left - 1)) s) (omega arith)
+    below-next s = rw (inv, part-step bs next left l h, lower-more w (getD bs next 0) (part bs (next + 1) (left - 1)) s) (omega arith)
 
 pub ruleset counting = (needs, below-begins, below-none, below-past, below-found, below-next)
 
@@ -83,7 +83,7 @@ placed-at : (w : ℕ) (zeros : List ℕ) (others : List ℕ → List ℕ) →
 unfolding placed hyphens lower
 placed-at w [] others = refl
 placed-at w (z ∷ zeros) others = byLt z w
-    (λ h. rw (lower-goes w z zeros h, lt-ltb z w h, placed, placed-at w zeros others) (simp append-assoc))
+    (λ h. rw (lower-more w z zeros h, lt-ltb z w h, placed, placed-at w zeros others) (simp append-assoc))
     (λ h. rw (lower-stops w z zeros h, le-ltb z w h, placed))
 
 -- what the loop of `put_controls` keeps: all the controls are those that are left, behind those that were put
@@ -125,7 +125,7 @@ module _ (bs text : List ℕ) (one onesLeft zero zerosLeft place : ℕ) (whole :
         let rest : drop below zeros ≡ part bs (zero + below) (zerosLeft - below) =
             rw (drop-front below zerosLeft (drop zero bs), drop-drop below zero bs) refl in
         rw (inv, part-step bs one onesLeft l h, controlText, placed-at w zeros (controlText ones), ← is, front, rest)
-        (put-behind (hyphens (part bs zero below) ++ signed plus w) (controlText ones (part bs (zero + below) (zerosLeft - below)))
+        (put-after (hyphens (part bs zero below) ++ signed plus w) (controlText ones (part bs (zero + below) (zerosLeft - below)))
           text text₁ place place₁ p)
 
 pub ruleset controlling = (needs, controls-none, controls-past, controls-left, controls-fit, controls-next)

@@ -63,11 +63,6 @@ pub and-false-right : (a b : Bool) → b ≡ false → a && b ≡ false
 and-false-right true b e = e
 and-false-right false b e = refl
 
--- which half of a conjunction failed
-pub and-cases {ℓ} : {A : Type ℓ} (a b : Bool) → a && b ≡ false → (a ≡ false → A) → (a ≡ true → b ≡ false → A) → A
-and-cases true b e f g = g refl e
-and-cases false b e f g = f refl
-
 pub or-left : (a b : Bool) → a ≡ true → a || b ≡ true
 or-left true b e = refl
 or-left false b e = absurd (false≢true e)

@@ -2,14 +2,14 @@
 use mathlib.Core.Path.{_≡_, refl, sym, ap, _∙_, fun-ext}
 use mathlib.Core.Logic.{_≢_}
 use mathlib.Core.Bool.{Bool, true, false, not, _&&_, _||_, true≢false}
-use mathlib.Core.List.{List, [], _∷_, _++_, reverse, reverse-cons}
+use mathlib.Core.List.{List, [], _∷_}
 use Prim.Native.Nat.{ℕ, min, max}
 use native.Mathlib.Omega.{arith}
 use borrow.Author.Tests.{ne-eqb}
 use lib.Dec.{ltb}
 use Rattle.model.specs.Lists.{member}
 use Rattle.model.specs.Meaning.{State, update, flipped}
-use Rattle.model.specs.Gates.{Controls, noControls, insert, asking, Gate, flip, swap, swapOf, exchange, renamed, allOne, allZero, fires, act, acts}
+use Rattle.model.specs.Gates.{Controls, noControls, insert, asking, Gate, flip, swap, swapOf, exchange, renamed, allOne, allZero, fires, act}
 use Rattle.model.proofs.BooleanLaws.{byBool, byEq, byLt, eqb-same, not-not, or-cases, or-left, or-right}
 use Rattle.model.proofs.ListLaws.{member-head, member-tail, member-nil, member-cases, not-head, not-tail}
 
@@ -237,20 +237,3 @@ act-twice (flip cs t) s n = byBool (fires cs s)
 act-twice (swap cs u v) s n = byBool (fires cs s)
     (λ h. rw (swap-fires cs u v s h, swap-fires cs u v (renamed (exchange u v) s) (fires-renamed cs s u v (n .0) (n .1) ∙ h)) (renamed-twice u v s))
     (λ h. rw (swap-rests cs u v s h) (swap-rests cs u v s h))
-
--- gates in order
-pub acts-append : (xs ys : List Gate) (s : State) → acts (xs ++ ys) s ≡ acts ys (acts xs s)
-unfolding acts
-acts-append [] ys s = refl
-acts-append (x ∷ xs) ys s = acts-append xs ys (act x s)
-
-abbrev pub AllClear : List Gate → Type 0
-AllClear [] = Unit {0}
-AllClear (g ∷ gs) = Clear g × AllClear gs
-
--- gates in reverse undo the gates
-pub acts-reverse : (gs : List Gate) (s : State) → AllClear gs → acts (reverse gs) (acts gs s) ≡ s
-unfolding acts
-acts-reverse [] s c = refl
-acts-reverse (g ∷ gs) s c =
-    rw (reverse-cons g gs, acts-append (reverse gs) (g ∷ []) (acts gs (act g s)), acts-reverse gs (act g s) (c .1)) (act-twice g s (c .0))

@@ -12,7 +12,7 @@ use Rattle.model.specs.Limits.{mostQubits, mostWires, mostCircuit, heade
 use Rattle.model.specs.Reading.{Input, Parsed, parsed, refused, andThen, provided, byteOf, optional, stands}
 use Rattle.model.specs.Gates.{Controls, Gate, flip, swap}
 use Rattle.model.specs.Circuit.{Circuit, listBit, listBytes, controlMap, controlBytes, encode, encodeAll, fourBytes, write}
-use Rattle.model.specs.Circuit.{gateIsWellFormed}
+use Rattle.model.specs.Circuit.{wires, controlsOf, ascends, distinct, within, lowerFirst, gateIsWellFormed}
 use Rattle.model.specs.Circuit.{bytes, wireList, gateOf, readGate, readGates, fourByteNumber, circuitOf, readCircuit}
 use Rattle.model.specs.Answers.{gives, wellFormed, circuitRead}
 use Rattle.model.proofs.BooleanLaws.{and-left, and-right}
@@ -40,39 +40,39 @@ list-back [] rest k = refl
 list-back (w ∷ l) rest k = rw (le-leb 1 (suc (length l)) (suc-le-suc zero-le)) (bytes-back (w ∷ l) rest k)
 
 -- a map byte says which lists of controls there are, and whether the gate is a swap
-abbrev Says : ℕ → Bool → List ℕ → List ℕ → Type 0
-Says map b ones zeros = (ltb map 8 ≡ true) × (stands 0 map ≡ hasWire ones) × (stands 1 map ≡ hasWire zeros) × (stands 2 map ≡ b)
+abbrev MapHas : ℕ → Bool → List ℕ → List ℕ → Type 0
+MapHas map b ones zeros = (ltb map 8 ≡ true) × (stands 0 map ≡ hasWire ones) × (stands 1 map ≡ hasWire zeros) × (stands 2 map ≡ b)
 
-flip-says : (x y : List ℕ) → Says (listBit 1 x + listBit 2 y) false x y
+flip-map : (x y : List ℕ) → MapHas (listBit 1 x + listBit 2 y) false x y
 unfolding listBit
-flip-says [] [] = (refl, refl, refl, refl)
-flip-says [] (v ∷ y) = (refl, refl, refl, refl)
-flip-says (u ∷ x) [] = (refl, refl, refl, refl)
-flip-says (u ∷ x) (v ∷ y) = (refl, refl, refl, refl)
+flip-map [] [] = (refl, refl, refl, refl)
+flip-map [] (v ∷ y) = (refl, refl, refl, refl)
+flip-map (u ∷ x) [] = (refl, refl, refl, refl)
+flip-map (u ∷ x) (v ∷ y) = (refl, refl, refl, refl)
 
-swap-says : (x y : List ℕ) → Says (listBit 1 x + listBit 2 y + 4) true x y
+swap-map : (x y : List ℕ) → MapHas (listBit 1 x + listBit 2 y + 4) true x y
 unfolding listBit
-swap-says [] [] = (refl, refl, refl, refl)
-swap-says [] (v ∷ y) = (refl, refl, refl, refl)
-swap-says (u ∷ x) [] = (refl, refl, refl, refl)
-swap-says (u ∷ x) (v ∷ y) = (refl, refl, refl, refl)
+swap-map [] [] = (refl, refl, refl, refl)
+swap-map [] (v ∷ y) = (refl, refl, refl, refl)
+swap-map (u ∷ x) [] = (refl, refl, refl, refl)
+swap-map (u ∷ x) (v ∷ y) = (refl, refl, refl, refl)
 
 -- a gate is read back behind its map, its target and its controls
 gate-back : (most map t : ℕ) (b : Bool) (cs : Controls) (g : Gate) (more rest : List ℕ) (k : ℕ) →
-    Says map b (cs .ones) (cs .zeros) → gateIsWellFormed most g ≡ true → gateOf b cs t (left more k) ≡ parsed g (left rest k) →
+    MapHas map b (cs .ones) (cs .zeros) → gateIsWellFormed most g ≡ true → gateOf b cs t (left more k) ≡ parsed g (left rest k) →
     readGate most (left (map ∷ t ∷ (controlBytes cs ++ more)) k) ≡ parsed g (left rest k)
 unfolding readGate andThen byteOf provided
-gate-back most map t b cs g more rest k says ok e =
-    rw (says .0, says .1, says .2, says .3, append-assoc (listBytes (cs .ones)) (listBytes (cs .zeros)) more)
+gate-back most map t b cs g more rest k bits ok e =
+    rw (bits .0, bits .1, bits .2, bits .3, append-assoc (listBytes (cs .ones)) (listBytes (cs .zeros)) more)
     (rw (list-back (cs .ones) (listBytes (cs .zeros) ++ more) k) (rw (list-back (cs .zeros) more k) (rw e (rw ok))))
 
 -- the bytes of a gate are read back to the gate
 pub read-encode : (most : ℕ) (g : Gate) → gateIsWellFormed most g ≡ true → (rest : List ℕ) (k : ℕ) →
     readGate most (left (encode g ++ rest) k) ≡ parsed g (left rest k)
 unfolding encode gateOf andThen byteOf
-read-encode most (flip cs t) ok rest k = gate-back most (controlMap cs) t false cs (flip cs t) rest rest k (flip-says (cs .ones) (cs .zeros)) ok refl
+read-encode most (flip cs t) ok rest k = gate-back most (controlMap cs) t false cs (flip cs t) rest rest k (flip-map (cs .ones) (cs .zeros)) ok refl
 read-encode most (swap cs u v) ok rest k = rw (append-assoc (controlBytes cs) (v ∷ []) rest)
-    (gate-back most (controlMap cs + 4) u true cs (swap cs u v) (v ∷ rest) rest k (swap-says (cs .ones) (cs .zeros)) ok refl)
+    (gate-back most (controlMap cs + 4) u true cs (swap cs u v) (v ∷ rest) rest k (swap-map (cs .ones) (cs .zeros)) ok refl)
 
 -- every gate is well formed over wires 1 to most
 abbrev pub AllWellFormed : ℕ → List Gate → Type 0
@@ -323,3 +323,25 @@ write-circuitRead bs {c} = go (readCircuit bs) (reads-circuit bs)
         let same : d ≡ c = cc in
         (subst (λ (x : Circuit). WellFormed x) same (r .0), λ ok. subst (λ (x : Circuit). write x ≡ bs) same (r .1 ok))
     go (refused k) r e = let z : _≡_ {A = ℕ} 0 1 = cc in absurd (omega arith)
+
+-- what a well-formed gate keeps to, part by part
+pub record Formed (most : ℕ) (g : Gate) : Type 0 where
+  pub ones-ascend : ascends (controlsOf g .ones) ≡ true
+  pub zeros-ascend : ascends (controlsOf g .zeros) ≡ true
+  pub apart : distinct (wires g) ≡ true
+  pub inside : within most (wires g) ≡ true
+
+-- its test gives all of them
+pub formed : (most : ℕ) (g : Gate) → gateIsWellFormed most g ≡ true → Formed most g
+unfolding gateIsWellFormed
+formed most g ok =
+    let up₁ = ascends (controlsOf g .ones) in let up₀ = ascends (controlsOf g .zeros) in
+    let d = distinct (wires g) in let w = within most (wires g) in
+    let four = and-left (up₁ && up₀ && d && w) (lowerFirst g) ok in
+    let three = and-left (up₁ && up₀ && d) w four in
+    let two = and-left (up₁ && up₀) d three in
+    record {
+      ones-ascend = and-left up₁ up₀ two;
+      zeros-ascend = and-right up₁ up₀ two;
+      apart = and-right (up₁ && up₀) d three;
+      inside = and-right (up₁ && up₀ && d) w four }

@@ -35,8 +35,8 @@ pub record Result : Type 0 where
   pub number : ℕ
   pub endWord : ℕ
 
-abbrev pub said : Example → Result
-said e = record { number = e .number; endWord = e .endWord }
+abbrev pub stated : Example → Result
+stated e = record { number = e .number; endWord = e .endWord }
 
 abbrev pub computed : Example → Result
 computed e = record { number = number (run (e .table) (e .n) (e .word) (e .workspace)); endWord = valueOr 0 (run (e .table) (e .n) (e .word) (e .workspace)) }
@@ -54,7 +54,7 @@ runBits e word = blockOf (stateOf (valueOr 0 (run (e .table) (e .n) word leastWo
 
 -- what is proved of the worked programs
 pub record Facts : Type 0 where
-  pub examplesHold : map computed (examples ++ orders) ≡ map said (examples ++ orders)
+  pub examplesHold : map computed (examples ++ orders) ≡ map stated (examples ++ orders)
   -- the circuit of PAIRS, and the circuit of a body that needs a swap
   pub pairsEmitted : compile pairs 3 mostCircuit leastWorkspace ≡ gives pairsCircuit
   pub swapEmitted : compile needsSwap 4 mostCircuit leastWorkspace ≡ gives swapCircuit

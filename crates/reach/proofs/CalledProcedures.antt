@@ -18,7 +18,7 @@ use Rattle.step.specs.Steps.{stepOf}
 use Rattle.reach.specs.declared.Parts.{Parts}
 use Rattle.reach.specs.declared.Parts.the-variants as parts
 use Rattle.reach.specs.CallsInATable.{partsOf}
-use Rattle.reach.proofs.PartsOfARecord.{Seen, as-skip, as-not, as-sequence, as-if, as-qcase, as-call, seen}
+use Rattle.reach.proofs.PartsOfARecord.{ArePartsOf, as-skip, as-not, as-sequence, as-if, as-qcase, as-call, are-parts}
 use Rattle.reach.proofs.MatrixOfAProgram.{count-at, body-at}
 
 module _ (p : ℕ) where
@@ -66,7 +66,7 @@ module _ (p : ℕ) where
 
   -- the calls of a statement, where those of its parts are named
   module _ (part : ℕ → Statement) (bs : List ℕ) (g : ℕ) (h : (a : ℕ) → calls (part a) g ≡ true → Called g) where
-    calls-of : {x : Parts} {s : Statement} → Seen part bs x s → InParts x → calls s g ≡ true → Called g
+    calls-of : {x : Parts} {s : Statement} → ArePartsOf part bs x s → InParts x → calls s g ≡ true → Called g
     unfolding calls
     calls-of as-skip w c = absurd (false≢true c)
     calls-of (as-not rs a) w c = absurd (false≢true c)
@@ -79,7 +79,7 @@ module _ (p : ℕ) where
   pub calls-named : (bs ix : List ℕ) (depth i g : ℕ) → calls (statementAt p bs ix depth i) g ≡ true → Called g
   unfolding statementAt calls
   calls-named bs ix zero i g c = absurd (false≢true c)
-  calls-named bs ix (suc d) i g c = calls-of (statementAt p bs ix d) bs g (λ a. calls-named bs ix d a g) (seen p bs ix d i)
+  calls-named bs ix (suc d) i g c = calls-of (statementAt p bs ix d) bs g (λ a. calls-named bs ix d a g) (are-parts p bs ix d i)
     (parts-in bs ix i (recordAt p bs (startOf ix i)) (record-in bs (startOf ix i))) c
 
 -- the program of a table names what it calls

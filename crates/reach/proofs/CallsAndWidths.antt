@@ -25,7 +25,7 @@ use Rattle.reach.specs.Matrix.{recursiveIn, mark, closed, noMarks}
 use Rattle.reach.specs.CallsInATable.{partsOf, partsAt, marked, markedBelow, reachAt, lacksIn, wideIn}
 use Rattle.reach.proofs.MatrixOperations.{left-never}
 use Rattle.reach.proofs.MatrixOfAProgram.{filled-reach}
-use Rattle.reach.proofs.PartsOfARecord.{Seen, as-skip, as-not, as-sequence, as-if, as-qcase, as-call, seen-here}
+use Rattle.reach.proofs.PartsOfARecord.{ArePartsOf, as-skip, as-not, as-sequence, as-if, as-qcase, as-call, parts-here}
 
 -- as many removals stand at a place as the byte there says; place 0 has none
 pub count-none : (bs : List ℕ) (at : ℕ) → at ≡ 0 → 0 ≡ length (removalsOf bs at)
@@ -71,32 +71,32 @@ widthBy r part (parts.Two a b false) = max (width r (part a)) (width r (part b))
 widthBy r part (parts.Call g at) = digit (r g)
 
 module _ (part : ℕ → Statement) (bs : List ℕ) where
-  marks-seen : (f : ℕ) (m : List ℕ) {x : Parts} {s : Statement} → Seen part bs x s → marked f s m ≡ marksBy f part x m
+  marks-by-parts : (f : ℕ) (m : List ℕ) {x : Parts} {s : Statement} → ArePartsOf part bs x s → marked f s m ≡ marksBy f part x m
   unfolding marked marksBy
-  marks-seen f m as-skip = refl
-  marks-seen f m (as-not rs a) = refl
-  marks-seen f m (as-sequence a b) = refl
-  marks-seen f m (as-if c a b) = refl
-  marks-seen f m (as-qcase rs q a b) = refl
-  marks-seen f m (as-call g at) = refl
+  marks-by-parts f m as-skip = refl
+  marks-by-parts f m (as-not rs a) = refl
+  marks-by-parts f m (as-sequence a b) = refl
+  marks-by-parts f m (as-if c a b) = refl
+  marks-by-parts f m (as-qcase rs q a b) = refl
+  marks-by-parts f m (as-call g at) = refl
 
-  lacks-seen : (r : ℕ → Bool) {x : Parts} {s : Statement} → Seen part bs x s → lacksRemoval r s ≡ lacksBy r part bs x
+  lacks-by-parts : (r : ℕ → Bool) {x : Parts} {s : Statement} → ArePartsOf part bs x s → lacksRemoval r s ≡ lacksBy r part bs x
   unfolding lacksRemoval lacksBy
-  lacks-seen r as-skip = refl
-  lacks-seen r (as-not rs a) = refl
-  lacks-seen r (as-sequence a b) = refl
-  lacks-seen r (as-if c a b) = refl
-  lacks-seen r (as-qcase rs q a b) = refl
-  lacks-seen r (as-call g at) = refl
+  lacks-by-parts r as-skip = refl
+  lacks-by-parts r (as-not rs a) = refl
+  lacks-by-parts r (as-sequence a b) = refl
+  lacks-by-parts r (as-if c a b) = refl
+  lacks-by-parts r (as-qcase rs q a b) = refl
+  lacks-by-parts r (as-call g at) = refl
 
-  width-seen : (r : ℕ → Bool) {x : Parts} {s : Statement} → Seen part bs x s → width r s ≡ widthBy r part x
+  width-by-parts : (r : ℕ → Bool) {x : Parts} {s : Statement} → ArePartsOf part bs x s → width r s ≡ widthBy r part x
   unfolding width widthBy digit
-  width-seen r as-skip = refl
-  width-seen r (as-not rs a) = refl
-  width-seen r (as-sequence a b) = refl
-  width-seen r (as-if c a b) = refl
-  width-seen r (as-qcase rs q a b) = refl
-  width-seen r (as-call g at) = refl
+  width-by-parts r as-skip = refl
+  width-by-parts r (as-not rs a) = refl
+  width-by-parts r (as-sequence a b) = refl
+  width-by-parts r (as-if c a b) = refl
+  width-by-parts r (as-qcase rs q a b) = refl
+  width-by-parts r (as-call g at) = refl
 
 module _ (p : ℕ) (bs ix : List ℕ) (depth i : ℕ) where
   -- depth 0: there is nothing to walk
@@ -117,13 +117,13 @@ module _ (p : ℕ) (bs ix : List ℕ) (depth i : ℕ) where
   part = statementAt p bs ix (depth - 1)
 
   module _ (d : depth ≡ 0 → ⊥) (x : Parts) (e : x ≡ partsAt p bs ix i) where
-    here : Seen part bs x (statementAt p bs ix depth i)
-    here = seen-here p bs ix depth i d x e
+    here : ArePartsOf part bs x (statementAt p bs ix depth i)
+    here = parts-here p bs ix depth i d x e
 
     -- marks
     module _ (f : ℕ) (m : List ℕ) where
       marks-are : (n : List ℕ) (y : Parts) → x ≡ y → n ≡ marksBy f part y m → n ≡ marked f (statementAt p bs ix depth i) m
-      marks-are n y q b = rw (marks-seen part bs f m here, q) b
+      marks-are n y q b = rw (marks-by-parts part bs f m here, q) b
 
       pub marks-none : x ≡ parts.Neither → m ≡ marked f (statementAt p bs ix depth i) m
       unfolding marksBy
@@ -141,7 +141,7 @@ module _ (p : ℕ) (bs ix : List ℕ) (depth i : ℕ) where
     -- a call without removal
     module _ (r : ℕ → Bool) where
       lacks-are : (n : Bool) (y : Parts) → x ≡ y → n ≡ lacksBy r part bs y → n ≡ lacksRemoval r (statementAt p bs ix depth i)
-      lacks-are n y q b = rw (lacks-seen part bs r here, q) b
+      lacks-are n y q b = rw (lacks-by-parts part bs r here, q) b
 
       pub lacks-none : x ≡ parts.Neither → false ≡ lacksRemoval r (statementAt p bs ix depth i)
       unfolding lacksBy
@@ -170,7 +170,7 @@ module _ (p : ℕ) (bs ix : List ℕ) (depth i : ℕ) where
     -- width, of which more than 2 is no more than 2
     module _ (r : ℕ → Bool) where
       width-is : (n : ℕ) (y : Parts) → x ≡ y → n ≡ min 2 (widthBy r part y) → n ≡ min 2 (width r (statementAt p bs ix depth i))
-      width-is n y q b = rw (width-seen part bs r here, q) b
+      width-is n y q b = rw (width-by-parts part bs r here, q) b
 
       pub width-none : x ≡ parts.Neither → 0 ≡ min 2 (width r (statementAt p bs ix depth i))
       unfolding widthBy

@@ -27,10 +27,10 @@ use Rattle.records.specs.declared.Record.the-variants as kind
 use Rattle.records.specs.declared.Answer.{Answer}
 use Rattle.records.specs.declared.Answer.the-variants as answer
 use Rattle.records.specs.Fields.{
-  byteAt, writtenAt, behindPlace, behindNumber, behindProcedure, based, numberAt, numbersAt, removalsAt, maybeRemovalsAt,
+  byteAt, writtenAt, andThenPlace, andThenNumber, andThenProcedure, based, numberAt, numbersAt, removalsAt, maybeRemovalsAt,
 }
 use Rattle.records.specs.Fields.{
-  placeOf, behindRemovals, plain, touching, comparing, calling, withNumber, withNumbers, withProcedure, fieldsAt, recordOf, recordAt,
+  placeOf, afterRemovals, plain, touching, comparing, calling, withNumber, withNumbers, withProcedure, fieldsAt, recordOf, recordAt,
 }
 
 -- a conjunction as the code takes it, test by test
@@ -42,24 +42,24 @@ and-cond false b = refl
 abbrev pub Among : List ℕ → Answer → Type 0
 Among tags r = OneOf tags (tagOf the-type r)
 
-place-kept : (x : Answer) (f : ℕ → Answer) → Among (1 ∷ 2 ∷ 3 ∷ 4 ∷ []) x → x ≡ behindPlace x f
-unfolding behindPlace
+place-kept : (x : Answer) (f : ℕ → Answer) → Among (1 ∷ 2 ∷ 3 ∷ 4 ∷ []) x → x ≡ andThenPlace x f
+unfolding andThenPlace
 place-kept (answer.Place n) f t = absurd (miss (1 ∷ 2 ∷ 3 ∷ 4 ∷ []) 0 tt t)
 place-kept (answer.Number a n) f t = refl
 place-kept (answer.Procedure g n) f t = refl
 place-kept (answer.Record r n) f t = refl
 place-kept (answer.Refused k) f t = refl
 
-number-kept : (x : Answer) (f : Number → ℕ → Answer) → Among (0 ∷ 2 ∷ 3 ∷ 4 ∷ []) x → x ≡ behindNumber x f
-unfolding behindNumber
+number-kept : (x : Answer) (f : Number → ℕ → Answer) → Among (0 ∷ 2 ∷ 3 ∷ 4 ∷ []) x → x ≡ andThenNumber x f
+unfolding andThenNumber
 number-kept (answer.Place n) f t = refl
 number-kept (answer.Number a n) f t = absurd (miss (0 ∷ 2 ∷ 3 ∷ 4 ∷ []) 1 tt t)
 number-kept (answer.Procedure g n) f t = refl
 number-kept (answer.Record r n) f t = refl
 number-kept (answer.Refused k) f t = refl
 
-procedure-kept : (x : Answer) (f : ℕ → ℕ → Answer) → Among (0 ∷ 1 ∷ 3 ∷ 4 ∷ []) x → x ≡ behindProcedure x f
-unfolding behindProcedure
+procedure-kept : (x : Answer) (f : ℕ → ℕ → Answer) → Among (0 ∷ 1 ∷ 3 ∷ 4 ∷ []) x → x ≡ andThenProcedure x f
+unfolding andThenProcedure
 procedure-kept (answer.Place n) f t = refl
 procedure-kept (answer.Number a n) f t = refl
 procedure-kept (answer.Procedure g n) f t = absurd (miss (0 ∷ 1 ∷ 3 ∷ 4 ∷ []) 2 tt t)
@@ -68,30 +68,30 @@ procedure-kept (answer.Refused k) f t = refl
 
 -- behind a field the reading goes on
 pub then-place :
-    (r₁ x : Answer) (f : ℕ → Answer) (n : ℕ) (r : Answer) → r₁ ≡ x → r₁ ≡ answer.Place n → r ≡ f n → r ≡ behindPlace x f
-unfolding behindPlace
+    (r₁ x : Answer) (f : ℕ → Answer) (n : ℕ) (r : Answer) → r₁ ≡ x → r₁ ≡ answer.Place n → r ≡ f n → r ≡ andThenPlace x f
+unfolding andThenPlace
 then-place r₁ x f n r q p z = rw (← q, p) z
 
 pub then-number :
     (r₁ x : Answer) (f : Number → ℕ → Answer) (a : Number) (n : ℕ) (r : Answer) → r₁ ≡ x → r₁ ≡ answer.Number a n → r ≡ f a n →
-    r ≡ behindNumber x f
-unfolding behindNumber
+    r ≡ andThenNumber x f
+unfolding andThenNumber
 then-number r₁ x f a n r q p z = rw (← q, p) z
 
 pub then-procedure :
     (r₁ x : Answer) (f : ℕ → ℕ → Answer) (g n : ℕ) (r : Answer) → r₁ ≡ x → r₁ ≡ answer.Procedure g n → r ≡ f g n →
-    r ≡ behindProcedure x f
-unfolding behindProcedure
+    r ≡ andThenProcedure x f
+unfolding andThenProcedure
 then-procedure r₁ x f g n r q p z = rw (← q, p) z
 
 -- any other answer goes out as it is
-pub no-place : (r x : Answer) (f : ℕ → Answer) → r ≡ x → Among (1 ∷ 2 ∷ 3 ∷ 4 ∷ []) r → r ≡ behindPlace x f
+pub no-place : (r x : Answer) (f : ℕ → Answer) → r ≡ x → Among (1 ∷ 2 ∷ 3 ∷ 4 ∷ []) r → r ≡ andThenPlace x f
 no-place r x f q t = q ∙ place-kept x f (subst (Among (1 ∷ 2 ∷ 3 ∷ 4 ∷ [])) q t)
 
-pub no-number : (r x : Answer) (f : Number → ℕ → Answer) → r ≡ x → Among (0 ∷ 2 ∷ 3 ∷ 4 ∷ []) r → r ≡ behindNumber x f
+pub no-number : (r x : Answer) (f : Number → ℕ → Answer) → r ≡ x → Among (0 ∷ 2 ∷ 3 ∷ 4 ∷ []) r → r ≡ andThenNumber x f
 no-number r x f q t = q ∙ number-kept x f (subst (Among (0 ∷ 2 ∷ 3 ∷ 4 ∷ [])) q t)
 
-pub no-procedure : (r x : Answer) (f : ℕ → ℕ → Answer) → r ≡ x → Among (0 ∷ 1 ∷ 3 ∷ 4 ∷ []) r → r ≡ behindProcedure x f
+pub no-procedure : (r x : Answer) (f : ℕ → ℕ → Answer) → r ≡ x → Among (0 ∷ 1 ∷ 3 ∷ 4 ∷ []) r → r ≡ andThenProcedure x f
 no-procedure r x f q t = q ∙ procedure-kept x f (subst (Among (0 ∷ 1 ∷ 3 ∷ 4 ∷ [])) q t)
 
 -- so many numbers, one after the other
@@ -100,14 +100,14 @@ unfolding numbersAt
 numbers-none n bs at z = rw z
 
 numbers-opened :
-    (n : ℕ) (bs : List ℕ) (at : ℕ) → (n ≡ 0 → ⊥) → numbersAt n bs at ≡ behindNumber (numberAt bs at) (λ a next. numbersAt (n - 1) bs next)
+    (n : ℕ) (bs : List ℕ) (at : ℕ) → (n ≡ 0 → ⊥) → numbersAt n bs at ≡ andThenNumber (numberAt bs at) (λ a next. numbersAt (n - 1) bs next)
 unfolding numbersAt
 numbers-opened zero bs at f = absurd (f refl)
 numbers-opened (suc n) bs at f = rw sub-one
 
 pub numbers-more :
     (n : ℕ) (bs : List ℕ) (at : ℕ) (r : Answer) → (n ≡ 0 → ⊥) →
-    r ≡ behindNumber (numberAt bs at) (λ a next. numbersAt (n - 1) bs next) → r ≡ numbersAt n bs at
+    r ≡ andThenNumber (numberAt bs at) (λ a next. numbersAt (n - 1) bs next) → r ≡ numbersAt n bs at
 numbers-more n bs at r f q = rw (numbers-opened n bs at f) q
 
 -- a signed 16-bit constant is the number of its bits below 32768, and 65536 less from there on
@@ -214,14 +214,14 @@ pub made-call :
 made-call place at g n removes p = cc
 
 -- the place behind removals, where the map has bit 0
-pub behind-stand :
-    (removes : Bool) (bs : List ℕ) (at b n : ℕ) → removes ≡ true → b ≡ byteAt bs at → n ≡ b → at + 1 + 3 * n ≡ behindRemovals removes bs at
-unfolding behindRemovals
-behind-stand removes bs at b n e q h = rw (e, h, q)
+pub after-stand :
+    (removes : Bool) (bs : List ℕ) (at b n : ℕ) → removes ≡ true → b ≡ byteAt bs at → n ≡ b → at + 1 + 3 * n ≡ afterRemovals removes bs at
+unfolding afterRemovals
+after-stand removes bs at b n e q h = rw (e, h, q)
 
-pub behind-lack : (removes : Bool) (bs : List ℕ) (at : ℕ) → removes ≡ false → at ≡ behindRemovals removes bs at
-unfolding behindRemovals
-behind-lack removes bs at e = rw e
+pub after-lack : (removes : Bool) (bs : List ℕ) (at : ℕ) → removes ≡ false → at ≡ afterRemovals removes bs at
+unfolding afterRemovals
+after-lack removes bs at e = rw e
 
 -- a kind without fields
 pub plain-is : (k j : ℕ) (r : Record) → k ≡ j → r ≡ plain j → r ≡ plain k
@@ -289,7 +289,7 @@ record-none p bs at h = rw (← past-end bs (at + 1) (omega arith))
 module _ (p : ℕ) (bs : List ℕ) (at k m : ℕ) (removes : Bool)
     (s : removes ≡ stands 0 (getD bs at 0)) (b : k ≡ byteAt bs (at + 1)) (e : m ≡ requiredMap k) where
   pub record-number :
-      (next q : ℕ) (a : Number) (r : Record) → next ≡ behindRemovals removes bs (at + 2) → m ≡ 2 → q ≡ placeOf removes (at + 2) →
+      (next q : ℕ) (a : Number) (r : Record) → next ≡ afterRemovals removes bs (at + 2) → m ≡ 2 → q ≡ placeOf removes (at + 2) →
       a ≡ writtenAt bs next → r ≡ touching k q a → r ≡ recordAt p bs at
   unfolding recordAt recordOf
   record-number next q a r n t place number made = rw (← b, ← s, ← e, t, made, number, place, n)
@@ -300,7 +300,7 @@ module _ (p : ℕ) (bs : List ℕ) (at k m : ℕ) (removes : Bool)
   record-numbers a c r t first second made = rw (← b, ← s, ← e, t, made, first, second)
 
   pub record-procedure :
-      (next q f : ℕ) (r : Record) → next ≡ behindRemovals removes bs (at + 2) → m ≡ 8 → q ≡ placeOf removes (at + 2) →
+      (next q f : ℕ) (r : Record) → next ≡ afterRemovals removes bs (at + 2) → m ≡ 8 → q ≡ placeOf removes (at + 2) →
       f ≡ byteAt bs next → r ≡ calling p q f → r ≡ recordAt p bs at
   unfolding recordAt recordOf
   record-procedure next q f r n t place called made = rw (← b, ← s, ← e, t, made, called, place, n)
@@ -341,8 +341,8 @@ pub ruleset written = (
   place-stands,
   place-past,
   place-lacks,
-  behind-stand,
-  behind-lack,
+  after-stand,
+  after-lack,
 )
 
 pub ruleset kinds = (

@@ -21,11 +21,11 @@ use Rattle.records.specs.declared.Record.{Record}
 use Rattle.records.specs.declared.Record.the-variants as kind
 use Rattle.records.specs.declared.Answer.{Answer}
 use Rattle.records.specs.declared.Answer.the-variants as answer
-use Rattle.records.specs.Fields.{byteAt, behindPlace, behindNumber, behindProcedure, based, writtenAt, numberAt, numbersAt, removalsAt, procedureAt}
-use Rattle.records.specs.Fields.{maybeRemovalsAt, placeOf, behindRemovals, plain, touching, comparing, calling, withNumber, withNumbers, withProcedure}
+use Rattle.records.specs.Fields.{byteAt, andThenPlace, andThenNumber, andThenProcedure, based, writtenAt, numberAt, numbersAt, removalsAt, procedureAt}
+use Rattle.records.specs.Fields.{maybeRemovalsAt, placeOf, afterRemovals, plain, touching, comparing, calling, withNumber, withNumbers, withProcedure}
 use Rattle.records.specs.Fields.{
   fieldsAt, recordOf, recordAt, numberOf, numbersFrom, removalsOf, noFields, touchedFields, comparedFields, calledFields, fieldsOf,
-  fieldsParsed, SaysFields,
+  fieldsParsed, FieldsRead,
 }
 
 byte-next :
@@ -60,22 +60,22 @@ changed a i h _ x (refuses m) = refuses m
 module _ {A B Q R : Type 0} {P : Parsed B} {y : Answer} (a : A) (i : Input) (f : A → Input → Parsed B) where
   place-then :
       (n : ℕ) (g : ℕ → Answer) {S : Parsed A} {x : Answer} → Agree Q (parsed a i) (answer.Place n) S x → (Q → Agree R P y (f a i) (g n)) →
-      Agree R P y (andThen S f) (behindPlace x g)
-  unfolding andThen behindPlace
+      Agree R P y (andThen S f) (andThenPlace x g)
+  unfolding andThen andThenPlace
   place-then n g (reads q) go = go q
   place-then n g (refuses m) go = refuses m
 
   number-then :
       (b : Number) (n : ℕ) (g : Number → ℕ → Answer) {S : Parsed A} {x : Answer} → Agree Q (parsed a i) (answer.Number b n) S x →
-      (Q → Agree R P y (f a i) (g b n)) → Agree R P y (andThen S f) (behindNumber x g)
-  unfolding andThen behindNumber
+      (Q → Agree R P y (f a i) (g b n)) → Agree R P y (andThen S f) (andThenNumber x g)
+  unfolding andThen andThenNumber
   number-then b n g (reads q) go = go q
   number-then b n g (refuses m) go = refuses m
 
   procedure-then :
       (p n : ℕ) (g : ℕ → ℕ → Answer) {S : Parsed A} {x : Answer} → Agree Q (parsed a i) (answer.Procedure p n) S x →
-      (Q → Agree R P y (f a i) (g p n)) → Agree R P y (andThen S f) (behindProcedure x g)
-  unfolding andThen behindProcedure
+      (Q → Agree R P y (f a i) (g p n)) → Agree R P y (andThen S f) (andThenProcedure x g)
+  unfolding andThen andThenProcedure
   procedure-then p n g (reads q) go = go q
   procedure-then p n g (refuses m) go = refuses m
 
@@ -138,14 +138,14 @@ removals-agree bs (suc at) k z =
     (λ h. rw (byte-past bs (suc at) k h, le-ltb (suc at) (length bs) h) (refuses tableStops))
 
 -- removals, if any
-behind-agrees :
+after-agrees :
     (removes : Bool) (bs : List ℕ) (at k : ℕ) → 0 < at → at < placeCount → at ≤ length bs →
-    Agree (Within bs at 25 (behindRemovals removes bs at))
-    (parsed (removalsOf bs (placeOf removes at)) (inputAt bs (behindRemovals removes bs at) k)) (answer.Place (behindRemovals removes bs at))
+    Agree (Within bs at 25 (afterRemovals removes bs at))
+    (parsed (removalsOf bs (placeOf removes at)) (inputAt bs (afterRemovals removes bs at) k)) (answer.Place (afterRemovals removes bs at))
     (optional removes removals [] (inputAt bs at k)) (maybeRemovalsAt removes bs at)
-unfolding optional maybeRemovalsAt placeOf removalsOf behindRemovals
-behind-agrees true bs at k z l h = rw (lt-ltb at placeCount l) (removals-agree bs at k z)
-behind-agrees false bs at k z l h = reads (record { low = omega arith; high = omega arith; inside = h })
+unfolding optional maybeRemovalsAt placeOf removalsOf afterRemovals
+after-agrees true bs at k z l h = rw (lt-ltb at placeCount l) (removals-agree bs at k z)
+after-agrees false bs at k z l h = reads (record { low = omega arith; high = omega arith; inside = h })
 
 -- a procedure is a byte
 procedure-agrees :
@@ -228,22 +228,22 @@ module _ (p : ℕ) (bs : List ℕ) (at k : ℕ) (h : at ≤ length bs) where
     touched-from :
         (j : ℕ) (make : ℕ → Number → Record) → ((place : ℕ) (a : Number) → kindOf (make place a) ≡ j) →
         ((place : ℕ) (a : Number) → fieldsOf bs (make place a) ≡ touchedFields (removalsOf bs place) (numberOf a)) → (removes : Bool) →
-        RecordAgree bs at k j (make (placeOf removes at) (writtenAt bs (behindRemovals removes bs at)))
+        RecordAgree bs at k j (make (placeOf removes at) (writtenAt bs (afterRemovals removes bs at)))
         (andThen (optional removes removals [] (inputAt bs at k)) (λ rs i. andThen (number i) (λ a l. parsed (touchedFields rs a) l)))
         (withNumber make removes bs at)
     unfolding withNumber
     touched-from j make e f removes =
-        settled j (behindRemovals removes bs at + 3) _ (make (placeOf removes at) (writtenAt bs (behindRemovals removes bs at))) (e _ _)
+        settled j (afterRemovals removes bs at + 3) _ (make (placeOf removes at) (writtenAt bs (afterRemovals removes bs at))) (e _ _)
         (rw f
-        (place-then _ _ _ _ _ (behind-agrees removes bs at k z s h) λ w.
-        number-then _ _ _ _ _ _ (number-agrees bs (behindRemovals removes bs at) k) λ q.
+        (place-then _ _ _ _ _ (after-agrees removes bs at k z s h) λ w.
+        number-then _ _ _ _ _ _ (number-agrees bs (afterRemovals removes bs at) k) λ q.
         reads (refl, record { low = omega arith; high = omega arith; inside = q })))
 
     touched-agrees :
         (j : ℕ) (make : ℕ → Number → Record) → ((place : ℕ) (a : Number) → kindOf (make place a) ≡ j) →
         ((place : ℕ) (a : Number) → fieldsOf bs (make place a) ≡ touchedFields (removalsOf bs place) (numberOf a)) → (map : ℕ) →
         eqb map 2 || eqb map 3 ≡ true →
-        RecordAgree bs at k j (make (placeOf (stands 0 map) at) (writtenAt bs (behindRemovals (stands 0 map) bs at)))
+        RecordAgree bs at k j (make (placeOf (stands 0 map) at) (writtenAt bs (afterRemovals (stands 0 map) bs at)))
         (fields p map (inputAt bs at k)) (withNumber make (stands 0 map) bs at)
     unfolding fields optional andThen
     touched-agrees j make e f map t =
@@ -253,19 +253,19 @@ module _ (p : ℕ) (bs : List ℕ) (at k : ℕ) (h : at ≤ length bs) where
     -- removals, if any, then a procedure
     called-from :
         (removes : Bool) →
-        RecordAgree bs at k 5 (calling p (placeOf removes at) (byteAt bs (behindRemovals removes bs at)))
+        RecordAgree bs at k 5 (calling p (placeOf removes at) (byteAt bs (afterRemovals removes bs at)))
         (andThen (optional removes removals [] (inputAt bs at k)) (λ rs i. andThen (procedure p i) (λ f l. parsed (calledFields rs f) l)))
         (withProcedure p removes bs at)
     unfolding withProcedure fieldsOf kindOf
     called-from removes =
-        settled 5 (behindRemovals removes bs at + 1) _ (kind.Call (placeOf removes at) (byteAt bs (behindRemovals removes bs at))) refl
-        (place-then _ _ _ _ _ (behind-agrees removes bs at k z s h) λ w.
-        procedure-then _ _ _ _ _ _ (procedure-agrees p bs (behindRemovals removes bs at) k) λ q.
+        settled 5 (afterRemovals removes bs at + 1) _ (kind.Call (placeOf removes at) (byteAt bs (afterRemovals removes bs at))) refl
+        (place-then _ _ _ _ _ (after-agrees removes bs at k z s h) λ w.
+        procedure-then _ _ _ _ _ _ (procedure-agrees p bs (afterRemovals removes bs at) k) λ q.
         reads (calling-is p _ _ (q .0) (q .1), record { low = omega arith; high = omega arith; inside = q .2 }))
 
     called-agrees :
         (map : ℕ) → eqb map 8 || eqb map 9 ≡ true →
-        RecordAgree bs at k 5 (calling p (placeOf (stands 0 map) at) (byteAt bs (behindRemovals (stands 0 map) bs at)))
+        RecordAgree bs at k 5 (calling p (placeOf (stands 0 map) at) (byteAt bs (afterRemovals (stands 0 map) bs at)))
         (fields p map (inputAt bs at k)) (withProcedure p (stands 0 map) bs at)
     unfolding fields optional andThen
     called-agrees map t =
@@ -337,9 +337,9 @@ module _ (p j map : ℕ) (bs : List ℕ) (at k : ℕ) (z : 0 < at) (s : at < pla
       go (refuses m) = refuse m
 
 -- the reader's answer says what the model reads
-pub fields-said : (p kind : ℕ) (removes : Bool) (bs : List ℕ) (at : ℕ) (r : Answer) → r ≡ fieldsAt p kind removes bs at → SaysFields p kind removes bs at r
-unfolding SaysFields
-fields-said p kind removes bs at r e map k t m l z s h = rw (e, ← m) (sym (fields-read p kind map bs at k z s h l t))
+pub fields-are-read : (p kind : ℕ) (removes : Bool) (bs : List ℕ) (at : ℕ) (r : Answer) → r ≡ fieldsAt p kind removes bs at → FieldsRead p kind removes bs at r
+unfolding FieldsRead
+fields-are-read p kind removes bs at r e map k t m l z s h = rw (e, ← m) (sym (fields-read p kind map bs at k z s h l t))
 
 -- a record whose fields were read is found again from the place of its map
 pub record-again :

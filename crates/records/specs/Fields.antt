@@ -23,26 +23,26 @@ abbrev pub byteAt : List ℕ → ℕ → ℕ
 byteAt bs at = getD bs at 0
 
 -- go on behind a field; any other answer goes out as it is
-unfoldable pub behindPlace : Answer → (ℕ → Answer) → Answer
-behindPlace (answer.Place next) f = f next
-behindPlace (answer.Number a next) f = answer.Number a next
-behindPlace (answer.Procedure g next) f = answer.Procedure g next
-behindPlace (answer.Record r next) f = answer.Record r next
-behindPlace (answer.Refused k) f = answer.Refused k
+unfoldable pub andThenPlace : Answer → (ℕ → Answer) → Answer
+andThenPlace (answer.Place next) f = f next
+andThenPlace (answer.Number a next) f = answer.Number a next
+andThenPlace (answer.Procedure g next) f = answer.Procedure g next
+andThenPlace (answer.Record r next) f = answer.Record r next
+andThenPlace (answer.Refused k) f = answer.Refused k
 
-unfoldable pub behindNumber : Answer → (Number → ℕ → Answer) → Answer
-behindNumber (answer.Place next) f = answer.Place next
-behindNumber (answer.Number a next) f = f a next
-behindNumber (answer.Procedure g next) f = answer.Procedure g next
-behindNumber (answer.Record r next) f = answer.Record r next
-behindNumber (answer.Refused k) f = answer.Refused k
+unfoldable pub andThenNumber : Answer → (Number → ℕ → Answer) → Answer
+andThenNumber (answer.Place next) f = answer.Place next
+andThenNumber (answer.Number a next) f = f a next
+andThenNumber (answer.Procedure g next) f = answer.Procedure g next
+andThenNumber (answer.Record r next) f = answer.Record r next
+andThenNumber (answer.Refused k) f = answer.Refused k
 
-unfoldable pub behindProcedure : Answer → (ℕ → ℕ → Answer) → Answer
-behindProcedure (answer.Place next) f = answer.Place next
-behindProcedure (answer.Number a next) f = answer.Number a next
-behindProcedure (answer.Procedure g next) f = f g next
-behindProcedure (answer.Record r next) f = answer.Record r next
-behindProcedure (answer.Refused k) f = answer.Refused k
+unfoldable pub andThenProcedure : Answer → (ℕ → ℕ → Answer) → Answer
+andThenProcedure (answer.Place next) f = answer.Place next
+andThenProcedure (answer.Number a next) f = answer.Number a next
+andThenProcedure (answer.Procedure g next) f = f g next
+andThenProcedure (answer.Record r next) f = answer.Record r next
+andThenProcedure (answer.Refused k) f = answer.Refused k
 
 -- a base and a constant
 unfoldable pub based : ℕ → ℤ → Number
@@ -66,7 +66,7 @@ numberAt bs at =
 -- the place behind n numbers
 unfoldable pub numbersAt : ℕ → List ℕ → ℕ → Answer
 numbersAt zero bs at = answer.Place at
-numbersAt (suc n) bs at = behindNumber (numberAt bs at) (λ a next. numbersAt n bs next)
+numbersAt (suc n) bs at = andThenNumber (numberAt bs at) (λ a next. numbersAt n bs next)
 
 -- "removals: a count byte 1 to 8, then that many numbers": the place behind them
 unfoldable pub removalsAt : List ℕ → ℕ → Answer
@@ -97,9 +97,9 @@ placeOf true at = cond (ltb at placeCount) at 0
 placeOf false at = 0
 
 -- the place behind the removals, a count and three bytes each, where bit 0 stands in the map
-unfoldable pub behindRemovals : Bool → List ℕ → ℕ → ℕ
-behindRemovals true bs at = at + 1 + 3 * byteAt bs at
-behindRemovals false bs at = at
+unfoldable pub afterRemovals : Bool → List ℕ → ℕ → ℕ
+afterRemovals true bs at = at + 1 + 3 * byteAt bs at
+afterRemovals false bs at = at
 
 -- a kind without fields; what is no kind counts as skip
 unfoldable pub plain : ℕ → Record
@@ -132,19 +132,19 @@ byFields k a b c d =
 -- removals, if any, then number a
 unfoldable pub withNumber : (ℕ → Number → Record) → Bool → List ℕ → ℕ → Answer
 withNumber make removes bs at =
-    behindPlace (maybeRemovalsAt removes bs at) (λ next.
-    behindNumber (numberAt bs next) (λ a end. answer.Record (make (placeOf removes at) a) end))
+    andThenPlace (maybeRemovalsAt removes bs at) (λ next.
+    andThenNumber (numberAt bs next) (λ a end. answer.Record (make (placeOf removes at) a) end))
 
 -- numbers a and b
 unfoldable pub withNumbers : (Number → Number → Record) → List ℕ → ℕ → Answer
 withNumbers make bs at =
-    behindNumber (numberAt bs at) (λ a next. behindNumber (numberAt bs next) (λ b end. answer.Record (make a b) end))
+    andThenNumber (numberAt bs at) (λ a next. andThenNumber (numberAt bs next) (λ b end. answer.Record (make a b) end))
 
 -- removals, if any, then a procedure
 unfoldable pub withProcedure : ℕ → Bool → List ℕ → ℕ → Answer
 withProcedure p removes bs at =
-    behindPlace (maybeRemovalsAt removes bs at) (λ next.
-    behindProcedure (procedureAt p bs next) (λ f end. answer.Record (kind.Call (placeOf removes at) f) end))
+    andThenPlace (maybeRemovalsAt removes bs at) (λ next.
+    andThenProcedure (procedureAt p bs next) (λ f end. answer.Record (kind.Call (placeOf removes at) f) end))
 
 -- the fields of a record of this kind, whose map has bit 0 or not
 unfoldable pub fieldsAt : ℕ → ℕ → Bool → List ℕ → ℕ → Answer
@@ -159,9 +159,9 @@ fieldsAt p k removes bs at =
 unfoldable pub recordOf : ℕ → ℕ → Bool → List ℕ → ℕ → Record
 recordOf p k removes bs at =
     byFields k
-    (touching k (placeOf removes at) (writtenAt bs (behindRemovals removes bs at)))
+    (touching k (placeOf removes at) (writtenAt bs (afterRemovals removes bs at)))
     (comparing k (writtenAt bs at) (writtenAt bs (at + 3)))
-    (calling p (placeOf removes at) (byteAt bs (behindRemovals removes bs at)))
+    (calling p (placeOf removes at) (byteAt bs (afterRemovals removes bs at)))
     (plain k)
 
 -- the record whose map and kind stand at a place
@@ -224,7 +224,7 @@ fieldsParsed bs k (answer.Procedure f next) = refused tableStops
 
 -- where the map is permitted, the answer is the model's reading of the bytes from that place on, however many records came before. At place 0
 -- no record stands, and reading comes to no place past 16 bits.
-unfoldable pub SaysFields : ℕ → ℕ → Bool → List ℕ → ℕ → Answer → Type 0
-SaysFields p kind removes bs at r =
+unfoldable pub FieldsRead : ℕ → ℕ → Bool → List ℕ → ℕ → Answer → Type 0
+FieldsRead p kind removes bs at r =
     (map k : ℕ) → permitted kind map ≡ true → stands 0 map ≡ removes → kind < kindCount → 0 < at → at < placeCount → at ≤ length bs →
     fieldsParsed bs k r ≡ fields p map (inputAt bs at k)

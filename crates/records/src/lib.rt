@@ -4,8 +4,8 @@ ghost use Prim.Native.Nat.{_+_, _≤_};
 ghost use lib.ListN.{length};
 ghost use Rattle.model.specs.Reading.{signed16, requiredMap, stands};
 ghost use Rattle.model.specs.Reading as model;
-ghost use Rattle.records.specs.Fields.{byteAt, writtenAt, numberAt, numbersAt, removalsAt, maybeRemovalsAt, placeOf, behindRemovals, procedureAt};
-ghost use Rattle.records.specs.Fields.{plain, touching, comparing, calling, withNumber, withNumbers, withProcedure, fieldsAt, recordAt, SaysFields};
+ghost use Rattle.records.specs.Fields.{byteAt, writtenAt, numberAt, numbersAt, removalsAt, maybeRemovalsAt, placeOf, afterRemovals, procedureAt};
+ghost use Rattle.records.specs.Fields.{plain, touching, comparing, calling, withNumber, withNumbers, withProcedure, fieldsAt, recordAt, FieldsRead};
 use limits::{KIND_COUNT, MOST_REMOVALS, PLACE_COUNT, TABLE_STOPS, WRONG_FIELD};
 
 // "The permitted map of each kind stands in one table of twelve entries": the bits that must stand, and 16 times the bit that may.
@@ -268,7 +268,7 @@ fn required(kind: u8) -> u8
 // "then only the fields whose bit stands in the map, lowest bit first": the record of this kind, whose map has bit 0 or not.
 pub fn read_fields(table: &[u8], at: usize, kind: u8, removes: bool, p: u8) -> Answer
     ensures { λ r. ⌜ r ≡ fieldsAt p kind removes (now (table .entry)) at ⌝ }
-    ensures { λ r. ⌜ SaysFields p kind removes (now (table .entry)) at r ⌝ }
+    ensures { λ r. ⌜ FieldsRead p kind removes (now (table .entry)) at r ⌝ }
 {
     match required(kind) {
         2 => with_number(table, at, kind, removes),
@@ -301,9 +301,9 @@ pub fn removes(map: u8) -> bool
 }
 
 // The place behind the removals at a place, if any: a count byte, then that many numbers.
-fn behind_removals(table: &[u8], at: usize, removes: bool) -> usize
+fn after_removals(table: &[u8], at: usize, removes: bool) -> usize
     requires { ⌜ at ≤ length (now table) + 1 ⌝ }
-    ensures { λ r. ⌜ r ≡ behindRemovals removes (now (table .entry)) at ⌝ }
+    ensures { λ r. ⌜ r ≡ afterRemovals removes (now (table .entry)) at ⌝ }
 {
     if removes { at + 1 + 3 * byte(table, at) as usize } else { at }
 }
@@ -318,7 +318,7 @@ pub fn record_at(table: &[u8], at: usize, p: u8) -> Record
     let removing = removes(table[at]);
     let kind = byte(table, at + 1);
     let fields = at + 2;
-    let next = behind_removals(table, fields, removing);
+    let next = after_removals(table, fields, removing);
     match required(kind) {
         2 => touching(kind, place(removing, fields), written_at(table, next)),
         6 => comparing(kind, written_at(table, fields), written_at(table, fields + 3)),

@@ -12,28 +12,28 @@ use Rattle.model.specs.Syntax.{Program}
 use Rattle.model.specs.Answers.{gives, after, require, accepted, run}
 use Rattle.agreement.proofs.CompilePromise.{Accepted, accepted-is}
 use Rattle.table.specs.Index.{programAt}
-use Rattle.verdict.specs.declared.Judged.{Judged}
-use Rattle.verdict.specs.VerdictAnswers.{judgedAs}
-use Rattle.verdict.proofs.AcceptanceAndRefusal.{refused-judged, accepted-judged}
+use Rattle.verdict.specs.declared.Checked.{Checked}
+use Rattle.verdict.specs.VerdictAnswers.{checkedOutcome}
+use Rattle.verdict.proofs.AcceptanceAndRefusal.{refused-checked, accepted-checked}
 use Rattle.run.specs.RunOnWords.{ranWord}
 use Rattle.answers.specs.Structs.{answerOf}
 use Rattle.run.proofs.WordsAndStates.{ran-min}
 
-module _ (bs ix : List ℕ) (n word space : ℕ) (j : Judged) (is : judgedAs j bs ix ≡ accepted bs n) where
+module _ (bs ix : List ℕ) (n word space : ℕ) (j : Checked) (is : checkedOutcome j bs ix ≡ accepted bs n) where
   abbrev P : Program
   P = programAt (j .procedures) bs ix
 
   -- the table is refused
   pub run-refused : (j .number ≡ 0 → ⊥) → record { number = j .number; value = 0 } ≡ answerOf (run bs n word space)
   unfolding run after answerOf
-  run-refused some = rw (refused-judged bs ix n space j is some)
+  run-refused some = rw (refused-checked bs ix n space j is some)
 
   module _ (none : j .number ≡ 0) where
-    judged : accepted bs n ≡ gives P
-    judged = accepted-judged bs ix n space j is none
+    checked : accepted bs n ≡ gives P
+    checked = accepted-checked bs ix n space j is none
 
     range : Accepted n P
-    range = accepted-is bs n P judged
+    range = accepted-is bs n P checked
 
     -- an accepted table has at most 32 qubits
     pub run-many : mostQubits < n → record { number = wrongQubits; value = 0 } ≡ answerOf (run bs n word space)
@@ -45,18 +45,18 @@ module _ (bs ix : List ℕ) (n word space : ℕ) (j : Judged) (is : judgedAs j b
     -- a bit of the word at n or above
     pub run-high : (b : Bool) → b ≡ ltb word (2 ^ n) → b ≡ false → record { number = highBit; value = 0 } ≡ answerOf (run bs n word space)
     unfolding run after require answerOf
-    run-high b e f = rw (judged, ← e, f)
+    run-high b e f = rw (checked, ← e, f)
 
     module _ (b : Bool) (e : b ≡ ltb word (2 ^ n)) (t : b ≡ true) where
       -- a workspace that is too short
       pub run-short : space < leastWorkspace → record { number = shortWorkspace; value = 0 } ≡ answerOf (run bs n word space)
       unfolding run after require answerOf
-      run-short h = rw (judged, ← e, t, lt-leb leastWorkspace space h)
+      run-short h = rw (checked, ← e, t, lt-leb leastWorkspace space h)
 
       -- the end word
       pub run-given : leastWorkspace ≤ space → (value : ℕ) → value ≡ ranWord P (min n mostQubits) word → record { number = 0; value = value } ≡ answerOf (run bs n word space)
       unfolding run after require answerOf
-      run-given h value v = rw (judged, ← e, t, le-leb leastWorkspace space h,
+      run-given h value v = rw (checked, ← e, t, le-leb leastWorkspace space h,
         ran-min P n word value (range .few) (range .passes12) (ltb-true word (2 ^ n) (sym e ∙ t)) v)
 
 pub ruleset answers = (needs, not-true, not-false, run-refused, run-many, run-high, run-short, run-given)

@@ -12,7 +12,7 @@ use answers::Answer;
 use limits::{HIGH_BIT, INDEX_LENGTH, LEAST_WORKSPACE, MOST_DEPTH, MOST_N, MOST_QUBITS, SHORT_WORKSPACE, WRONG_QUBITS};
 use reach::root;
 use step::{all, chosen, remaining, size, step_at, Qubits, Step};
-use verdict::judge;
+use verdict::check_table;
 use wires::fits;
 
 // The word with the bit of a qubit flipped: qubit q is bit q - 1. Numbers that are no qubit's change nothing.
@@ -108,8 +108,8 @@ pub fn run(table: &[u8], n: u32, word: u64, space: usize) -> Answer
     ensures { λ r. ⌜ r ≡ answerOf (model.run (now (table .entry)) n word space) ⌝ }
 {
     let mut index = [0u16; INDEX_LENGTH];
-    let judged = judge(table, n, &mut index);
-    let number = judged.number as u32;
+    let checked = check_table(table, n, &mut index);
+    let number = checked.number as u32;
     if number != 0 {
         return Answer { number, value: 0 };
     }
@@ -124,6 +124,6 @@ pub fn run(table: &[u8], n: u32, word: u64, space: usize) -> Answer
     if space < LEAST_WORKSPACE {
         return Answer { number: SHORT_WORKSPACE as u32, value: 0 };
     }
-    let value = end_word(table, &index, judged.procedures, qubits, word);
+    let value = end_word(table, &index, checked.procedures, qubits, word);
     Answer { number: 0, value }
 }

@@ -14,7 +14,7 @@ use Rattle.step.specs.declared.Step.{Step}
 use Rattle.step.specs.declared.Step.the-variants as step
 use Rattle.step.specs.Steps.{stepOf, stepAt}
 use Rattle.step.proofs.PlacesPastTheEnd.{less-one}
-use Rattle.step.proofs.RecordsPastTheEnd.{test-next, behind-next}
+use Rattle.step.proofs.RecordsPastTheEnd.{test-next, end-next}
 
 -- whether a condition holds, by its step, where `part` says it of the parts. A statement's step holds, as `noTest` does.
 abbrev pub holdsBy : (ℕ → Bool) → Step → Bool
@@ -44,8 +44,8 @@ module _ (p : ℕ) (bs ix : List ℕ) (d i : ℕ) (l : List ℕ) where
   test-of-step (kind.Greater a b) = refl
   test-of-step (kind.AtLeast a b) = refl
   test-of-step (kind.Equal a b) = refl
-  test-of-step kind.And = rw (test-next p bs ix d i, behind-next ix i)
-  test-of-step kind.Or = rw (test-next p bs ix d i, behind-next ix i)
+  test-of-step kind.And = rw (test-next p bs ix d i, end-next ix i)
+  test-of-step kind.Or = rw (test-next p bs ix d i, end-next ix i)
   test-of-step kind.Negation = rw (test-next p bs ix d i)
 
   -- the condition at record i, by the record's step

@@ -40,13 +40,6 @@ range-first (suc n) (suc m) a h = ap (_∷_ a) (range-first n m (suc a) (le-of-s
 pub qubits-first : (n r : ℕ) → r ≡ min n mostQubits → take r (qubits mostQubits) ≡ qubits (min n mostQubits)
 qubits-first n r e = rw e (range-first (min n mostQubits) mostQubits 1 (omega arith))
 
--- up to 32 nothing is cut off
-pub qubits-capped : (n : ℕ) → n ≤ mostQubits → qubits (min n mostQubits) ≡ qubits n
-qubits-capped n h = ap qubits (least n h)
-  where
-    least : (n : ℕ) → n ≤ mostQubits → min n mostQubits ≡ n
-    least n h = omega arith
-
 -- a position past the end becomes 0, any other stays
 within-out : (n : ℕ) (z : ℤ) → n < position z → within n z ≡ 0
 unfolding within
@@ -106,10 +99,10 @@ shift-starts n (suc i) l p h = rw (less-one i, delete-split i (take n l))
     (ap (λ (t : List ℕ). t ++ drop (suc i) (take n l)) (sym (take-take i n l (omega arith))))
 
 -- a turn of the loop moves entry i to i − 1, and changes nothing of that list
-pub shift-goes-on : (n i : ℕ) (l : List ℕ) → 0 < i → i < n → n ≤ length l
+pub shift-more : (n i : ℕ) (l : List ℕ) → 0 < i → i < n → n ≤ length l
     → shifted n (i + 1) (set l (i - 1) (getD l i 0)) ≡ shifted n i l
-shift-goes-on n zero l p h m = absurd (not-suc-le-zero p)
-shift-goes-on n (suc i) l p h m =
+shift-more n zero l p h m = absurd (not-suc-le-zero p)
+shift-more n (suc i) l p h m =
     let v = getD l (suc i) 0 in
     let inside : suc i < length (take n l) = rw (length-take n l) (omega arith) in
     let front : take (suc i) (set l i v) ≡ take i l ++ (v ∷ []) = take-suc-set l i v (omega arith) in

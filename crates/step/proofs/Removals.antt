@@ -55,10 +55,10 @@ removals-more bs place zero n l h = absurd (not-suc-le-zero h)
 removals-more bs place (suc left) n l h = rw (less-one left)
 
 -- a number, as the code reads, values and removes it, and then those behind it are all from here on
-pub remaining-goes-on : (bs : List ℕ) (place left n : ℕ) (a : Number) (z : ℤ) (l r : List ℕ) → a ≡ writtenAt bs place → SFits w32 z → z ≡ valueOf a n
+pub remaining-more : (bs : List ℕ) (place left n : ℕ) (a : Number) (z : ℤ) (l r : List ℕ) → a ≡ writtenAt bs place → SFits w32 z → z ≡ valueOf a n
     → r ≡ remove (position (toZ w32 (ofZ w32 z))) l → 0 < left
     → removeAll n (numbersFrom (left - 1) bs (place + 3)) r ≡ removeAll n (numbersFrom left bs place) l
-remaining-goes-on bs place left n a z l r number f valued removed h =
+remaining-more bs place left n a z l r number f valued removed h =
     let v : z ≡ value (numberOf (writtenAt bs place)) n = valued ∙ rw number (written-fair bs place n) in
     let one : r ≡ remove (position (value (numberOf (writtenAt bs place)) n)) l =
           removed ∙ ap (λ (x : ℤ). remove (position x) l) (toZ-ofZ f ∙ v) in

@@ -13,9 +13,9 @@ use Rattle.records.specs.declared.Number.{Number}
 use Rattle.records.specs.declared.Record.{Record}
 use Rattle.records.specs.declared.Record.the-variants as kind
 use Rattle.records.specs.Fields.{recordAt}
-use Rattle.table.specs.Index.{startOf, behindOf}
+use Rattle.table.specs.Index.{startOf, endOf}
 use Rattle.step.specs.declared.Step.the-variants as step
-use Rattle.step.specs.Steps.{valueOf, modelValue, touchedBy, nextOf, stepOf, stepAt}
+use Rattle.step.specs.Steps.{valueOf, modelValue, touchedBy, firstChild, stepOf, stepAt}
 use Rattle.step.proofs.NumberValues.{less-signed, at-most-signed, equal-signed}
 use Rattle.step.proofs.ConstantRange.{Fair, RecordFair, record-fair}
 
@@ -73,38 +73,38 @@ module _ (p : ℕ) (bs ix : List ℕ) (i : ℕ) (l : List ℕ) (s : ℕ) (found 
         let h : Fair a × Fair b = subst RecordFair e found-fair in
         rw (← decided, e, ← left-value (h .0), ← right-value (h .1)) (ap step.Holds (equal-signed x y f g))
 
-  module _ (first : ℕ) (next : first ≡ nextOf ix i) where
+  module _ (first : ℕ) (next : first ≡ firstChild ix i) where
     -- kind 11
     pub step-negation : found ≡ kind.Negation → step.Negates first ≡ stepAt p bs ix i l
     unfolding stepOf
     step-negation e = rw (← decided, e, next)
 
-    module _ (second : ℕ) (behind : second ≡ behindOf ix first) where
+    module _ (second : ℕ) (subtree-end : second ≡ endOf ix first) where
       -- kind 2
       pub step-sequence : found ≡ kind.Sequence → step.Sequence first second ≡ stepAt p bs ix i l
       unfolding stepOf
-      step-sequence e = rw (← decided, e, behind, next)
+      step-sequence e = rw (← decided, e, subtree-end, next)
 
       -- kind 3
-      pub step-if : (third : ℕ) → third ≡ behindOf ix second → found ≡ kind.If → step.Chooses first second third ≡ stepAt p bs ix i l
+      pub step-if : (third : ℕ) → third ≡ endOf ix second → found ≡ kind.If → step.Chooses first second third ≡ stepAt p bs ix i l
       unfolding stepOf
-      step-if third t e = rw (← decided, e, t, behind, next)
+      step-if third t e = rw (← decided, e, t, subtree-end, next)
 
       -- kind 4
       pub step-qcase : (at : ℕ) (a : Number) (q : ℕ) → found ≡ kind.Qcase at a → q ≡ touchedBy bs at a l
         → step.Branches q first second ≡ stepAt p bs ix i l
       unfolding stepOf
-      step-qcase at a q e t = rw (← decided, e, t, behind, next)
+      step-qcase at a q e t = rw (← decided, e, t, subtree-end, next)
 
       -- kind 9
       pub step-and : found ≡ kind.And → step.Both first second ≡ stepAt p bs ix i l
       unfolding stepOf
-      step-and e = rw (← decided, e, behind, next)
+      step-and e = rw (← decided, e, subtree-end, next)
 
       -- kind 10
       pub step-or : found ≡ kind.Or → step.Either first second ≡ stepAt p bs ix i l
       unfolding stepOf
-      step-or e = rw (← decided, e, behind, next)
+      step-or e = rw (← decided, e, subtree-end, next)
 
 pub ruleset deciding = (
     needs, step-skip, step-not, step-sequence, step-if, step-qcase, step-call,

@@ -13,7 +13,7 @@ use Rattle.records.specs.declared.Number.the-variants as base
 use Rattle.records.specs.declared.Record.{Record}
 use Rattle.records.specs.declared.Record.the-variants as kind
 use Rattle.records.specs.Fields.{recordAt, numberOf, removalsOf}
-use Rattle.table.specs.Index.{startOf, behindOf}
+use Rattle.table.specs.Index.{startOf, endOf}
 use Rattle.step.specs.declared.Qubits.{Qubits}
 use Rattle.step.specs.declared.Step.{Step}
 use Rattle.step.specs.declared.Step.the-variants as step
@@ -32,8 +32,8 @@ unfoldable pub within : ℕ → ℤ → ℕ
 within size z = cond (ltb size (position z)) 0 (position z)
 
 -- the record behind record i. Past the end of the index all numbers are alike: there i stands for i + 1.
-unfoldable pub nextOf : List ℕ → ℕ → ℕ
-nextOf ix i = cond (ltb i (length ix)) (i + 1) i
+unfoldable pub firstChild : List ℕ → ℕ → ℕ
+firstChild ix i = cond (ltb i (length ix)) (i + 1) i
 
 -- the qubit that is touched in a whole list, where the removals stand at a place: "the entry at position a of the remaining list"
 abbrev pub touchedBy : List ℕ → ℕ → Number → List ℕ → ℕ
@@ -47,16 +47,16 @@ modelValue a l = value (numberOf a) (length l)
 unfoldable pub stepOf : List ℕ → List ℕ → ℕ → List ℕ → Record → Step
 stepOf bs ix i l kind.Skip = step.Nothing
 stepOf bs ix i l (kind.Not at a) = step.Touches (touchedBy bs at a l)
-stepOf bs ix i l kind.Sequence = step.Sequence (nextOf ix i) (behindOf ix (nextOf ix i))
-stepOf bs ix i l kind.If = step.Chooses (nextOf ix i) (behindOf ix (nextOf ix i)) (behindOf ix (behindOf ix (nextOf ix i)))
-stepOf bs ix i l (kind.Qcase at a) = step.Branches (touchedBy bs at a l) (nextOf ix i) (behindOf ix (nextOf ix i))
+stepOf bs ix i l kind.Sequence = step.Sequence (firstChild ix i) (endOf ix (firstChild ix i))
+stepOf bs ix i l kind.If = step.Chooses (firstChild ix i) (endOf ix (firstChild ix i)) (endOf ix (endOf ix (firstChild ix i)))
+stepOf bs ix i l (kind.Qcase at a) = step.Branches (touchedBy bs at a l) (firstChild ix i) (endOf ix (firstChild ix i))
 stepOf bs ix i l (kind.Call at f) = step.Calls f at
 stepOf bs ix i l (kind.Greater a b) = step.Holds (ltZ (modelValue b l) (modelValue a l))
 stepOf bs ix i l (kind.AtLeast a b) = step.Holds (leZ (modelValue b l) (modelValue a l))
 stepOf bs ix i l (kind.Equal a b) = step.Holds (leZ (modelValue a l) (modelValue b l) && leZ (modelValue b l) (modelValue a l))
-stepOf bs ix i l kind.And = step.Both (nextOf ix i) (behindOf ix (nextOf ix i))
-stepOf bs ix i l kind.Or = step.Either (nextOf ix i) (behindOf ix (nextOf ix i))
-stepOf bs ix i l kind.Negation = step.Negates (nextOf ix i)
+stepOf bs ix i l kind.And = step.Both (firstChild ix i) (endOf ix (firstChild ix i))
+stepOf bs ix i l kind.Or = step.Either (firstChild ix i) (endOf ix (firstChild ix i))
+stepOf bs ix i l kind.Negation = step.Negates (firstChild ix i)
 
 -- the step of record i
 abbrev pub stepAt : ℕ → List ℕ → List ℕ → ℕ → List ℕ → Step

@@ -6,8 +6,8 @@ ghost use lib.ListN.{length, take};
 ghost use Rattle.model.specs.Limits.{mostQubits};
 ghost use Rattle.model.specs.Lists.{qubits, entry, remove, remaining, position, holds};
 ghost use Rattle.records.specs.Fields.{removalsOf};
-ghost use Rattle.table.specs.Index.{startOf, behindOf, testAt};
-ghost use Rattle.step.specs.Steps.{qubitsOf, valueOf, within, touchedBy, nextOf, stepAt};
+ghost use Rattle.table.specs.Index.{startOf, endOf, testAt};
+ghost use Rattle.step.specs.Steps.{qubitsOf, valueOf, within, touchedBy, firstChild, stepAt};
 use limits::{ENDS_AT, LIST_LENGTH, MOST_CONSTANT, MOST_QUBITS};
 use records::{Number, Record, record_at, written_at};
 
@@ -164,8 +164,8 @@ pub fn start(index: &[u16], i: usize) -> usize
 }
 
 // The record behind the subtree of record i.
-pub fn behind(index: &[u16], i: usize) -> usize
-    ensures { λ r. ⌜ r ≡ behindOf (now (index .entry)) i ⌝ }
+pub fn subtree_end(index: &[u16], i: usize) -> usize
+    ensures { λ r. ⌜ r ≡ endOf (now (index .entry)) i ⌝ }
 {
     if index.len() <= i {
         return 0;
@@ -175,7 +175,7 @@ pub fn behind(index: &[u16], i: usize) -> usize
 
 // The first child of record i, where it has one: the next record. Past the end of the index all numbers are alike.
 fn next(index: &[u16], i: usize) -> usize
-    ensures { λ r. ⌜ r ≡ nextOf (now (index .entry)) i ⌝ }
+    ensures { λ r. ⌜ r ≡ firstChild (now (index .entry)) i ⌝ }
 {
     if i < index.len() { i + 1 } else { i }
 }
@@ -186,13 +186,13 @@ pub fn step_at(table: &[u8], index: &[u16], p: u8, i: usize, list: Qubits) -> St
 {
     let n = size(list);
     let first = next(index, i);
-    let second = behind(index, first);
+    let second = subtree_end(index, first);
     let found = record_at(table, start(index, i), p);
     match found {
         Record::Skip => Step::Nothing,
         Record::Not(at, a) => Step::Touches(touched(table, at as usize, a, list)),
         Record::Sequence => Step::Sequence(first, second),
-        Record::If => Step::Chooses(first, second, behind(index, second)),
+        Record::If => Step::Chooses(first, second, subtree_end(index, second)),
         Record::Qcase(at, a) => Step::Branches(touched(table, at as usize, a, list), first, second),
         Record::Call(at, f) => Step::Calls(f, at as usize),
         Record::Greater(a, b) => Step::Holds(value(a, n) > value(b, n)),

@@ -11,7 +11,7 @@ use lib.ListN.{length, getD, set, length-set}
 use lib.Seq.{getD-set-same, getD-set-other}
 use Rattle.limits.specs.Sizes.{endsAt, rootsAt, indexLength, placeCount}
 use Rattle.model.specs.Limits.{mostRecords}
-use Rattle.table.specs.Index.{startOf, behindOf, rootOf}
+use Rattle.table.specs.Index.{startOf, endOf, rootOf}
 use Rattle.table.specs.TreeReading.{noted}
 
 module _ (ix : List ℕ) (slot value : ℕ) where
@@ -43,7 +43,7 @@ module _ (ix : List ℕ) (slot value : ℕ) where
 -- two indices say the same of the records from lo on and before hi
 pub record Same (lo hi : ℕ) (ix jx : List ℕ) : Type 0 where
   pub starts : (q : ℕ) → lo ≤ q → q < hi → startOf jx q ≡ startOf ix q
-  pub behinds : (q : ℕ) → lo ≤ q → q < hi → behindOf jx q ≡ behindOf ix q
+  pub subtreeEnds : (q : ℕ) → lo ≤ q → q < hi → endOf jx q ≡ endOf ix q
 
 -- what two say the same of, and then two others, the first and the last say the same of
 pub same-then :
@@ -52,13 +52,13 @@ pub same-then :
 same-then low high a b c d s t =
     record {
       starts = λ q e f. t .starts q (omega arith) (omega arith) ∙ s .starts q (omega arith) (omega arith);
-      behinds = λ q e f. t .behinds q (omega arith) (omega arith) ∙ s .behinds q (omega arith) (omega arith);
+      subtreeEnds = λ q e f. t .subtreeEnds q (omega arith) (omega arith) ∙ s .subtreeEnds q (omega arith) (omega arith);
     }
 
 -- what two say the same of, they say the same of a part of it
 pub same-part : (low high : ℕ) {lo hi : ℕ} {ix jx : List ℕ} → lo ≤ low → high ≤ hi → Same lo hi ix jx → Same low high ix jx
 same-part low high a b s =
-    record { starts = λ q e f. s .starts q (omega arith) (omega arith); behinds = λ q e f. s .behinds q (omega arith) (omega arith) }
+    record { starts = λ q e f. s .starts q (omega arith) (omega arith); subtreeEnds = λ q e f. s .subtreeEnds q (omega arith) (omega arith) }
 
 -- a later index has what this one has of the records before i and of the roots, and is as long
 pub record Kept (i : ℕ) (ix jx : List ℕ) : Type 0 where
@@ -68,7 +68,7 @@ pub record Kept (i : ℕ) (ix jx : List ℕ) : Type 0 where
 
 -- an index keeps what it has
 pub kept-itself : (i : ℕ) (ix : List ℕ) → Kept i ix ix
-kept-itself i ix = record { same = record { starts = λ q a b. refl; behinds = λ q a b. refl }; roots = λ f. refl; long = refl }
+kept-itself i ix = record { same = record { starts = λ q a b. refl; subtreeEnds = λ q a b. refl }; roots = λ f. refl; long = refl }
 
 -- what is kept, and then kept again, is kept
 pub kept-then : {i j : ℕ} {ix jx kx : List ℕ} → i ≤ j → Kept i ix jx → Kept j jx kx → Kept i ix kx
@@ -86,33 +86,33 @@ kept-start i at ix h =
       same =
           record {
             starts = λ q a b. noted-other ix i at q (omega arith);
-            behinds = λ q a b. noted-other ix i at (endsAt + q) (omega arith);
+            subtreeEnds = λ q a b. noted-other ix i at (endsAt + q) (omega arith);
           };
       roots = λ f. noted-other ix i at (rootsAt + f) (omega arith);
       long = noted-long ix i at;
     }
 
 -- the record behind record i's subtree
-module _ (i behind : ℕ) (ix : List ℕ) (h : i < mostRecords) where
+module _ (i total : ℕ) (ix : List ℕ) (h : i < mostRecords) where
   -- to note it keeps the records before i
-  pub kept-behind : Kept i ix (noted ix (endsAt + i) behind)
-  kept-behind =
+  pub kept-end : Kept i ix (noted ix (endsAt + i) total)
+  kept-end =
       record {
         same =
             record {
-              starts = λ q a b. noted-other ix (endsAt + i) behind q (omega arith);
-              behinds = λ q a b. noted-other ix (endsAt + i) behind (endsAt + q) (omega arith);
+              starts = λ q a b. noted-other ix (endsAt + i) total q (omega arith);
+              subtreeEnds = λ q a b. noted-other ix (endsAt + i) total (endsAt + q) (omega arith);
             };
-        roots = λ f. noted-other ix (endsAt + i) behind (rootsAt + f) (omega arith);
-        long = noted-long ix (endsAt + i) behind;
+        roots = λ f. noted-other ix (endsAt + i) total (rootsAt + f) (omega arith);
+        long = noted-long ix (endsAt + i) total;
       }
 
   -- and says the same of those behind i
-  pub same-behind : (j : ℕ) → j ≤ mostRecords → Same (i + 1) j ix (noted ix (endsAt + i) behind)
-  same-behind j l =
+  pub same-end : (j : ℕ) → j ≤ mostRecords → Same (i + 1) j ix (noted ix (endsAt + i) total)
+  same-end j l =
       record {
-        starts = λ q a b. noted-other ix (endsAt + i) behind q (omega arith);
-        behinds = λ q a b. noted-other ix (endsAt + i) behind (endsAt + q) (omega arith);
+        starts = λ q a b. noted-other ix (endsAt + i) total q (omega arith);
+        subtreeEnds = λ q a b. noted-other ix (endsAt + i) total (endsAt + q) (omega arith);
       }
 
 -- to note a root says the same of every record
@@ -120,5 +120,5 @@ pub same-root : (i f value : ℕ) (ix : List ℕ) → i ≤ mostRecords → Same
 same-root i f value ix h =
     record {
       starts = λ q a b. noted-other ix (rootsAt + f) value q (omega arith);
-      behinds = λ q a b. noted-other ix (rootsAt + f) value (endsAt + q) (omega arith);
+      subtreeEnds = λ q a b. noted-other ix (rootsAt + f) value (endsAt + q) (omega arith);
     }

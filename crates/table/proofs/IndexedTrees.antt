@@ -23,11 +23,11 @@ use Rattle.records.specs.declared.Record.the-variants as kind
 use Rattle.records.specs.Fields.{byteAt, recordOf, recordAt, fieldsOf}
 use Rattle.records.proofs.ReadingAtAPlace.{kindOf, fields-cases, record-again}
 use Rattle.table.specs.declared.Tree.the-variants as tree
-use Rattle.table.specs.Index.{startOf, behindOf, testOf, testAt, statementOf, statementAt}
-use Rattle.table.specs.TreeReading.{Ran, ran, behindTree, noted, wanted, parts, contentsAt, many, refusal, behindFields}
+use Rattle.table.specs.Index.{startOf, endOf, testOf, testAt, statementOf, statementAt}
+use Rattle.table.specs.TreeReading.{Ran, ran, andThenTree, noted, wanted, parts, contentsAt, many, refusal, andThenFields}
 use Rattle.table.specs.TreeReading.{childrenAt, opened, treeAt}
 use Rattle.table.proofs.IndexSlots.{noted-there, noted-other, noted-long, Same, same-then, same-part}
-use Rattle.table.proofs.IndexSlots.{Kept, kept-itself, kept-then, kept-start, kept-behind, same-behind}
+use Rattle.table.proofs.IndexSlots.{Kept, kept-itself, kept-then, kept-start, kept-end, same-end}
 
 -- where a tree was read from record i on: up to `at` and record j, with `found` leading to it in every index that agrees on its records
 pub record Reached {A : Type 0} (i : ℕ) (ix : List ℕ) (found : List ℕ → A) (a : A) (at j : ℕ) (jx : List ℕ) : Type 0 where
@@ -35,7 +35,7 @@ pub record Reached {A : Type 0} (i : ℕ) (ix : List ℕ) (found : List ℕ → 
   pub few : j ≤ mostRecords
   pub near : at ≤ 2 + longestRecord * j
   pub kept : Kept i ix jx
-  pub behind : behindOf jx i ≡ j
+  pub total : endOf jx i ≡ j
   pub finds : (kx : List ℕ) → Same i j jx kx → found kx ≡ a
 
 -- both read, up to the same place and record, or both refuse with the same number
@@ -46,68 +46,68 @@ pub data Agree {A : Type 0} (bs : List ℕ) (i : ℕ) (ix : List ℕ) (found : L
 
 -- a record whose parts are read: its last note
 abbrev finished : ℕ → ℕ → ℕ → List ℕ → Ran
-finished i end behind kx = ran (tree.Read end behind) (noted kx (endsAt + i) behind)
+finished i end total kx = ran (tree.Read end total) (noted kx (endsAt + i) total)
 
 -- one or two trees, and then what follows
 module _ (one : ℕ → ℕ → List ℕ → Ran) (g : ℕ → ℕ → List ℕ → Ran) (at i : ℕ) (ix : List ℕ) where
-  last : (r : Ran) → behindTree (behindTree r (λ a j jx. ran (tree.Read a j) jx)) g ≡ behindTree r g
-  unfolding behindTree
+  last : (r : Ran) → andThenTree (andThenTree r (λ a j jx. ran (tree.Read a j) jx)) g ≡ andThenTree r g
+  unfolding andThenTree
   last (ran (tree.Read a j) jx) = refl
   last (ran (tree.Refused k) jx) = refl
 
-  many-one : behindTree (many one 1 at i ix) g ≡ behindTree (one at i ix) g
+  many-one : andThenTree (many one 1 at i ix) g ≡ andThenTree (one at i ix) g
   unfolding many
   many-one = last (one at i ix)
 
-  many-two : behindTree (many one 2 at i ix) g ≡ behindTree (one at i ix) (λ a j jx. behindTree (one a j jx) g)
-  unfolding many behindTree
+  many-two : andThenTree (many one 2 at i ix) g ≡ andThenTree (one at i ix) (λ a j jx. andThenTree (one a j jx) g)
+  unfolding many andThenTree
   many-two = go (one at i ix)
     where
       go : (r : Ran) →
-          behindTree (behindTree r (λ a j jx. behindTree (one a j jx) (λ b k kx. ran (tree.Read b k) kx))) g
-          ≡ behindTree r (λ a j jx. behindTree (one a j jx) g)
+          andThenTree (andThenTree r (λ a j jx. andThenTree (one a j jx) (λ b k kx. ran (tree.Read b k) kx))) g
+          ≡ andThenTree r (λ a j jx. andThenTree (one a j jx) g)
       go (ran (tree.Read a j) jx) = last (one a j jx)
       go (ran (tree.Refused k) jx) = refl
 
 -- the children of a record, by how many there are
 module _ (one : Bool → ℕ → ℕ → List ℕ → Ran) (k at next i : ℕ) (ix : List ℕ) where
   no-children : parts true k ≡ 0 → parts false k ≡ 0 → childrenAt one k at next i ix ≡ finished i next (i + 1) (noted ix i at)
-  unfolding childrenAt many behindTree
+  unfolding childrenAt many andThenTree
   no-children e f = rw (e, f)
 
   module _ (f : parts false k ≡ 0) where
-    one-condition : parts true k ≡ 1 → childrenAt one k at next i ix ≡ behindTree (one true next (i + 1) (noted ix i at)) (finished i)
-    unfolding childrenAt many behindTree
+    one-condition : parts true k ≡ 1 → childrenAt one k at next i ix ≡ andThenTree (one true next (i + 1) (noted ix i at)) (finished i)
+    unfolding childrenAt many andThenTree
     one-condition e = rw (e, f) (many-one (one true) (finished i) next (i + 1) (noted ix i at))
 
     two-conditions :
         parts true k ≡ 2 →
         childrenAt one k at next i ix
-        ≡ behindTree (one true next (i + 1) (noted ix i at)) (λ a j jx. behindTree (one true a j jx) (finished i))
-    unfolding childrenAt many behindTree
+        ≡ andThenTree (one true next (i + 1) (noted ix i at)) (λ a j jx. andThenTree (one true a j jx) (finished i))
+    unfolding childrenAt many andThenTree
     two-conditions e = rw (e, f) (many-two (one true) (finished i) next (i + 1) (noted ix i at))
 
   module _ (f : parts false k ≡ 2) where
     two-statements :
         parts true k ≡ 0 →
         childrenAt one k at next i ix
-        ≡ behindTree (one false next (i + 1) (noted ix i at)) (λ a j jx. behindTree (one false a j jx) (finished i))
-    unfolding childrenAt many behindTree
+        ≡ andThenTree (one false next (i + 1) (noted ix i at)) (λ a j jx. andThenTree (one false a j jx) (finished i))
+    unfolding childrenAt many andThenTree
     two-statements e = rw (e, f) (many-two (one false) (finished i) next (i + 1) (noted ix i at))
 
     condition-and-two :
         parts true k ≡ 1 →
         childrenAt one k at next i ix
-        ≡ behindTree (one true next (i + 1) (noted ix i at))
-        (λ a j jx. behindTree (one false a j jx) (λ b m mx. behindTree (one false b m mx) (finished i)))
-    unfolding childrenAt many behindTree
+        ≡ andThenTree (one true next (i + 1) (noted ix i at))
+        (λ a j jx. andThenTree (one false a j jx) (λ b m mx. andThenTree (one false b m mx) (finished i)))
+    unfolding childrenAt many andThenTree
     condition-and-two e =
         rw (e, f)
         (many-one (one true) _ next (i + 1) (noted ix i at) ∙ go (one true next (i + 1) (noted ix i at)))
       where
         go : (r : Ran) →
-            behindTree r (λ a j jx. behindTree (many (one false) 2 a j jx) (finished i))
-            ≡ behindTree r (λ a j jx. behindTree (one false a j jx) (λ b m mx. behindTree (one false b m mx) (finished i)))
+            andThenTree r (λ a j jx. andThenTree (many (one false) 2 a j jx) (finished i))
+            ≡ andThenTree r (λ a j jx. andThenTree (one false a j jx) (λ b m mx. andThenTree (one false b m mx) (finished i)))
         go (ran (tree.Read a j) jx) = many-two (one false) (finished i) a j jx
         go (ran (tree.Refused k) jx) = refl
 
@@ -123,7 +123,7 @@ record Partly (i : ℕ) (ix : List ℕ) (at j : ℕ) (jx : List ℕ) : Type 0 wh
 record Part {B : Type 0} (i j : ℕ) (jx : List ℕ) (find : List ℕ → ℕ → B) (b : B) (n : ℕ) (kx : List ℕ) : Type 0 where
   earlier : Same (i + 1) j jx kx
   is : find kx j ≡ b
-  ends : behindOf kx j ≡ n
+  ends : endOf kx j ≡ n
 
 -- a record, whose start is noted: one part more
 module _ {A B : Type 0} (bs : List ℕ) (i : ℕ) (ix ix₁ : List ℕ) (found : List ℕ → A) (find : List ℕ → ℕ → B) where
@@ -133,8 +133,8 @@ module _ {A B : Type 0} (bs : List ℕ) (i : ℕ) (ix ix₁ : List ℕ) (found :
       ((b : B) (end n : ℕ) (nx : List ℕ) → Partly i ix₁ end n nx →
       ((kx : List ℕ) → Same (i + 1) n nx kx → Part i j jx find b n kx) →
       Agree bs i ix found (f b (inputAt bs end n)) (g end n nx)) →
-      Agree bs i ix found (andThen p f) (behindTree r g)
-  unfolding andThen behindTree
+      Agree bs i ix found (andThen p f) (andThenTree r g)
+  unfolding andThen andThenTree
   step at j jx _ _ f g s (refuses k kx) go = refuses k kx
   step at j jx _ _ f g s (reads b end n nx r) go =
       let l : i < j = s .after in
@@ -151,7 +151,7 @@ module _ {A B : Type 0} (bs : List ℕ) (i : ℕ) (ix ix₁ : List ℕ) (found :
       record {
         earlier = same-then (i + 1) j (omega arith) (omega arith) (omega arith) (omega arith) (r .kept .same) t;
         is = r .finds kx (same-part j n (omega arith) (omega arith) t);
-        ends = t .behinds j (omega arith) m ∙ r .behind;
+        ends = t .subtreeEnds j (omega arith) m ∙ r .total;
       })
 
 -- all parts are read: the record behind them is noted
@@ -168,13 +168,13 @@ finish bs i at ix found a end j jx h l n s find =
       more = m;
       few = few;
       near = s .near;
-      kept = kept-then {i = i} {j = i} (omega arith) (kept-then (omega arith) (kept-start i at ix h) (s .kept)) (kept-behind i j jx h);
-      behind = noted-there jx (endsAt + i) j (s .long) (omega arith) (omega arith);
+      kept = kept-then {i = i} {j = i} (omega arith) (kept-then (omega arith) (kept-start i at ix h) (s .kept)) (kept-end i j jx h);
+      total = noted-there jx (endsAt + i) j (s .long) (omega arith) (omega arith);
       finds =
           λ kx t. find kx
           (t .starts i (omega arith) m ∙ noted-other jx (endsAt + i) j i (omega arith) ∙ s .kept .same .starts i (omega arith) (omega arith)
           ∙ noted-there ix i at n (omega arith) l)
-          (same-then (i + 1) j (omega arith) (omega arith) (omega arith) (omega arith) (same-behind i j jx h j few) t);
+          (same-then (i + 1) j (omega arith) (omega arith) (omega arith) (omega arith) (same-end i j jx h j few) t);
     })
 
 -- a reader of parts: what it finds at record j
@@ -187,8 +187,8 @@ two-from :
     {A B : Type 0} (bs : List ℕ) (i at : ℕ) (ix : List ℕ) (found : List ℕ → A) (find : List ℕ → ℕ → B) (part : Input → Parsed B)
     (one : ℕ → ℕ → List ℕ → Ran) (make : B → B → A) (from j : ℕ) (jx : List ℕ) →
     i < mostRecords → at < placeCount → length ix ≡ indexLength → Reads bs part one find → Partly i (noted ix i at) from j jx →
-    ((kx : List ℕ) → startOf kx i ≡ at → Same (i + 1) j jx kx → found kx ≡ make (find kx j) (find kx (behindOf kx j))) →
-    Agree bs i ix found (two part make (inputAt bs from j)) (behindTree (one from j jx) (λ a n nx. behindTree (one a n nx) (finished i)))
+    ((kx : List ℕ) → startOf kx i ≡ at → Same (i + 1) j jx kx → found kx ≡ make (find kx j) (find kx (endOf kx j))) →
+    Agree bs i ix found (two part make (inputAt bs from j)) (andThenTree (one from j jx) (λ a n nx. andThenTree (one a n nx) (finished i)))
 unfolding two
 two-from bs i at ix found find part one make from j jx h l n reader s is =
     step bs i ix (noted ix i at) found find from j jx _ _ _ _ s (reader from j jx (s .near) (s .long)) λ b end m mx s₁ p.
@@ -254,15 +254,15 @@ module _ {A : Type 0} (p : ℕ) (bs : List ℕ) (at i : ℕ) (ix : List ℕ) (fo
       next ≤ 2 + longestRecord * (i + 1) →
       Agree bs i ix found (f (fieldsOf bs r) (inputAt bs next (i + 1))) (g next)) →
       Agree bs i ix found (contents p map k (inputAt bs (at + 2) i) f)
-      (cond (ltb i mostRecords) (behindFields (contentsAt p map k bs (at + 2)) ix g) (ran (tree.Refused tooDeep) ix))
-  unfolding contents contentsAt provided andThen behindFields refusal
+      (cond (ltb i mostRecords) (andThenFields (contentsAt p map k bs (at + 2)) ix g) (ran (tree.Refused tooDeep) ix))
+  unfolding contents contentsAt provided andThen andThenFields refusal
   contents-agree map k f g inside small near go =
       byLt i mostRecords
       (λ l. rw (lt-ltb i mostRecords l)
       (byBool (permitted k map)
       (λ t. rw (t, ← add-one i)
       (fields-cases p k map bs (at + 2) (i + 1) (omega arith) (omega arith) inside small t
-      (λ q x. Agree bs i ix found (andThen q f) (behindFields x ix g))
+      (λ q x. Agree bs i ix found (andThen q f) (andThenFields x ix g))
       (λ r next e is w. go r next l e is (omega (arith, w .high)))
       (λ m. refuses m ix)))
       (λ t. rw t (refuses 5 ix))))
@@ -336,7 +336,7 @@ module _
         ((kx : List ℕ) → Same (i + 1) m mx kx → Part i (i + 1) (noted ix i at) (λ lx j. testAt p bs lx depth j) c m kx) →
         Agree bs i ix found (f c (inputAt bs end m)) (g end m mx)) →
         Agree bs i ix found (andThen (condition p depth (inputAt bs next (i + 1))) f)
-        (behindTree (treeAt p bs depth true next (i + 1) (noted ix i at)) g)
+        (andThenTree (treeAt p bs depth true next (i + 1) (noted ix i at)) g)
     condition-first found f g go =
         step bs i ix (noted ix i at) found (λ kx j. testAt p bs kx depth j) next (i + 1) (noted ix i at) _ _ f g began
         (tests next (i + 1) (noted ix i at) close (began .long)) go
@@ -345,7 +345,7 @@ module _
     both-conditions :
         (k : ℕ) (found : List ℕ → Condition) (make : Condition → Condition → Condition) → parts false k ≡ 0 → parts true k ≡ 2 →
         ((kx : List ℕ) → startOf kx i ≡ at →
-        found kx ≡ make (testAt p bs kx depth (i + 1)) (testAt p bs kx depth (behindOf kx (i + 1)))) →
+        found kx ≡ make (testAt p bs kx depth (i + 1)) (testAt p bs kx depth (endOf kx (i + 1)))) →
         Agree bs i ix found (two (condition p depth) make (inputAt bs next (i + 1))) (childrenAt (treeAt p bs depth) k at next i ix)
     both-conditions k found make e f is =
         rw (two-conditions (treeAt p bs depth) k at next i ix e f)
@@ -379,7 +379,7 @@ module _
       both-statements :
           (k : ℕ) (found : List ℕ → Statement) (make : Statement → Statement → Statement) → parts false k ≡ 2 → parts true k ≡ 0 →
           ((kx : List ℕ) → startOf kx i ≡ at →
-          found kx ≡ make (statementAt p bs kx depth (i + 1)) (statementAt p bs kx depth (behindOf kx (i + 1)))) →
+          found kx ≡ make (statementAt p bs kx depth (i + 1)) (statementAt p bs kx depth (endOf kx (i + 1)))) →
           Agree bs i ix found (two (statement p depth) make (inputAt bs next (i + 1))) (childrenAt (treeAt p bs depth) k at next i ix)
       both-statements k found make e f is =
           rw (two-statements (treeAt p bs depth) k at next i ix e f)

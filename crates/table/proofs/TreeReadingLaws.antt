@@ -21,8 +21,8 @@ use Rattle.records.specs.declared.Answer.the-variants as field
 use Rattle.records.specs.Fields.{fieldsAt}
 use Rattle.table.specs.declared.Tree.{Tree}
 use Rattle.table.specs.declared.Tree.the-variants as tree
-use Rattle.table.specs.TreeReading.{Ran, ran, behindTree, noted, wanted, conditionParts, statementParts, parts, contentsAt, many}
-use Rattle.table.specs.TreeReading.{refusal, behindFields, childrenAt, opened, behindKind, treeAt, bodiesAt}
+use Rattle.table.specs.TreeReading.{Ran, ran, andThenTree, noted, wanted, conditionParts, statementParts, parts, contentsAt, many}
+use Rattle.table.specs.TreeReading.{refusal, andThenFields, childrenAt, opened, afterKind, treeAt, bodiesAt}
 
 -- a value for the index
 module _ (ix : List ℕ) (slot value : ℕ) where
@@ -71,9 +71,9 @@ module _ (p map kind : ℕ) (bs : List ℕ) (at : ℕ) (b : Bool) (e : b ≡ per
   contents-right r removes h q z = rw (← e, not-false b h, ← q) z
 
 -- the refusal of a reader of fields goes out
-pub refusal-goes : (a : Answer) (k : ℕ) → a ≡ field.Refused k → tree.Refused k ≡ refusal a
+pub refusal-passed : (a : Answer) (k : ℕ) → a ≡ field.Refused k → tree.Refused k ≡ refusal a
 unfolding refusal
-refusal-goes a k e = rw e
+refusal-passed a k e = rw e
 
 -- any other answer would be taken for the table's end
 pub refusal-none : (a : Answer) → Among (0 ∷ 1 ∷ 2 ∷ 3 ∷ []) a → tree.Refused tableStops ≡ refusal a
@@ -103,15 +103,15 @@ parts-statement tests kind i e t = rw (e, t)
 -- behind a tree that was read the reading goes on
 pub tree-done :
     (t : Tree) (ix : List ℕ) (x : Ran) (f : ℕ → ℕ → List ℕ → Ran) (n j : ℕ) (y : Ran) → ran t ix ≡ x → t ≡ tree.Read n j →
-    y ≡ f n j ix → y ≡ behindTree x f
-unfolding behindTree
+    y ≡ f n j ix → y ≡ andThenTree x f
+unfolding andThenTree
 tree-done t ix x f n j y q p z = rw (← q, p) z
 
 -- a tree's refusal goes out
 pub tree-refused :
     (t : Tree) (ix : List ℕ) (x : Ran) (f : ℕ → ℕ → List ℕ → Ran) (k : ℕ) → ran t ix ≡ x → t ≡ tree.Refused k →
-    ran t ix ≡ behindTree x f
-unfolding behindTree
+    ran t ix ≡ andThenTree x f
+unfolding andThenTree
 tree-refused t ix x f k q p = rw (← q, p)
 
 -- no trees
@@ -121,7 +121,7 @@ many-none one n at i ix z = rw z
 
 many-opened :
     (one : ℕ → ℕ → List ℕ → Ran) (n at i : ℕ) (ix : List ℕ) → (n ≡ 0 → ⊥) →
-    many one n at i ix ≡ behindTree (one at i ix) (λ next j jx. many one (n - 1) next j jx)
+    many one n at i ix ≡ andThenTree (one at i ix) (λ next j jx. many one (n - 1) next j jx)
 unfolding many
 many-opened one zero at i ix f = absurd (f refl)
 many-opened one (suc n) at i ix f = rw sub-one
@@ -129,20 +129,20 @@ many-opened one (suc n) at i ix f = rw sub-one
 -- a tree, and then one tree less
 pub many-more :
     (one : ℕ → ℕ → List ℕ → Ran) (n at i : ℕ) (ix : List ℕ) (y : Ran) → (n ≡ 0 → ⊥) →
-    y ≡ behindTree (one at i ix) (λ next j jx. many one (n - 1) next j jx) → y ≡ many one n at i ix
+    y ≡ andThenTree (one at i ix) (λ next j jx. many one (n - 1) next j jx) → y ≡ many one n at i ix
 many-more one n at i ix y f q = rw (many-opened one n at i ix f) q
 
 -- behind the fields of a record
-fields-refused : (a : Answer) (ix : List ℕ) (f : ℕ → Ran) → Among (0 ∷ 1 ∷ 2 ∷ 4 ∷ []) a → ran (refusal a) ix ≡ behindFields a ix f
-unfolding behindFields
+fields-refused : (a : Answer) (ix : List ℕ) (f : ℕ → Ran) → Among (0 ∷ 1 ∷ 2 ∷ 4 ∷ []) a → ran (refusal a) ix ≡ andThenFields a ix f
+unfolding andThenFields
 fields-refused (field.Place n) ix f t = refl
 fields-refused (field.Number a n) ix f t = refl
 fields-refused (field.Procedure g n) ix f t = refl
 fields-refused (field.Record r n) ix f t = absurd (miss (0 ∷ 1 ∷ 2 ∷ 4 ∷ []) 3 tt t)
 fields-refused (field.Refused k) ix f t = refl
 
-fields-read : (a : Answer) (ix : List ℕ) (f : ℕ → Ran) (r : Record) (next : ℕ) → a ≡ field.Record r next → f next ≡ behindFields a ix f
-unfolding behindFields
+fields-read : (a : Answer) (ix : List ℕ) (f : ℕ → Ran) (r : Record) (next : ℕ) → a ≡ field.Record r next → f next ≡ andThenFields a ix f
+unfolding andThenFields
 fields-read a ix f r next e = rw e
 
 -- the children of a record
@@ -150,15 +150,15 @@ module _
     (one : Bool → ℕ → ℕ → List ℕ → Ran) (kind at next i : ℕ) (ix ix₀ : List ℕ) (n : ℕ) (t : Tree) (ix₁ : List ℕ)
     (noted₀ : ix₀ ≡ noted ix i at) (tests : n ≡ parts true kind) (read : ran t ix₁ ≡ many (one true) n next (i + 1) ix₀) where
   children-opened : (x : Ran) →
-      x ≡ behindTree (ran t ix₁) (λ middle j jx.
-      behindTree (many (one false) (parts false kind) middle j jx) (λ end behind kx. ran (tree.Read end behind) (noted kx (endsAt + i) behind))) →
+      x ≡ andThenTree (ran t ix₁) (λ middle j jx.
+      andThenTree (many (one false) (parts false kind) middle j jx) (λ end total kx. ran (tree.Read end total) (noted kx (endsAt + i) total))) →
       x ≡ childrenAt one kind at next i ix
   unfolding childrenAt
   children-opened x q = rw (← noted₀, ← tests, ← read) q
 
   -- one of its conditions is refused
   pub children-tests : (k : ℕ) → t ≡ tree.Refused k → ran t ix₁ ≡ childrenAt one kind at next i ix
-  unfolding behindTree
+  unfolding andThenTree
   children-tests k e = children-opened _ (rw e)
 
   module _
@@ -166,21 +166,21 @@ module _
       (read₁ : ran u ix₂ ≡ many (one false) m middle j ix₁) where
     -- one of its statements is refused
     pub children-statements : (k : ℕ) → u ≡ tree.Refused k → ran u ix₂ ≡ childrenAt one kind at next i ix
-    unfolding behindTree
+    unfolding andThenTree
     children-statements k z = children-opened _ (rw (e, ← rest, ← read₁, z))
 
     -- all are read, and the record behind them is noted
     pub children-done :
-        (end behind : ℕ) (ix₃ : List ℕ) → u ≡ tree.Read end behind → ix₃ ≡ noted ix₂ (endsAt + i) behind →
-        ran (tree.Read end behind) ix₃ ≡ childrenAt one kind at next i ix
-    unfolding behindTree
-    children-done end behind ix₃ z q = children-opened _ (rw (e, ← rest, ← read₁, z, q))
+        (end total : ℕ) (ix₃ : List ℕ) → u ≡ tree.Read end total → ix₃ ≡ noted ix₂ (endsAt + i) total →
+        ran (tree.Read end total) ix₃ ≡ childrenAt one kind at next i ix
+    unfolding andThenTree
+    children-done end total ix₃ z q = children-opened _ (rw (e, ← rest, ← read₁, z, q))
 
 -- a tree that is not too deep
 tree-opened :
     (p : ℕ) (bs : List ℕ) (d : ℕ) (tests : Bool) (at i : ℕ) (ix : List ℕ) → (d ≡ 0 → ⊥) →
     treeAt p bs d tests at i ix
-    ≡ opened tests bs at ix (behindKind p bs (treeAt p bs (d - 1)) at i ix)
+    ≡ opened tests bs at ix (afterKind p bs (treeAt p bs (d - 1)) at i ix)
 unfolding treeAt
 tree-opened p bs zero tests at i ix f = absurd (f refl)
 tree-opened p bs (suc d) tests at i ix f = rw sub-one
@@ -216,7 +216,7 @@ module _ (p : ℕ) (bs : List ℕ) (d : ℕ) (tests : Bool) (at i : ℕ) (ix : L
         tree-deep z = rw (z, treeAt, lt-ltb at (length bs) h, bytes-there at 2 (length bs) h l, ← e, not-false w y)
 
         module _ (f : d ≡ 0 → ⊥) where
-          tree-on : (x : Ran) → x ≡ behindKind p bs (treeAt p bs (d - 1)) at i ix → x ≡ treeAt p bs d tests at i ix
+          tree-on : (x : Ran) → x ≡ afterKind p bs (treeAt p bs (d - 1)) at i ix → x ≡ treeAt p bs d tests at i ix
           tree-on x q =
               rw (tree-opened p bs d tests at i ix f, lt-ltb at (length bs) h, bytes-there at 2 (length bs) h l, ← e, not-false w y) q
 
@@ -246,21 +246,21 @@ module _ (p : ℕ) (bs : List ℕ) (f at i : ℕ) (ix : List ℕ) (q : ℕ) (e :
   module _
       (h : f ≤ q) (ix₀ : List ℕ) (noted₀ : ix₀ ≡ noted ix (rootsAt + f) i) (t : Tree) (ix₁ : List ℕ)
       (read : ran t ix₁ ≡ treeAt p bs mostDepth false at i ix₀) where
-    bodies-opened : (x : Ran) → x ≡ behindTree (ran t ix₁) (λ next j jx. bodiesAt p bs (p + 1 - (f + 1)) (f + 1) next j jx) →
+    bodies-opened : (x : Ran) → x ≡ andThenTree (ran t ix₁) (λ next j jx. bodiesAt p bs (p + 1 - (f + 1)) (f + 1) next j jx) →
         x ≡ bodiesAt p bs (p + 1 - f) f at i ix
     unfolding bodiesAt
     bodies-opened x y = let z : p + 1 - f ≡ suc (p + 1 - (f + 1)) = omega arith in rw (z, bodiesAt, ← noted₀, ← read) y
 
     -- the first is refused
     pub bodies-refused : (k : ℕ) → t ≡ tree.Refused k → ran t ix₁ ≡ bodiesAt p bs (p + 1 - f) f at i ix
-    unfolding behindTree
+    unfolding andThenTree
     bodies-refused k z = bodies-opened _ (rw z)
 
     -- the first is read, and then the others
     pub bodies-more :
         (next j : ℕ) (x : Ran) → t ≡ tree.Read next j → x ≡ bodiesAt p bs (p + 1 - (f + 1)) (f + 1) next j ix₁ →
         x ≡ bodiesAt p bs (p + 1 - f) f at i ix
-    unfolding behindTree
+    unfolding andThenTree
     bodies-more next j x z y = bodies-opened x (rw z y)
 
 pub ruleset leaves = (
@@ -273,7 +273,7 @@ pub ruleset leaves = (
   wanted-statement,
   contents-wrong,
   contents-right,
-  refusal-goes,
+  refusal-passed,
   refusal-none,
   parts-none,
   parts-condition,

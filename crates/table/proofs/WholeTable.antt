@@ -18,8 +18,8 @@ use Rattle.model.specs.Answers.{outcome}
 use Rattle.table.specs.declared.Tree.{Tree}
 use Rattle.table.specs.declared.Tree.the-variants as tree
 use Rattle.table.specs.declared.Table.the-variants as answer
-use Rattle.table.specs.Index.{rootOf, statementAt, bodyAt, says}
-use Rattle.table.specs.TreeReading.{Ran, ran, behindTree, noted, bodiesAt}
+use Rattle.table.specs.Index.{rootOf, statementAt, bodyAt, outcomeRead}
+use Rattle.table.specs.TreeReading.{Ran, ran, andThenTree, noted, bodiesAt}
 use Rattle.table.proofs.IndexSlots.{noted-there, noted-other, noted-long, Same, same-then, same-part, same-root}
 use Rattle.table.proofs.IndexedTrees as trees
 use Rattle.table.proofs.IndexedTrees.{Reached, statement-agrees}
@@ -72,8 +72,8 @@ module _ (p : ℕ) (bs : List ℕ) (n f i : ℕ) (ix : List ℕ) (l : f ≤ most
       trees.Agree bs i rooted (λ kx. statementAt p bs kx mostDepth i) q r →
       ((end j : ℕ) (jx : List ℕ) → j ≤ mostRecords → end ≤ 2 + longestRecord * j → length jx ≡ indexLength →
       Agree-bodies p bs n (f + 1) j jx (g (inputAt bs end j)) (h end j jx)) →
-      Agree-bodies p bs (suc n) f i ix (andThen q (λ s j. andThen (g j) (λ ss k. parsed (s ∷ ss) k))) (behindTree r h)
-  unfolding andThen behindTree
+      Agree-bodies p bs (suc n) f i ix (andThen q (λ s j. andThen (g j) (λ ss k. parsed (s ∷ ss) k))) (andThenTree r h)
+  unfolding andThen andThenTree
   body-and-others _ _ g h (trees.refuses k kx) go = refuses k kx
   body-and-others _ _ g h (trees.reads s end j jx a) go =
       others s end j jx _ _ a (go end j jx (a .few) (a .near) (a .kept .long ∙ noted-long ix (rootsAt + f) i ∙ long))
@@ -84,7 +84,7 @@ bodies-agree :
     Agree-bodies p bs n f i ix (statements p n (inputAt bs at i)) (bodiesAt p bs n f at i ix)
 unfolding statements bodiesAt range
 bodies-agree p bs zero f at i ix l m near long =
-    reads [] at i ix (record { same = record { starts = λ q a b. refl; behinds = λ q a b. refl }; roots = λ g h. refl; finds = refl })
+    reads [] at i ix (record { same = record { starts = λ q a b. refl; subtreeEnds = λ q a b. refl }; roots = λ g h. refl; finds = refl })
 bodies-agree p bs (suc n) f at i ix l m near long =
     body-and-others p bs n f i ix (omega arith) m long _ _ (statements p n) _
     (statement-agrees p bs mostDepth at i (noted ix (rootsAt + f) i) near (noted-long ix (rootsAt + f) i ∙ long))
@@ -144,21 +144,21 @@ header (a ∷ b ∷ bs) h = refl
 -- what is said of each answer
 module _ (bs : List ℕ) (jx : List ℕ) where
   -- 1 where there are fewer than two bytes
-  pub says-short : length bs < 2 → says (answer.Refused tableStops) bs jx ≡ outcome (readTable bs)
-  unfolding says outcome
-  says-short h = rw (short-table bs h)
+  pub outcome-short : length bs < 2 → outcomeRead (answer.Refused tableStops) bs jx ≡ outcome (readTable bs)
+  unfolding outcomeRead outcome
+  outcome-short h = rw (short-table bs h)
 
   module _ (h : 2 ≤ length bs) where
     -- 2 where the edition is not 1
-    pub says-edition : (getD bs 0 0 ≡ 1 → ⊥) → says (answer.Refused wrongEdition) bs jx ≡ outcome (readTable bs)
-    unfolding says outcome provided
-    says-edition f = rw (header bs h, ne-eqb (getD bs 0 0) 1 f)
+    pub outcome-edition : (getD bs 0 0 ≡ 1 → ⊥) → outcomeRead (answer.Refused wrongEdition) bs jx ≡ outcome (readTable bs)
+    unfolding outcomeRead outcome provided
+    outcome-edition f = rw (header bs h, ne-eqb (getD bs 0 0) 1 f)
 
     module _ (e : getD bs 0 0 ≡ 1) where
       -- 3 where there are more than 16 procedures
-      pub says-many : mostProcedures < getD bs 1 0 → says (answer.Refused manyProcedures) bs jx ≡ outcome (readTable bs)
-      unfolding says outcome provided
-      says-many m = rw (header bs h, eq-eqb (getD bs 0 0) 1 e, lt-leb (getD bs 1 0) mostProcedures m)
+      pub outcome-many : mostProcedures < getD bs 1 0 → outcomeRead (answer.Refused manyProcedures) bs jx ≡ outcome (readTable bs)
+      unfolding outcomeRead outcome provided
+      outcome-many m = rw (header bs h, eq-eqb (getD bs 0 0) 1 e, lt-leb (getD bs 1 0) mostProcedures m)
 
       module _
           (m : getD bs 1 0 ≤ mostProcedures) (ix : List ℕ) (t : Tree) (read : ran t jx ≡ bodiesAt (getD bs 1 0) bs (getD bs 1 0 + 1 - 0) 0 2 0 ix)
@@ -174,19 +174,19 @@ module _ (bs : List ℕ) (jx : List ℕ) where
             (bodies-agree (getD bs 1 0) bs (suc (getD bs 1 0)) 0 2 0 ix (omega arith) (omega arith) (omega arith) long)))
 
         -- the refusal of a body
-        pub says-refused : (k : ℕ) → t ≡ tree.Refused k → says (answer.Refused k) bs jx ≡ outcome (readTable bs)
-        unfolding says outcome whole told
-        says-refused k z = rw (read-on, z)
+        pub outcome-refused : (k : ℕ) → t ≡ tree.Refused k → outcomeRead (answer.Refused k) bs jx ≡ outcome (readTable bs)
+        unfolding outcomeRead outcome whole told
+        outcome-refused k z = rw (read-on, z)
 
         module _ (end j : ℕ) (z : t ≡ tree.Read end j) where
           -- 8 where bytes are left
-          pub says-left : end < length bs → says (answer.Refused bytesLeft) bs jx ≡ outcome (readTable bs)
-          unfolding says outcome whole told range provided
-          says-left l = rw (read-on, z, length-drop end bs, ne-eqb (length bs - end) 0 (omega arith))
+          pub outcome-left : end < length bs → outcomeRead (answer.Refused bytesLeft) bs jx ≡ outcome (readTable bs)
+          unfolding outcomeRead outcome whole told range provided
+          outcome-left l = rw (read-on, z, length-drop end bs, ne-eqb (length bs - end) 0 (omega arith))
 
           -- else the program to which the index leads
-          pub says-read : length bs ≤ end → says (answer.Read (getD bs 1 0)) bs jx ≡ outcome (readTable bs)
-          unfolding says outcome whole told range provided
-          says-read l = rw (read-on, z, length-drop end bs, eq-eqb (length bs - end) 0 (omega arith))
+          pub outcome-read-whole : length bs ≤ end → outcomeRead (answer.Read (getD bs 1 0)) bs jx ≡ outcome (readTable bs)
+          unfolding outcomeRead outcome whole told range provided
+          outcome-read-whole l = rw (read-on, z, length-drop end bs, eq-eqb (length bs - end) 0 (omega arith))
 
-pub ruleset tables = (needs, says-short, says-edition, says-many, says-refused, says-left, says-read)
+pub ruleset tables = (needs, outcome-short, outcome-edition, outcome-many, outcome-refused, outcome-left, outcome-read-whole)

@@ -19,8 +19,8 @@ use Rattle.table.specs.declared.Table.the-variants as answer
 abbrev pub startOf : List ℕ → ℕ → ℕ
 startOf ix i = getD ix i 0
 
-abbrev pub behindOf : List ℕ → ℕ → ℕ
-behindOf ix i = getD ix (endsAt + i) 0
+abbrev pub endOf : List ℕ → ℕ → ℕ
+endOf ix i = getD ix (endsAt + i) 0
 
 abbrev pub rootOf : List ℕ → ℕ → ℕ
 rootOf ix f = getD ix (rootsAt + f) 0
@@ -34,8 +34,8 @@ unfoldable pub testOf : (ℕ → Condition) → List ℕ → ℕ → Record → 
 testOf part ix i (kind.Greater a b) = greater (numberOf a) (numberOf b)
 testOf part ix i (kind.AtLeast a b) = atLeast (numberOf a) (numberOf b)
 testOf part ix i (kind.Equal a b) = equal (numberOf a) (numberOf b)
-testOf part ix i kind.And = conjunction (part (i + 1)) (part (behindOf ix (i + 1)))
-testOf part ix i kind.Or = disjunction (part (i + 1)) (part (behindOf ix (i + 1)))
+testOf part ix i kind.And = conjunction (part (i + 1)) (part (endOf ix (i + 1)))
+testOf part ix i kind.Or = disjunction (part (i + 1)) (part (endOf ix (i + 1)))
 testOf part ix i kind.Negation = negation (part (i + 1))
 testOf part ix i kind.Skip = noTest
 testOf part ix i (kind.Not at a) = noTest
@@ -53,11 +53,11 @@ testAt p bs ix (suc depth) i = testOf (testAt p bs ix depth) ix i (recordAt p bs
 unfoldable pub statementOf : (ℕ → Condition) → (ℕ → Statement) → List ℕ → List ℕ → ℕ → Record → Statement
 statementOf test part bs ix i kind.Skip = skip
 statementOf test part bs ix i (kind.Not at a) = NOT (removalsOf bs at) (numberOf a)
-statementOf test part bs ix i kind.Sequence = sequence (part (i + 1)) (part (behindOf ix (i + 1)))
+statementOf test part bs ix i kind.Sequence = sequence (part (i + 1)) (part (endOf ix (i + 1)))
 statementOf test part bs ix i kind.If =
-    if (test (i + 1)) (part (behindOf ix (i + 1))) (part (behindOf ix (behindOf ix (i + 1))))
+    if (test (i + 1)) (part (endOf ix (i + 1))) (part (endOf ix (endOf ix (i + 1))))
 statementOf test part bs ix i (kind.Qcase at a) =
-    qcase (removalsOf bs at) (numberOf a) (part (i + 1)) (part (behindOf ix (i + 1)))
+    qcase (removalsOf bs at) (numberOf a) (part (i + 1)) (part (endOf ix (i + 1)))
 statementOf test part bs ix i (kind.Call at f) = call (removalsOf bs at) f
 statementOf test part bs ix i (kind.Greater a b) = skip
 statementOf test part bs ix i (kind.AtLeast a b) = skip
@@ -81,6 +81,6 @@ abbrev pub programAt : ℕ → List ℕ → List ℕ → Program
 programAt p bs ix = record { main = bodyAt p bs ix 0; procedures = map (bodyAt p bs ix) (range p 1) }
 
 -- what an answer of the reader says, with the index that it left
-unfoldable pub says : Table → List ℕ → List ℕ → Outcome Program
-says (answer.Read p) bs ix = gives (programAt p bs ix)
-says (answer.Refused k) bs ix = refuses k
+unfoldable pub outcomeRead : Table → List ℕ → List ℕ → Outcome Program
+outcomeRead (answer.Read p) bs ix = gives (programAt p bs ix)
+outcomeRead (answer.Refused k) bs ix = refuses k

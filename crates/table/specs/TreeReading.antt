@@ -18,9 +18,9 @@ pub data Ran : Type 0 where
   ran : Tree → List ℕ → Ran
 
 -- go on behind a tree; a refusal goes out as it is
-unfoldable pub behindTree : Ran → (ℕ → ℕ → List ℕ → Ran) → Ran
-behindTree (ran (tree.Read at i) ix) f = f at i ix
-behindTree (ran (tree.Refused k) ix) f = ran (tree.Refused k) ix
+unfoldable pub andThenTree : Ran → (ℕ → ℕ → List ℕ → Ran) → Ran
+andThenTree (ran (tree.Read at i) ix) f = f at i ix
+andThenTree (ran (tree.Refused k) ix) f = ran (tree.Refused k) ix
 
 -- the index with a value noted at a slot. A slot outside, or a value past 65535, would be passed over: reading comes to neither.
 unfoldable pub noted : List ℕ → ℕ → ℕ → List ℕ
@@ -49,7 +49,7 @@ contentsAt p map kind bs at = cond (permitted kind map) (fieldsAt p kind (stands
 -- n trees, one after the other
 unfoldable pub many : (ℕ → ℕ → List ℕ → Ran) → ℕ → ℕ → ℕ → List ℕ → Ran
 many one zero at i ix = ran (tree.Read at i) ix
-many one (suc n) at i ix = behindTree (one at i ix) (λ next j jx. many one n next j jx)
+many one (suc n) at i ix = andThenTree (one at i ix) (λ next j jx. many one n next j jx)
 
 -- the refusal of a reader of fields, which answers a record or a refusal
 unfoldable pub refusal : Answer → Tree
@@ -60,20 +60,20 @@ refusal (field.Record r next) = tree.Refused tableStops
 refusal (field.Refused k) = tree.Refused k
 
 -- go on behind the fields of a record; a refusal goes out
-unfoldable pub behindFields : Answer → List ℕ → (ℕ → Ran) → Ran
-behindFields (field.Place next) ix f = ran (refusal (field.Place next)) ix
-behindFields (field.Number a next) ix f = ran (refusal (field.Number a next)) ix
-behindFields (field.Procedure g next) ix f = ran (refusal (field.Procedure g next)) ix
-behindFields (field.Record r next) ix f = f next
-behindFields (field.Refused k) ix f = ran (refusal (field.Refused k)) ix
+unfoldable pub andThenFields : Answer → List ℕ → (ℕ → Ran) → Ran
+andThenFields (field.Place next) ix f = ran (refusal (field.Place next)) ix
+andThenFields (field.Number a next) ix f = ran (refusal (field.Number a next)) ix
+andThenFields (field.Procedure g next) ix f = ran (refusal (field.Procedure g next)) ix
+andThenFields (field.Record r next) ix f = f next
+andThenFields (field.Refused k) ix f = ran (refusal (field.Refused k)) ix
 
 -- "a record's children follow it, first child first": record i, at `at`, has its start noted, its conditions and statements are read from `next` on,
 -- and the record behind them is noted
 unfoldable pub childrenAt : (Bool → ℕ → ℕ → List ℕ → Ran) → ℕ → ℕ → ℕ → ℕ → List ℕ → Ran
 childrenAt one kind at next i ix =
-    behindTree (many (one true) (parts true kind) next (i + 1) (noted ix i at)) (λ middle j jx.
-    behindTree (many (one false) (parts false kind) middle j jx) (λ end behind kx.
-    ran (tree.Read end behind) (noted kx (endsAt + i) behind)))
+    andThenTree (many (one true) (parts true kind) next (i + 1) (noted ix i at)) (λ middle j jx.
+    andThenTree (many (one false) (parts false kind) middle j jx) (λ end total kx.
+    ran (tree.Read end total) (noted kx (endsAt + i) total)))
 
 -- "each record 1 for map and kind, 4": what comes then is given
 abbrev pub opened : Bool → List ℕ → ℕ → List ℕ → Ran → Ran
@@ -86,20 +86,20 @@ opened tests bs at ix x =
     (ran (tree.Refused tableStops) ix)
 
 -- what comes then in a record that is not too deep: "7, 5, then each field 1 and 6", and its children
-abbrev pub behindKind : ℕ → List ℕ → (Bool → ℕ → ℕ → List ℕ → Ran) → ℕ → ℕ → List ℕ → Ran
-behindKind p bs one at i ix =
+abbrev pub afterKind : ℕ → List ℕ → (Bool → ℕ → ℕ → List ℕ → Ran) → ℕ → ℕ → List ℕ → Ran
+afterKind p bs one at i ix =
     cond (ltb i mostRecords)
-    (behindFields (contentsAt p (byteAt bs at) (byteAt bs (at + 1)) bs (at + 2)) ix (λ next.
+    (andThenFields (contentsAt p (byteAt bs at) (byteAt bs (at + 1)) bs (at + 2)) ix (λ next.
     childrenAt one (byteAt bs (at + 1)) at next i ix))
     (ran (tree.Refused tooDeep) ix)
 
 -- a tree of at most `depth` records from its root down, a condition or else a statement, where i records came before it
 unfoldable pub treeAt : ℕ → List ℕ → ℕ → Bool → ℕ → ℕ → List ℕ → Ran
 treeAt p bs zero tests at i ix = opened tests bs at ix (ran (tree.Refused tooDeep) ix)
-treeAt p bs (suc depth) tests at i ix = opened tests bs at ix (behindKind p bs (treeAt p bs depth) at i ix)
+treeAt p bs (suc depth) tests at i ix = opened tests bs at ix (afterKind p bs (treeAt p bs depth) at i ix)
 
 -- the bodies of n procedures from f on, main at 0: the root of each is noted
 unfoldable pub bodiesAt : ℕ → List ℕ → ℕ → ℕ → ℕ → ℕ → List ℕ → Ran
 bodiesAt p bs zero f at i ix = ran (tree.Read at i) ix
 bodiesAt p bs (suc n) f at i ix =
-    behindTree (treeAt p bs mostDepth false at i (noted ix (rootsAt + f) i)) (λ next j jx. bodiesAt p bs n (f + 1) next j jx)
+    andThenTree (treeAt p bs mostDepth false at i (noted ix (rootsAt + f) i)) (λ next j jx. bodiesAt p bs n (f + 1) next j jx)

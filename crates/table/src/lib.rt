@@ -4,7 +4,7 @@ ghost use Prim.Native.Nat.{_+_, _-_, _<_};
 ghost use Rattle.model.specs.Limits.{mostRecords};
 ghost use Rattle.model.specs.Reading.{readTable};
 ghost use Rattle.model.specs.Answers.{outcome};
-ghost use Rattle.table.specs.Index.{says};
+ghost use Rattle.table.specs.Index.{outcomeRead};
 ghost use Rattle.table.specs.TreeReading.{ran, noted, wanted, parts, contentsAt, many, refusal, childrenAt, treeAt, bodiesAt};
 use limits::{
     BYTES_LEFT, ENDS_AT, FIRST_CONDITION, INDEX_LENGTH, KINDS, KIND_COUNT, MANY_PROCEDURES, MOST_DEPTH, MOST_PROCEDURES, MOST_RECORDS, PLACE_COUNT,
@@ -141,10 +141,10 @@ fn read_children(
     };
     let statements = parts(false, kind);
     let tree = read_many(table, middle, depth, p, count, statements, false, index);
-    let Tree::Read(_, behind) = tree else {
+    let Tree::Read(_, total) = tree else {
         return tree;
     };
-    note(index, ENDS_AT + records, behind);
+    note(index, ENDS_AT + records, total);
     tree
 }
 
@@ -165,10 +165,10 @@ fn read_many(
         return Tree::Read(at, records);
     }
     let tree = read_tree(table, at, depth, p, records, tests, index);
-    let Tree::Read(next, behind) = tree else {
+    let Tree::Read(next, total) = tree else {
         return tree;
     };
-    read_many(table, next, depth, p, behind, count - 1, tests, index)
+    read_many(table, next, depth, p, total, count - 1, tests, index)
 }
 
 // The bodies of procedures f to p, main at 0: the root of each is noted.
@@ -187,16 +187,16 @@ fn read_bodies(
     }
     note(index, ROOTS_AT + f, records);
     let tree = read_tree(table, at, MOST_DEPTH, p, records, false, index);
-    let Tree::Read(next, behind) = tree else {
+    let Tree::Read(next, total) = tree else {
         return tree;
     };
-    read_bodies(table, next, f + 1, p, behind, index)
+    read_bodies(table, next, f + 1, p, total, index)
 }
 
 // "header 1 (fewer than two bytes), 2, 3", then the main statement and the bodies of procedures 1 to p, then 8 where bytes are left.
 // The index is cleared first. What the answer says, with the index that is left, is what the model reads.
 pub fn read_table(table: &[u8], index: &mut [u16; INDEX_LENGTH]) -> Table
-    ensures { λ r. ⌜ says r (now (table .entry)) (now (index .exit)) ≡ outcome (readTable (now (table .entry))) ⌝ }
+    ensures { λ r. ⌜ outcomeRead r (now (table .entry)) (now (index .exit)) ≡ outcome (readTable (now (table .entry))) ⌝ }
 {
     if table.len() < 2 {
         return Table::Refused(TABLE_STOPS);

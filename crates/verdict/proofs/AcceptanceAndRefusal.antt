@@ -1,4 +1,4 @@
--- The ways out of `judge_read` and `judge`: what each has learnt from the functions that it called, and what it then answers.
+-- The ways out of `check_program` and `check-table`: what each has learnt from the functions that it called, and what it then answers.
 use mathlib.Core.Path.{_≡_, refl, sym}
 use mathlib.Core.Bool.{Bool, true, false}
 use mathlib.Core.List.{List}
@@ -9,48 +9,48 @@ use Rattle.model.specs.Limits.{mostQubits, leastWorkspace, noRemoval, tooWide, 
 use Rattle.model.specs.Reading.{readTable}
 use Rattle.model.specs.Syntax.{Program}
 use Rattle.model.specs.Answers.{Outcome, gives, refuses, after, require, outcome, number, accepted, verdict}
-use Rattle.table.specs.Index.{programAt, says}
+use Rattle.table.specs.Index.{programAt, outcomeRead}
 use Rattle.table.specs.declared.Table.{Table}
 use Rattle.table.specs.declared.Table.the-variants as answer
 use Rattle.reach.specs.CallsInATable.{reachAt, anyLacksIn, anyWideIn}
 use Rattle.faults.specs.RowTable.{faultsAt}
-use Rattle.verdict.specs.declared.Judged.{Judged}
-use Rattle.verdict.specs.VerdictAnswers.{judgedAt, outcomeOf, judgedAs}
-use Rattle.verdict.proofs.RefusalOrder.{few-qubits, many-qubits, refused-table, read-table-judged}
+use Rattle.verdict.specs.declared.Checked.{Checked}
+use Rattle.verdict.specs.VerdictAnswers.{refusalAt, outcomeOf, checkedOutcome}
+use Rattle.verdict.proofs.RefusalOrder.{few-qubits, many-qubits, refused-table, read-table-checked}
 
 -- refusals 10, 11 and 12, or none
 module _ (p n : ℕ) (bs ix m : List ℕ) (is : m ≡ reachAt p bs ix) (lacks : Bool) (l : lacks ≡ anyLacksIn m p bs ix) where
-  pub judged-ten : lacks ≡ true → noRemoval ≡ judgedAt p bs ix n
-  unfolding judgedAt
-  judged-ten e = rw (← is, ← l, e)
+  pub checked-ten : lacks ≡ true → noRemoval ≡ refusalAt p bs ix n
+  unfolding refusalAt
+  checked-ten e = rw (← is, ← l, e)
 
   module _ (e : lacks ≡ false) (wide : Bool) (w : wide ≡ anyWideIn m p bs ix) where
-    pub judged-eleven : wide ≡ true → tooWide ≡ judgedAt p bs ix n
-    unfolding judgedAt
-    judged-eleven q = rw (← is, ← l, e, ← w, q)
+    pub checked-eleven : wide ≡ true → tooWide ≡ refusalAt p bs ix n
+    unfolding refusalAt
+    checked-eleven q = rw (← is, ← l, e, ← w, q)
 
     module _ (q : wide ≡ false) (faulty : Bool) (f : faulty ≡ faultsAt p bs ix m n) where
-      pub judged-twelve : faulty ≡ true → accessFault ≡ judgedAt p bs ix n
-      unfolding judgedAt
-      judged-twelve t = rw (← is, ← l, e, ← w, q, ← f, t)
+      pub checked-twelve : faulty ≡ true → accessFault ≡ refusalAt p bs ix n
+      unfolding refusalAt
+      checked-twelve t = rw (← is, ← l, e, ← w, q, ← f, t)
 
-      pub judged-none : faulty ≡ false → 0 ≡ judgedAt p bs ix n
-      unfolding judgedAt
-      judged-none t = rw (← is, ← l, e, ← w, q, ← f, t)
+      pub checked-none : faulty ≡ false → 0 ≡ refusalAt p bs ix n
+      unfolding refusalAt
+      checked-none t = rw (← is, ← l, e, ← w, q, ← f, t)
 
-pub ruleset judges = (needs, judged-ten, judged-eleven, judged-twelve, judged-none)
+pub ruleset checks = (needs, checked-ten, checked-eleven, checked-twelve, checked-none)
 
 -- the table was refused, or read and judged
-module _ (bs ix : List ℕ) (n : ℕ) (z : n ≡ 0 → ⊥) (h : n ≤ mostQubits) (a : Table) (s : says a bs ix ≡ outcome (readTable bs)) where
-  pub judge-refused : (k f : ℕ) → a ≡ answer.Refused k → outcomeOf k (programAt f bs ix) ≡ accepted bs n
-  unfolding says
-  judge-refused k f e = refused-table bs n k (programAt f bs ix) z h (rw e at s)
+module _ (bs ix : List ℕ) (n : ℕ) (z : n ≡ 0 → ⊥) (h : n ≤ mostQubits) (a : Table) (s : outcomeRead a bs ix ≡ outcome (readTable bs)) where
+  pub check-refused : (k f : ℕ) → a ≡ answer.Refused k → outcomeOf k (programAt f bs ix) ≡ accepted bs n
+  unfolding outcomeRead
+  check-refused k f e = refused-table bs n k (programAt f bs ix) z h (rw e at s)
 
-  pub judge-decided : (p number : ℕ) → a ≡ answer.Read p → number ≡ judgedAt p bs ix n → outcomeOf number (programAt p bs ix) ≡ accepted bs n
-  unfolding says
-  judge-decided p number e q = rw q (read-table-judged bs ix p n z h (rw e at s))
+  pub check-decided : (p number : ℕ) → a ≡ answer.Read p → number ≡ refusalAt p bs ix n → outcomeOf number (programAt p bs ix) ≡ accepted bs n
+  unfolding outcomeRead
+  check-decided p number e q = rw q (read-table-checked bs ix p n z h (rw e at s))
 
-pub ruleset verdicts = (needs, few-qubits, many-qubits, judge-refused, judge-decided)
+pub ruleset verdicts = (needs, few-qubits, many-qubits, check-refused, check-decided)
 
 -- an answer that is accepted or refused
 refused-is : (m : ℕ) (P : Program) (x : Outcome Program) → outcomeOf m P ≡ x → (m ≡ 0 → ⊥) → x ≡ refuses m
@@ -62,26 +62,26 @@ given-is : (m : ℕ) (P : Program) (x : Outcome Program) → outcomeOf m P ≡ x
 unfolding outcomeOf
 given-is m P x e none = sym (rw none at e)
 
-module _ (bs ix : List ℕ) (n space : ℕ) (j : Judged) (is : judgedAs j bs ix ≡ accepted bs n) where
+module _ (bs ix : List ℕ) (n space : ℕ) (j : Checked) (is : checkedOutcome j bs ix ≡ accepted bs n) where
   -- a judged table is refused
-  pub refused-judged : (j .number ≡ 0 → ⊥) → accepted bs n ≡ refuses (j .number)
-  refused-judged some = refused-is (j .number) (programAt (j .procedures) bs ix) (accepted bs n) is some
+  pub refused-checked : (j .number ≡ 0 → ⊥) → accepted bs n ≡ refuses (j .number)
+  refused-checked some = refused-is (j .number) (programAt (j .procedures) bs ix) (accepted bs n) is some
 
   -- or accepted
-  pub accepted-judged : j .number ≡ 0 → accepted bs n ≡ gives (programAt (j .procedures) bs ix)
-  accepted-judged none = given-is (j .number) (programAt (j .procedures) bs ix) (accepted bs n) is none
+  pub accepted-checked : j .number ≡ 0 → accepted bs n ≡ gives (programAt (j .procedures) bs ix)
+  accepted-checked none = given-is (j .number) (programAt (j .procedures) bs ix) (accepted bs n) is none
 
   -- the ways out of `verdict`
   pub verdict-refused : (j .number ≡ 0 → ⊥) → j .number ≡ number (verdict bs n space)
   unfolding verdict after number
-  verdict-refused some = rw (refused-judged some)
+  verdict-refused some = rw (refused-checked some)
 
   pub verdict-short : j .number ≡ 0 → space < leastWorkspace → shortWorkspace ≡ number (verdict bs n space)
   unfolding verdict after require number
-  verdict-short none h = rw (accepted-judged none, lt-leb leastWorkspace space h)
+  verdict-short none h = rw (accepted-checked none, lt-leb leastWorkspace space h)
 
   pub verdict-given : j .number ≡ 0 → leastWorkspace ≤ space → 0 ≡ number (verdict bs n space)
   unfolding verdict after require number
-  verdict-given none h = rw (accepted-judged none, le-leb leastWorkspace space h)
+  verdict-given none h = rw (accepted-checked none, le-leb leastWorkspace space h)
 
 pub ruleset answers = (needs, verdict-refused, verdict-short, verdict-given)

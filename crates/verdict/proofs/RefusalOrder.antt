@@ -18,7 +18,7 @@ use Rattle.table.specs.Index.{programAt}
 use Rattle.reach.proofs.MatrixOfAProgram.{count-at}
 use Rattle.reach.proofs.ReachByMatrix.{refusal-ten, refusal-eleven}
 use Rattle.faults.proofs.Refusal12.{faults-is}
-use Rattle.verdict.specs.VerdictAnswers.{judgedAt, outcomeOf}
+use Rattle.verdict.specs.VerdictAnswers.{refusalAt, outcomeOf}
 
 -- n out of range
 pub few-qubits : (bs : List ℕ) (n : ℕ) (P : Program) → n ≡ 0 → outcomeOf wrongQubits P ≡ accepted bs n
@@ -49,18 +49,18 @@ module _ (bs ix : List ℕ) (p n : ℕ) (few : p ≤ mostProcedures) (low : n �
   abbrev P : Program
   P = programAt p bs ix
 
-  decided : outcomeOf (judgedAt p bs ix n) P ≡
+  decided : outcomeOf (refusalAt p bs ix n) P ≡
     require (not (anyLacksRemoval P)) noRemoval (require (not (anyTooWide P)) tooWide (require (not (programFaults P n)) accessFault (gives P)))
-  unfolding judgedAt outcomeOf require
+  unfolding refusalAt outcomeOf require
   decided = rw (refusal-ten p bs ix few, refusal-eleven p bs ix few) (byBool (anyLacksRemoval P)
     (λ e. rw e)
     (λ e. rw e (byBool (anyTooWide P)
       (λ q. rw q)
       (λ q. rw (q, faults-is p bs ix few e n low) (byBool (programFaults P n) (λ f. rw f) (λ f. rw f))))))
 
-pub read-table-judged : (bs ix : List ℕ) (p n : ℕ) → (n ≡ 0 → ⊥) → n ≤ mostQubits → gives (programAt p bs ix) ≡ outcome (readTable bs) →
-    outcomeOf (judgedAt p bs ix n) (programAt p bs ix) ≡ accepted bs n
+pub read-table-checked : (bs ix : List ℕ) (p n : ℕ) → (n ≡ 0 → ⊥) → n ≤ mostQubits → gives (programAt p bs ix) ≡ outcome (readTable bs) →
+    outcomeOf (refusalAt p bs ix n) (programAt p bs ix) ≡ accepted bs n
 unfolding after
-read-table-judged bs ix p n z h e =
+read-table-checked bs ix p n z h e =
     let few : p ≤ mostProcedures = rw (count-at p bs ix) at ((rw (← e) at (outcome-read bs)) .1) in
     decided bs ix p n few h ∙ sym (rw (in-range bs n z h, ← e))

@@ -8,11 +8,11 @@ use Rattle.model.specs.Answers.{Outcome, gives, refuses}
 use Rattle.table.specs.Index.{programAt}
 use Rattle.reach.specs.CallsInATable.{reachAt, anyLacksIn, anyWideIn}
 use Rattle.faults.specs.RowTable.{faultsAt}
-use Rattle.verdict.specs.declared.Judged.{Judged}
+use Rattle.verdict.specs.declared.Checked.{Checked}
 
 -- "10 over the whole table, then 11, then 12"
-unfoldable pub judgedAt : ℕ → List ℕ → List ℕ → ℕ → ℕ
-judgedAt p bs ix n =
+unfoldable pub refusalAt : ℕ → List ℕ → List ℕ → ℕ → ℕ
+refusalAt p bs ix n =
     cond (anyLacksIn (reachAt p bs ix) p bs ix) noRemoval
     (cond (anyWideIn (reachAt p bs ix) p bs ix) tooWide
     (cond (faultsAt p bs ix (reachAt p bs ix) n) accessFault success))
@@ -23,5 +23,5 @@ outcomeOf zero P = gives P
 outcomeOf (suc k) P = refuses (suc k)
 
 -- what an answer says, with the index that was left
-abbrev pub judgedAs : Judged → List ℕ → List ℕ → Outcome Program
-judgedAs r bs ix = outcomeOf (r .number) (programAt (r .procedures) bs ix)
+abbrev pub checkedOutcome : Checked → List ℕ → List ℕ → Outcome Program
+checkedOutcome r bs ix = outcomeOf (r .number) (programAt (r .procedures) bs ix)

@@ -2,21 +2,21 @@
 ghost use mathlib.Core.Path.{_≡_};
 ghost use Rattle.model.specs.Answers.{accepted};
 ghost use Rattle.model.specs.Answers as model;
-ghost use Rattle.verdict.specs.VerdictAnswers.{judgedAt, judgedAs};
+ghost use Rattle.verdict.specs.VerdictAnswers.{refusalAt, checkedOutcome};
 use limits::{ACCESS_FAULT, INDEX_LENGTH, LEAST_WORKSPACE, MATRIX_LENGTH, MOST_N, NO_REMOVAL, SHORT_WORKSPACE, TOO_WIDE, WRONG_QUBITS};
 use table::{Table, read_table};
 use reach::{fill_reach, any_lacks_removal, any_too_wide};
 use faults::faults;
 
 // A refusal's number, or 0 and the number of procedures.
-pub struct Judged {
+pub struct Checked {
     pub number: u8,
     pub procedures: u8,
 }
 
 // "10 over the whole table, then 11, then 12": a table that was read, by its index.
-fn judge_read(table: &[u8], index: &[u16], p: u8, n: u8) -> u8
-    ensures { λ r. ⌜ r ≡ judgedAt p (now (table .entry)) (now (index .entry)) n ⌝ }
+fn check_program(table: &[u8], index: &[u16], p: u8, n: u8) -> u8
+    ensures { λ r. ⌜ r ≡ refusalAt p (now (table .entry)) (now (index .entry)) n ⌝ }
 {
     let mut matrix = [0u8; MATRIX_LENGTH];
     fill_reach(table, index, p, &mut matrix);
@@ -33,21 +33,21 @@ fn judge_read(table: &[u8], index: &[u16], p: u8, n: u8) -> u8
 }
 
 // "Order: 9; header 1 .., 2, 3; each record ..; 8; 10 over the whole table, then 11, then 12". The index is what walkers of the table need afterwards.
-pub fn judge(table: &[u8], n: u32, index: &mut [u16; INDEX_LENGTH]) -> Judged
-    ensures { λ r. ⌜ judgedAs r (now (table .entry)) (now (index .exit)) ≡ accepted (now (table .entry)) n ⌝ }
+pub fn check_table(table: &[u8], n: u32, index: &mut [u16; INDEX_LENGTH]) -> Checked
+    ensures { λ r. ⌜ checkedOutcome r (now (table .entry)) (now (index .exit)) ≡ accepted (now (table .entry)) n ⌝ }
 {
     if n == 0 {
-        return Judged { number: WRONG_QUBITS, procedures: 0 };
+        return Checked { number: WRONG_QUBITS, procedures: 0 };
     }
     if MOST_N < n {
-        return Judged { number: WRONG_QUBITS, procedures: 0 };
+        return Checked { number: WRONG_QUBITS, procedures: 0 };
     }
     let answer = read_table(table, index);
     match answer {
-        Table::Refused(k) => Judged { number: k, procedures: 0 },
+        Table::Refused(k) => Checked { number: k, procedures: 0 },
         Table::Read(p) => {
-            let number = judge_read(table, &index[..], p, n as u8);
-            Judged { number, procedures: p }
+            let number = check_program(table, &index[..], p, n as u8);
+            Checked { number, procedures: p }
         }
     }
 }
@@ -57,8 +57,8 @@ pub fn verdict(table: &[u8], n: u32, space: usize) -> u32
     ensures { λ r. ⌜ r ≡ model.number (model.verdict (now (table .entry)) n space) ⌝ }
 {
     let mut index = [0u16; INDEX_LENGTH];
-    let judged = judge(table, n, &mut index);
-    let number = judged.number as u32;
+    let checked = check_table(table, n, &mut index);
+    let number = checked.number as u32;
     if number != 0 {
         return number;
     }

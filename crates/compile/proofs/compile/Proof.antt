@@ -9,10 +9,10 @@ use Rattle.compile.proofs.compile.Statement.{statement}
 use Rattle.compile.proofs.compile.Tie as tie
 
 -- a workspace of the same length, wiped
-wiped : (workspace left zeros : List ℕ) → length left ≡ length workspace → zeros ≡ workspaceAfter left → zeros ≡ workspaceAfter workspace
-wiped workspace left zeros same is = rw (is, same)
+cleared : (workspace left zeros : List ℕ) → length left ≡ length workspace → zeros ≡ workspaceAfter left → zeros ≡ workspaceAfter workspace
+cleared workspace left zeros same is = rw (is, same)
 
-ruleset wiping = (needs, wiped)
+ruleset clearing = (needs, cleared)
 
 pub compile-spec : {M : Type 1} → statement M
 compile-spec = tie.close (tie.spec
@@ -20,4 +20,4 @@ compile-spec = tie.close (tie.spec
     (λ c κs. search needs)
     (λ c. search needs)
     (λ c. search needs)
-    (λ c. (search wiping, search wiping)))
+    (λ c. (search clearing, search clearing)))

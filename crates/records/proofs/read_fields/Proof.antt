@@ -1,7 +1,7 @@
 -- `records::read_fields` meets its contract: by the bits that the map of the kind must have. Assumes nothing.
 use borrow.Author.Needs.{needs}
 use Rattle.records.proofs.FieldLaws.{kinds}
-use Rattle.records.proofs.ReadingAtAPlace.{fields-said}
+use Rattle.records.proofs.ReadingAtAPlace.{fields-are-read}
 use Rattle.records.proofs.read_fields.Statement.{statement}
 use Rattle.records.proofs.read_fields.Tie as tie
 
@@ -14,7 +14,7 @@ read-fields-spec =
     (λ c κs. search needs)
     (λ c κs. search needs)
     (λ c κs. search needs)
-    (λ c. (search kinds, fields-said _ _ _ _ _ _ (search kinds)))
-    (λ c. (search kinds, fields-said _ _ _ _ _ _ (search kinds)))
-    (λ c. (search kinds, fields-said _ _ _ _ _ _ (search kinds)))
-    (λ c. (search kinds, fields-said _ _ _ _ _ _ (search kinds))))
+    (λ c. (search kinds, fields-are-read _ _ _ _ _ _ (search kinds)))
+    (λ c. (search kinds, fields-are-read _ _ _ _ _ _ (search kinds)))
+    (λ c. (search kinds, fields-are-read _ _ _ _ _ _ (search kinds)))
+    (λ c. (search kinds, fields-are-read _ _ _ _ _ _ (search kinds))))

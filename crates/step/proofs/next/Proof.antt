@@ -1,12 +1,12 @@
 -- `step::next` meets its contract: by its test. Assumes nothing.
 use borrow.Author.Tests.{lt-ltb, le-ltb}
 use borrow.Author.Needs.{needs}
-use Rattle.step.specs.Steps.{nextOf}
+use Rattle.step.specs.Steps.{firstChild}
 use Rattle.step.proofs.next.Statement.{statement}
 use Rattle.step.proofs.next.Tie as tie
 
 pub next-spec : {M : Type 1} → statement M
-unfolding nextOf
+unfolding firstChild
 next-spec =
     tie.close
     (tie.spec

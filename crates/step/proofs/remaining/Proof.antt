@@ -9,7 +9,7 @@ use mir.Val.{SFits}
 use Rattle.model.specs.Limits.{mostQubits}
 use Rattle.model.specs.Lists.{removeAll}
 use Rattle.records.specs.Fields.{numbersFrom}
-use Rattle.step.proofs.Removals.{remaining-none, remaining-past, remaining-whole, remaining-goes-on, remaining-ends}
+use Rattle.step.proofs.Removals.{remaining-none, remaining-past, remaining-whole, remaining-more, remaining-ends}
 use Rattle.step.proofs.remaining.Statement.{statement}
 use Rattle.step.proofs.remaining.Tie as tie
 
@@ -33,7 +33,7 @@ loop-again c =
     let at-loop = valued .before .before .before in
     let fits : SFits w32 (valued .value .result) = search needs in
     (omega arith, c .remove .ensures .1,
-    remaining-goes-on _ _ (at-loop .loop .left) _ _ _ _ _ (valued .before .written-at .ensures) fits (valued .value .ensures)
+    remaining-more _ _ (at-loop .loop .left) _ _ _ _ _ (valued .before .written-at .ensures) fits (valued .value .ensures)
       (c .remove .ensures .0) (valued .before .before .loop-test .taken) ∙ at-loop .loop .inv .2)
 
 returns-3 : tie.Need-returns-3 Inv-loop μ-loop

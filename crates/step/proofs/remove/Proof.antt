@@ -6,7 +6,7 @@ use borrow.Author.Needs.{needs}
 use lib.ListN.{length, take, length-set}
 use Rattle.model.specs.Limits.{mostQubits}
 use Rattle.model.specs.Lists.{delete}
-use Rattle.step.proofs.ListsInAnArray.{size-of, place-bound, remove-none, remove-some, shifted, shift-starts, shift-goes-on, shift-ends}
+use Rattle.step.proofs.ListsInAnArray.{size-of, place-bound, remove-none, remove-some, shifted, shift-starts, shift-more, shift-ends}
 use Rattle.step.proofs.remove.Statement.{statement}
 use Rattle.step.proofs.remove.Tie as tie
 
@@ -34,7 +34,7 @@ loop-holds c =
 loop-again : tie.Need-loop-again Inv-loop μ-loop
 loop-again c =
     let h = c .before .before .loop .inv in
-    (omega arith, omega arith, h .2, simp length-set (h .3), shift-goes-on _ _ _ (h .0) (c .before .loop-test .taken) (omega arith) ∙ h .4)
+    (omega arith, omega arith, h .2, simp length-set (h .3), shift-more _ _ _ (h .0) (c .before .loop-test .taken) (omega arith) ∙ h .4)
 
 returns-2 : tie.Need-returns-2 Inv-loop μ-loop
 returns-2 c =

@@ -8,36 +8,36 @@ use Rattle.emit.proofs.RightPart.{rights, right-first, right-branches}
 use Rattle.emit.proofs.ChainsAndBodies.{chaining, call-chain}
 use borrow.Fn.Kinds.{In}
 use borrow.Fn.PlainCycle.{Measures, is, falls, and}
-use Rattle.emit.proofs.emit_back.Reads as emit-back
-use Rattle.emit.proofs.emit_back.Kinds as emit-back-kinds
-use Rattle.emit.proofs.+emit_back+emit_bodies+emit_body+emit_call+emit_fore+emit_inner+emit_left+emit_rest+emit_right+emit_whole.Lts-emit_back as emit-back-lts
+use Rattle.emit.proofs.emit_body_right.Reads as emit-body-right
+use Rattle.emit.proofs.emit_body_right.Kinds as emit-body-right-kinds
+use Rattle.emit.proofs.+emit_bodies+emit_body+emit_body_left+emit_body_right+emit_call+emit_inner+emit_left+emit_rest+emit_right+emit_whole.Lts-emit_body_right as emit-body-right-lts
 use Rattle.emit.proofs.emit_bodies.Reads as emit-bodies
 use Rattle.emit.proofs.emit_bodies.Kinds as emit-bodies-kinds
-use Rattle.emit.proofs.+emit_back+emit_bodies+emit_body+emit_call+emit_fore+emit_inner+emit_left+emit_rest+emit_right+emit_whole.Lts-emit_bodies as emit-bodies-lts
+use Rattle.emit.proofs.+emit_bodies+emit_body+emit_body_left+emit_body_right+emit_call+emit_inner+emit_left+emit_rest+emit_right+emit_whole.Lts-emit_bodies as emit-bodies-lts
 use Rattle.emit.proofs.emit_body.Reads as emit-body
 use Rattle.emit.proofs.emit_body.Kinds as emit-body-kinds
-use Rattle.emit.proofs.+emit_back+emit_bodies+emit_body+emit_call+emit_fore+emit_inner+emit_left+emit_rest+emit_right+emit_whole.Lts-emit_body as emit-body-lts
+use Rattle.emit.proofs.+emit_bodies+emit_body+emit_body_left+emit_body_right+emit_call+emit_inner+emit_left+emit_rest+emit_right+emit_whole.Lts-emit_body as emit-body-lts
 use Rattle.emit.proofs.emit_call.Reads as emit-call
 use Rattle.emit.proofs.emit_call.Kinds as emit-call-kinds
-use Rattle.emit.proofs.+emit_back+emit_bodies+emit_body+emit_call+emit_fore+emit_inner+emit_left+emit_rest+emit_right+emit_whole.Lts-emit_call as emit-call-lts
-use Rattle.emit.proofs.emit_fore.Reads as emit-fore
-use Rattle.emit.proofs.emit_fore.Kinds as emit-fore-kinds
-use Rattle.emit.proofs.+emit_back+emit_bodies+emit_body+emit_call+emit_fore+emit_inner+emit_left+emit_rest+emit_right+emit_whole.Lts-emit_fore as emit-fore-lts
+use Rattle.emit.proofs.+emit_bodies+emit_body+emit_body_left+emit_body_right+emit_call+emit_inner+emit_left+emit_rest+emit_right+emit_whole.Lts-emit_call as emit-call-lts
+use Rattle.emit.proofs.emit_body_left.Reads as emit-body-left
+use Rattle.emit.proofs.emit_body_left.Kinds as emit-body-left-kinds
+use Rattle.emit.proofs.+emit_bodies+emit_body+emit_body_left+emit_body_right+emit_call+emit_inner+emit_left+emit_rest+emit_right+emit_whole.Lts-emit_body_left as emit-body-left-lts
 use Rattle.emit.proofs.emit_inner.Reads as emit-inner
 use Rattle.emit.proofs.emit_inner.Kinds as emit-inner-kinds
-use Rattle.emit.proofs.+emit_back+emit_bodies+emit_body+emit_call+emit_fore+emit_inner+emit_left+emit_rest+emit_right+emit_whole.Lts-emit_inner as emit-inner-lts
+use Rattle.emit.proofs.+emit_bodies+emit_body+emit_body_left+emit_body_right+emit_call+emit_inner+emit_left+emit_rest+emit_right+emit_whole.Lts-emit_inner as emit-inner-lts
 use Rattle.emit.proofs.emit_left.Reads as emit-left
 use Rattle.emit.proofs.emit_left.Kinds as emit-left-kinds
-use Rattle.emit.proofs.+emit_back+emit_bodies+emit_body+emit_call+emit_fore+emit_inner+emit_left+emit_rest+emit_right+emit_whole.Lts-emit_left as emit-left-lts
+use Rattle.emit.proofs.+emit_bodies+emit_body+emit_body_left+emit_body_right+emit_call+emit_inner+emit_left+emit_rest+emit_right+emit_whole.Lts-emit_left as emit-left-lts
 use Rattle.emit.proofs.emit_rest.Reads as emit-rest
 use Rattle.emit.proofs.emit_rest.Kinds as emit-rest-kinds
-use Rattle.emit.proofs.+emit_back+emit_bodies+emit_body+emit_call+emit_fore+emit_inner+emit_left+emit_rest+emit_right+emit_whole.Lts-emit_rest as emit-rest-lts
+use Rattle.emit.proofs.+emit_bodies+emit_body+emit_body_left+emit_body_right+emit_call+emit_inner+emit_left+emit_rest+emit_right+emit_whole.Lts-emit_rest as emit-rest-lts
 use Rattle.emit.proofs.emit_right.Reads as emit-right
 use Rattle.emit.proofs.emit_right.Kinds as emit-right-kinds
-use Rattle.emit.proofs.+emit_back+emit_bodies+emit_body+emit_call+emit_fore+emit_inner+emit_left+emit_rest+emit_right+emit_whole.Lts-emit_right as emit-right-lts
+use Rattle.emit.proofs.+emit_bodies+emit_body+emit_body_left+emit_body_right+emit_call+emit_inner+emit_left+emit_rest+emit_right+emit_whole.Lts-emit_right as emit-right-lts
 use Rattle.emit.proofs.emit_whole.Reads as emit-whole
 use Rattle.emit.proofs.emit_whole.Kinds as emit-whole-kinds
-use Rattle.emit.proofs.+emit_back+emit_bodies+emit_body+emit_call+emit_fore+emit_inner+emit_left+emit_rest+emit_right+emit_whole.Lts-emit_whole as emit-whole-lts
+use Rattle.emit.proofs.+emit_bodies+emit_body+emit_body_left+emit_body_right+emit_call+emit_inner+emit_left+emit_rest+emit_right+emit_whole.Lts-emit_whole as emit-whole-lts
 use Rattle.circuit.proofs.write.asking.Reads as asking-reads
 use Rattle.emit.proofs.body_depth.Reads as body-depth-reads
 use Rattle.emit.proofs.count_calls.Reads as count-calls-reads
@@ -59,15 +59,15 @@ use Rattle.step.proofs.remaining.Reads as remaining-reads
 use Rattle.step.proofs.size.Reads as size-reads
 use Rattle.step.proofs.start.Reads as start-reads
 use Rattle.step.proofs.step_at.Reads as step-at-reads
-use Rattle.emit.proofs.+emit_back+emit_bodies+emit_body+emit_call+emit_fore+emit_inner+emit_left+emit_rest+emit_right+emit_whole.{
+use Rattle.emit.proofs.+emit_bodies+emit_body+emit_body_left+emit_body_right+emit_call+emit_inner+emit_left+emit_rest+emit_right+emit_whole.{
   statement,
 }
-use Rattle.emit.proofs.+emit_back+emit_bodies+emit_body+emit_call+emit_fore+emit_inner+emit_left+emit_rest+emit_right+emit_whole.Tie.{
+use Rattle.emit.proofs.+emit_bodies+emit_body+emit_body_left+emit_body_right+emit_call+emit_inner+emit_left+emit_rest+emit_right+emit_whole.Tie.{
   close,
 }
 
-abbrev μ-emit-back : Measures 5 emit-back-kinds.ps ℕ
-μ-emit-back κs a = 268435456 * a .1 .1 .1 .1 .0 + 600
+abbrev μ-emit-body-right : Measures 5 emit-body-right-kinds.ps ℕ
+μ-emit-body-right κs a = 268435456 * a .1 .1 .1 .1 .0 + 600
 
 abbrev μ-emit-bodies : Measures 5 emit-bodies-kinds.ps ℕ
 μ-emit-bodies κs a = 268435456 * a .1 .1 .1 .1 .0 + (1048576 * a .1 .1 .1 .1 .1 .1 .0 + (8 * (65536 - a .1 .1 .1 .1 .1 .1 .1 .0) + 1005))
@@ -78,8 +78,8 @@ abbrev μ-emit-body : Measures 5 emit-body-kinds.ps ℕ
 abbrev μ-emit-call : Measures 5 emit-call-kinds.ps ℕ
 μ-emit-call κs a = 268435456 * a .1 .1 .1 .1 .0
 
-abbrev μ-emit-fore : Measures 5 emit-fore-kinds.ps ℕ
-μ-emit-fore κs a = 268435456 * a .1 .1 .1 .1 .0 + 600
+abbrev μ-emit-body-left : Measures 5 emit-body-left-kinds.ps ℕ
+μ-emit-body-left κs a = 268435456 * a .1 .1 .1 .1 .0 + 600
 
 abbrev μ-emit-inner : Measures 5 emit-inner-kinds.ps ℕ
 μ-emit-inner κs a = 268435456 * a .1 .1 .1 .1 .0 + (1048576 * a .1 .1 .1 .1 .1 .1 .0 + (8 * (65536 - a .1 .1 .1 .1 .1 .1 .1 .0) + 1003))
@@ -96,12 +96,12 @@ abbrev μ-emit-right : Measures 5 emit-right-kinds.ps ℕ
 abbrev μ-emit-whole : Measures 5 emit-whole-kinds.ps ℕ
 μ-emit-whole κs a = 268435456 * a .1 .1 .1 .1 .0 + (a .1 .1 .1 .1 .1 .1 .0 + 1)
 
-abbrev emit-back-at : ℕ → In 5 emit-back-kinds.ps
-emit-back-at t = and 5 emit-back-kinds.ps (is 5 emit-back-kinds.ps μ-emit-back t) emit-back.Pre
+abbrev emit-body-right-at : ℕ → In 5 emit-body-right-kinds.ps
+emit-body-right-at t = and 5 emit-body-right-kinds.ps (is 5 emit-body-right-kinds.ps μ-emit-body-right t) emit-body-right.Pre
 
-abbrev emit-back-below : ℕ → In 5 emit-back-kinds.ps
-emit-back-below t =
-    and 5 emit-back-kinds.ps (falls 5 emit-back-kinds.ps _<_ μ-emit-back t) emit-back.Pre
+abbrev emit-body-right-below : ℕ → In 5 emit-body-right-kinds.ps
+emit-body-right-below t =
+    and 5 emit-body-right-kinds.ps (falls 5 emit-body-right-kinds.ps _<_ μ-emit-body-right t) emit-body-right.Pre
 
 abbrev emit-bodies-at : ℕ → In 5 emit-bodies-kinds.ps
 emit-bodies-at t =
@@ -125,12 +125,12 @@ abbrev emit-call-below : ℕ → In 5 emit-call-kinds.ps
 emit-call-below t =
     and 5 emit-call-kinds.ps (falls 5 emit-call-kinds.ps _<_ μ-emit-call t) emit-call.Pre
 
-abbrev emit-fore-at : ℕ → In 5 emit-fore-kinds.ps
-emit-fore-at t = and 5 emit-fore-kinds.ps (is 5 emit-fore-kinds.ps μ-emit-fore t) emit-fore.Pre
+abbrev emit-body-left-at : ℕ → In 5 emit-body-left-kinds.ps
+emit-body-left-at t = and 5 emit-body-left-kinds.ps (is 5 emit-body-left-kinds.ps μ-emit-body-left t) emit-body-left.Pre
 
-abbrev emit-fore-below : ℕ → In 5 emit-fore-kinds.ps
-emit-fore-below t =
-    and 5 emit-fore-kinds.ps (falls 5 emit-fore-kinds.ps _<_ μ-emit-fore t) emit-fore.Pre
+abbrev emit-body-left-below : ℕ → In 5 emit-body-left-kinds.ps
+emit-body-left-below t =
+    and 5 emit-body-left-kinds.ps (falls 5 emit-body-left-kinds.ps _<_ μ-emit-body-left t) emit-body-left.Pre
 
 abbrev emit-inner-at : ℕ → In 5 emit-inner-kinds.ps
 emit-inner-at t =
@@ -170,14 +170,14 @@ abbrev emit-whole-below : ℕ → In 5 emit-whole-kinds.ps
 emit-whole-below t =
     and 5 emit-whole-kinds.ps (falls 5 emit-whole-kinds.ps _<_ μ-emit-whole t) emit-whole.Pre
 
-emit-back-meets : {M : Type 1} (t : ℕ) → emit-back-lts.Closed (
+emit-body-right-meets : {M : Type 1} (t : ℕ) → emit-body-right-lts.Closed (
     procedure-reads.Asked, procedure-reads.Learnt, load-reads.Asked, load-reads.Learnt, start-reads.Asked, start-reads.Learnt,
     body-depth-reads.Asked, body-depth-reads.Learnt, wire-reads.Asked, wire-reads.Learnt, under-reads.Asked, under-reads.Learnt,
-    emit-right-below t, emit-right.Post) (emit-back-at t) emit-back.Post M
-emit-back-meets t = emit-back-lts.spec (
+    emit-right-below t, emit-right.Post) (emit-body-right-at t) emit-body-right.Post M
+emit-body-right-meets t = emit-body-right-lts.spec (
     procedure-reads.Asked, procedure-reads.Learnt, load-reads.Asked, load-reads.Learnt, start-reads.Asked, start-reads.Learnt,
     body-depth-reads.Asked, body-depth-reads.Learnt, wire-reads.Asked, wire-reads.Learnt, under-reads.Asked, under-reads.Learnt,
-    emit-right-below t, emit-right.Post) (emit-back-at t) emit-back.Post
+    emit-right-below t, emit-right.Post) (emit-body-right-at t) emit-body-right.Post
     (λ c κs. search needs)
     (λ c κs. search needs)
     (λ c. search needs)
@@ -254,14 +254,14 @@ emit-call-meets t = emit-call-lts.spec (
         c .before .before .before .before .before .before .before .before .emit-bodies .ensures,
         c .before .before .finish2 .ensures))
 
-emit-fore-meets : {M : Type 1} (t : ℕ) → emit-fore-lts.Closed (
+emit-body-left-meets : {M : Type 1} (t : ℕ) → emit-body-left-lts.Closed (
     procedure-reads.Asked, procedure-reads.Learnt, load-reads.Asked, load-reads.Learnt, start-reads.Asked, start-reads.Learnt,
     body-depth-reads.Asked, body-depth-reads.Learnt, wire-reads.Asked, wire-reads.Learnt, under-reads.Asked, under-reads.Learnt,
-    emit-left-below t, emit-left.Post) (emit-fore-at t) emit-fore.Post M
-emit-fore-meets t = emit-fore-lts.spec (
+    emit-left-below t, emit-left.Post) (emit-body-left-at t) emit-body-left.Post M
+emit-body-left-meets t = emit-body-left-lts.spec (
     procedure-reads.Asked, procedure-reads.Learnt, load-reads.Asked, load-reads.Learnt, start-reads.Asked, start-reads.Learnt,
     body-depth-reads.Asked, body-depth-reads.Learnt, wire-reads.Asked, wire-reads.Learnt, under-reads.Asked, under-reads.Learnt,
-    emit-left-below t, emit-left.Post) (emit-fore-at t) emit-fore.Post
+    emit-left-below t, emit-left.Post) (emit-body-left-at t) emit-body-left.Post
     (λ c κs. search needs)
     (λ c κs. search needs)
     (λ c. search needs)
@@ -276,9 +276,9 @@ emit-fore-meets t = emit-fore-lts.spec (
     (λ c. search chaining)
 
 emit-inner-meets : {M : Type 1} (t : ℕ) → emit-inner-lts.Closed (
-    emit-fore-below t, emit-fore.Post, emit-rest-below t, emit-rest.Post) (emit-inner-at t) emit-inner.Post M
+    emit-body-left-below t, emit-body-left.Post, emit-rest-below t, emit-rest.Post) (emit-inner-at t) emit-inner.Post M
 emit-inner-meets t = emit-inner-lts.spec (
-    emit-fore-below t, emit-fore.Post, emit-rest-below t, emit-rest.Post) (emit-inner-at t) emit-inner.Post
+    emit-body-left-below t, emit-body-left.Post, emit-rest-below t, emit-rest.Post) (emit-inner-at t) emit-inner.Post
     (λ c κs. search needs)
     (λ c κs. search needs)
     (λ c. search needs)
@@ -386,9 +386,9 @@ emit-left-meets t = emit-left-lts.spec (
     (λ c. search lefts)
 
 emit-rest-meets : {M : Type 1} (t : ℕ) → emit-rest-lts.Closed (
-    emit-bodies-below t, emit-bodies.Post, emit-back-below t, emit-back.Post) (emit-rest-at t) emit-rest.Post M
+    emit-bodies-below t, emit-bodies.Post, emit-body-right-below t, emit-body-right.Post) (emit-rest-at t) emit-rest.Post M
 emit-rest-meets t = emit-rest-lts.spec (
-    emit-bodies-below t, emit-bodies.Post, emit-back-below t, emit-back.Post) (emit-rest-at t) emit-rest.Post
+    emit-bodies-below t, emit-bodies.Post, emit-body-right-below t, emit-body-right.Post) (emit-rest-at t) emit-rest.Post
     (λ c. search chaining)
     (λ c. search needs)
     (λ c κs. search needs)
@@ -572,25 +572,25 @@ emit-whole-meets t = emit-whole-lts.spec (
     (λ c. search wholes)
     (λ c. search wholes)
 
-pub +emit-back+emit-bodies+emit-body+emit-call+emit-fore+emit-inner+emit-left+emit-rest+emit-right+emit-whole-spec :
+pub +emit-bodies+emit-body+emit-body-left+emit-body-right+emit-call+emit-inner+emit-left+emit-rest+emit-right+emit-whole-spec :
     {M : Type 1} → statement M
-+emit-back+emit-bodies+emit-body+emit-call+emit-fore+emit-inner+emit-left+emit-rest+emit-right+emit-whole-spec =
++emit-bodies+emit-body+emit-body-left+emit-body-right+emit-call+emit-inner+emit-left+emit-rest+emit-right+emit-whole-spec =
     close
-    μ-emit-back
     μ-emit-bodies
     μ-emit-body
+    μ-emit-body-left
+    μ-emit-body-right
     μ-emit-call
-    μ-emit-fore
     μ-emit-inner
     μ-emit-left
     μ-emit-rest
     μ-emit-right
     μ-emit-whole
-    emit-back-meets
     emit-bodies-meets
     emit-body-meets
+    emit-body-left-meets
+    emit-body-right-meets
     emit-call-meets
-    emit-fore-meets
     emit-inner-meets
     emit-left-meets
     emit-rest-meets

@@ -1,12 +1,12 @@
--- `wipe` meets its contract: the first i bytes are zero, the others as they were.
+-- `clear` meets its contract: the first i bytes are zero, the others as they were.
 use mathlib.Core.Path.{_≡_, refl, ap, _∙_}
 use mathlib.Core.List.{List, _++_, append-nil}
 use Prim.Native.Nat.{ℕ, _-_, _≤_}
 use lib.ListN.{length, set, drop, replicate, length-set, drop-of-length-le}
 use borrow.Author.Fill.{fill-more}
 use native.Mathlib.Omega.{arith}
-use Rattle.compile.proofs.wipe.Statement.{statement}
-use Rattle.compile.proofs.wipe.Tie as tie
+use Rattle.compile.proofs.clear.Statement.{statement}
+use Rattle.compile.proofs.clear.Tie as tie
 
 abbrev Inv-loop : tie.InvT-loop
 Inv-loop w₀ i₀ w i = (i ≤ length w₀) × (w ≡ replicate i 0 ++ drop i w₀) × (length w ≡ length w₀)
@@ -50,7 +50,7 @@ returns c =
     let l = c .before in
     done (l .loop .workspace) (l .before .args .workspace .now) (l .loop .i) (c .before .loop .inv .1) (omega arith)
 
-pub wipe-spec : {M : Type 1} → statement M
-wipe-spec =
+pub clear-spec : {M : Type 1} → statement M
+clear-spec =
     tie.close
     (tie.spec Inv-loop μ-loop loop-holds slice-write-workspace add-i loop-less loop-again same-length returns)

@@ -1,0 +1,17 @@
+-- `records::after_removals` meets its contract: a count is a byte, so the sum fits. Assumes nothing.
+use borrow.Author.Needs.{needs}
+use Rattle.records.proofs.FieldLaws.{written}
+use Rattle.records.proofs.after_removals.Statement.{statement}
+use Rattle.records.proofs.after_removals.Tie as tie
+
+pub after-removals-spec : {M : Type 1} → statement M
+after-removals-spec =
+    tie.close
+    (tie.spec
+    (λ c. search needs)
+    (λ c κs. search needs)
+    (λ c. search needs)
+    (λ c. search needs)
+    (λ c. search needs)
+    (λ c. search written)
+    (λ c. search written))
