@@ -1,28 +1,27 @@
 -- What compile promises, read off the definitions: demand 3 for every table that it compiles, and refusals 22 and 23 exactly where a step does not fit.
 use mathlib.Core.Path.{_≡_, refl, sym, ap, _∙_, subst}
 use mathlib.Core.Logic.{_≢_, _⊎_, inl, inr}
-use mathlib.Core.Bool.{Bool, true, false, not, _&&_}
+use mathlib.Core.Bool.{false}
 use mathlib.Core.List.{List, []}
 use Prim.Native.Nat.{ℕ, zero, suc, _^_, _≤_, _<_}
 use native.Mathlib.Omega.{arith}
-use borrow.Author.Tests.{leb-true, lt-ltb, le-leb, lt-leb, not-true}
+use borrow.Author.Tests.{lt-ltb, le-leb, lt-leb}
 use lib.ListN.{length}
 use lib.Dec.{leb}
 use Rattle.model.specs.Limits.{mostProcedures, mostQubits, headerLength, leastWorkspace, blockLength, noRoom}
 use Rattle.model.specs.Syntax.{Program, count}
-use Rattle.model.specs.Reading.{readTable}
 use Rattle.model.specs.Faults.{programFaults}
 use Rattle.model.specs.Meaning.{State, stateOf, endState, endWord}
 use Rattle.model.specs.Reach.{anyLacksRemoval, anyTooWide}
 use Rattle.model.specs.Emission.{emission, peak}
-use Rattle.model.specs.Circuit.{Circuit, write, blockOf, circuitBlock}
-use Rattle.model.specs.Answers.{Outcome, gives, refuses, after, require, outcome, accepted, fit, fitted, circuit, usable, run, compile, circuitRead, circuitRun}
+use Rattle.model.specs.Circuit.{write, blockOf, circuitBlock}
+use Rattle.model.specs.Answers.{gives, refuses, after, require, accepted, fit, fitted, circuit, usable, run, compile, circuitRead, circuitRun}
 use Rattle.model.specs.Demand.{Demand3}
-use Rattle.model.proofs.BooleanLaws.{and-left, and-right, byEq}
-use Rattle.model.proofs.OutcomeLaws.{not-both, gives-same}
+use Rattle.model.proofs.BooleanLaws.{byEq}
 use Rattle.model.proofs.WordBits.{word-zero, word-wire, same-block}
 use Rattle.model.proofs.ReachAndRank.{Named}
-use Rattle.model.proofs.ReadingLaws.{outcome-read}
+use Rattle.model.proofs.ReadingLaws.{read-named, read-count}
+use Rattle.model.proofs.Acceptance.{accepted-exactly, compile-gives}
 use Rattle.model.proofs.RoundTrip.{circuitRead-write}
 use Rattle.agreement.proofs.Agreement.{agreement, ancillas-zero}
 use Rattle.agreement.proofs.GateBound.{gate-bound}
@@ -38,47 +37,20 @@ pub record Accepted (n : ℕ) (P : Program) : Type 0 where
   pub passes11 : anyTooWide P ≡ false
   pub passes12 : programFaults P n ≡ false
 
--- a requirement that is passed holds, and what comes behind it gives the result
-required : {A : Type 0} (b : Bool) (k : ℕ) (x : Outcome A) {a : A} → require b k x ≡ gives a → (b ≡ true) × (x ≡ gives a)
-unfolding require
-required true k x e = (refl, e)
-required false k x e = not-both e
-
--- a first outcome that was gone on from gave something
-pub record Gave {A B : Type 0} (x : Outcome A) (f : A → Outcome B) (b : B) : Type 0 where
-  pub first : A
-  pub first-is : x ≡ gives first
-  pub then-is : f first ≡ gives b
-
-gave : {A B : Type 0} (x : Outcome A) (f : A → Outcome B) {b : B} → after x f ≡ gives b → Gave x f b
-unfolding after
-gave (gives a) f e = record { first = a; first-is = refl; then-is = e }
-gave (refuses k) f e = not-both e
-
 -- what acceptance says
-accepted-facts : (table : List ℕ) (n : ℕ) (P : Program) → accepted table n ≡ gives P → Accepted n P × (count P ≤ mostProcedures)
-unfolding accepted
-accepted-facts table n P e =
-    let range = required (leb 1 n && leb n mostQubits) _ _ e in
-    let reading = gave (outcome (readTable table)) _ (range .1) in
-    let Q = reading .first in
-    let read = rw (reading .first-is) at (outcome-read table) in
-    let ten = required (not (anyLacksRemoval Q)) _ _ (reading .then-is) in
-    let eleven = required (not (anyTooWide Q)) _ _ (ten .1) in
-    let twelve = required (not (programFaults Q n)) _ _ (eleven .1) in
-    subst (λ (R : Program). Accepted n R × (count R ≤ mostProcedures)) (gives-same (twelve .1)) (record {
-      some = leb-true 1 n (and-left (leb 1 n) (leb n mostQubits) (range .0));
-      few = leb-true n mostQubits (and-right (leb 1 n) (leb n mostQubits) (range .0));
-      named = read .0;
-      passes10 = not-true (anyLacksRemoval Q) (ten .0);
-      passes11 = not-true (anyTooWide Q) (eleven .0);
-      passes12 = not-true (programFaults Q n) (twelve .0) }, read .1)
-
 pub accepted-is : (table : List ℕ) (n : ℕ) (P : Program) → accepted table n ≡ gives P → Accepted n P
-accepted-is table n P e = accepted-facts table n P e .0
+accepted-is table n P e =
+    let passes = accepted-exactly table n P .0 e in
+    record {
+      some = passes .some;
+      few = passes .few;
+      named = read-named table (passes .reads);
+      passes10 = passes .passes10;
+      passes11 = passes .passes11;
+      passes12 = passes .passes12 }
 
 pub accepted-few : (table : List ℕ) (n : ℕ) (P : Program) → accepted table n ≡ gives P → count P ≤ mostProcedures
-accepted-few table n P e = accepted-facts table n P e .1
+accepted-few table n P e = read-count table (accepted-exactly table n P .0 e .reads)
 
 -- the data wires end as the run leaves them and every other wire at zero
 circuit-ends : (n : ℕ) (P : Program) → Accepted n P → (word : ℕ) → word < 2 ^ n → circuitBlock (circuit P n) word ≡ blockOf (stateOf (endWord P n word))
@@ -94,12 +66,6 @@ run-ends : (n : ℕ) (P : Program) → Accepted n P → (bytes : List ℕ) → c
     circuitRun bytes word ≡ gives (record { dataWires = n; ancillas = peak [] (emission P n); bits = blockOf (stateOf (endWord P n word)) })
 unfolding circuitRun after require circuit
 run-ends n P a bytes reads word h = rw (reads, lt-ltb word (2 ^ n) h, circuit-ends n P a word h)
-
--- 0 from `fit` is a circuit
-fitted-is : (k : ℕ) (c : Circuit) {bytes : List ℕ} → fitted k c ≡ gives bytes → (k ≡ 0) × (bytes ≡ write c)
-unfolding fitted
-fitted-is zero c e = (refl, sym (gives-same e))
-fitted-is (suc k) c e = not-both e
 
 -- run answers the end word of an accepted table
 run-answers : (table : List ℕ) (n : ℕ) (P : Program) → accepted table n ≡ gives P → (word workspace : ℕ) → word < 2 ^ n → leastWorkspace ≤ workspace →
@@ -131,16 +97,11 @@ module _ (table : List ℕ) (n room : ℕ) (P : Program) (accepts : accepted tab
 -- Demand 3, for every table that compile gives a circuit of; and the circuit has its place in the room.
 pub compile-promises : (table : List ℕ) (n room workspace : ℕ) {bytes : List ℕ} → compile table n room workspace ≡ gives bytes →
     Demand3 table n bytes × (length bytes ≤ room)
-unfolding compile
 compile-promises table n room workspace e =
-    let acceptance = gave (accepted table n) _ e in
-    let P = acceptance .first in
-    let space = required (leb leastWorkspace workspace) _ _ (acceptance .then-is) in
-    let header = required (leb headerLength (usable room)) _ _ (space .1) in
-    let enough = leb-true headerLength (usable room) (header .0) in
-    let fits = fitted-is (fit (usable room) headerLength (emission P n)) (circuit P n) (header .1) in
-    subst (λ (bs : List ℕ). Demand3 table n bs × (length bs ≤ room)) (sym (fits .1))
-      (promised table n room P (acceptance .first-is) enough (fits .0), good table n room P (acceptance .first-is) enough (fits .0) .in-room)
+    let given = compile-gives table n room workspace e in
+    let c = given .0 in
+    subst (λ (bs : List ℕ). Demand3 table n bs × (length bs ≤ room)) (sym (given .1))
+      (promised table n room (c .program) (c .accepts) (c .header) (c .fits), good table n room (c .program) (c .accepts) (c .header) (c .fits) .in-room)
 
 -- Refusals 22 and 23, for an accepted table and a workspace that is long enough: a room without place for the header, or the first step that does not fit
 module _ (table : List ℕ) (n room workspace : ℕ) (P : Program) (accepts : accepted table n ≡ gives P) (space : leastWorkspace ≤ workspace) where

@@ -1,3 +1,2 @@
-pub mod RefusalNumbers
 pub mod PassLaws
 pub mod CompileAnswer

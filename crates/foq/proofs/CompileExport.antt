@@ -8,6 +8,7 @@ use lib.ListN.{length, take, drop}
 use lib.Seq.{take-append-seam}
 use Rattle.model.specs.Answers.{Outcome, gives, refuses, after, number, valueOr, compile, roomAfter}
 use Rattle.model.specs.Demand.{Demand3}
+use Rattle.model.proofs.Acceptance.{Refusal, compile-numbered}
 use Rattle.agreement.proofs.CompilePromise.{compile-promises}
 use Rattle.answers.specs.declared.Answer.{Answer}
 use Rattle.answers.specs.Structs.{answerOf, lengthAnswer, Delivered}
@@ -15,7 +16,6 @@ use Rattle.compile.specs.declared.Compiled.{Compiled}
 use Rattle.compile.specs.Passes.{compiledOf}
 use Rattle.compile.specs.AnswerAndRoom.{answered, answeredOf}
 use Rattle.compile.proofs.CompileAnswer.{answer-halves}
-use Rattle.compile.proofs.RefusalNumbers.{Refusal, compile-numbered}
 
 -- what is exported of an answer
 abbrev exported : Compiled → Answer

@@ -1,6 +1,6 @@
 -- Sizes of what the code keeps. Document 01 names none of them; each follows from its limits.
 use Prim.Native.Nat.{ℕ, _+_, _-_, _*_, _^_}
-use Rattle.model.specs.Limits.{mostProcedures, mostRecords, mostDepth, mostRemovals, mostQubits, mostWires, blockLength}
+use Rattle.model.specs.Limits.{mostProcedures, mostRecords, mostDepth, mostQubits, mostWires, blockLength}
 
 -- the bodies of a table: main and each procedure
 abbrev pub bodyCount : ℕ
@@ -28,10 +28,6 @@ rootsAt = endsAt + endsAt
 
 abbrev pub indexLength : ℕ
 indexLength = rootsAt + bodyCount
-
--- the bytes of the longest record: map and kind, the most removals, and a number; a number has three bytes
-abbrev pub longestRecord : ℕ
-longestRecord = 2 + (1 + 3 * mostRemovals) + 3
 
 -- a place in a table is kept in 16 bits: reading comes to none past them
 abbrev pub placeCount : ℕ

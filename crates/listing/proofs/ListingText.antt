@@ -1,28 +1,34 @@
 -- The ways out of the functions of the listing program.
 use mathlib.Core.Path.{_≡_, refl, sym, ap, _∙_}
 use mathlib.Core.List.{List, [], _∷_, _++_}
-use Prim.Native.Nat.{ℕ, suc, _-_, _≤_}
+use Prim.Native.Nat.{ℕ, suc, _-_, _≤_, _<_}
 use native.Mathlib.Omega.{arith}
 use borrow.Author.Needs.{needs}
 use lib.ListN.{length, getD, take, drop, length-append}
 use lib.Seq.{take-all, take-append-seam, length-take-le}
+use Rattle.model.specs.Limits.{mostCircuit, leastWorkspace}
 use Rattle.model.specs.Answers.{Outcome, gives, refuses, after, number, valueOr, compile, roomAfter, circuitRead}
 use Rattle.model.specs.Listing.{listed, listingOf, listing}
+use Rattle.model.proofs.Acceptance.{Numbered, compile-numbered}
 use Rattle.compile.specs.declared.Compiled.{Compiled}
 use Rattle.compile.specs.Passes.{compiledOf}
 use Rattle.compile.specs.AnswerAndRoom.{answered, answeredOf}
 use Rattle.compile.proofs.CompileAnswer.{answer-halves}
-use Rattle.compile.proofs.RefusalNumbers.{Numbered, compile-numbered}
 use Rattle.io.specs.Counts.{Counts}
 use Rattle.lines.specs.AppendedBytes.{written, puts}
 use Rattle.lines.proofs.AppendLaws.{puts-whole}
-use Rattle.listing.proofs.ListingLength.{listing-fits}
+use Rattle.listing.specs.Inputs.{BeginsWith}
+use Rattle.listing.proofs.InputPrefix.{mostInput, listing-read}
+use Rattle.listing.proofs.ListingLength.{mostText, listing-fits}
 
 -- as many bytes of an array as are asked for
 pub front-length : (l : List ℕ) (k most : ℕ) → length l ≡ most → k ≤ most → length (take k l) ≡ k
 front-length l k most e h = length-take-le k l (omega arith)
 
-pub ruleset fronts = (needs, front-length)
+pub front-below : (l : List ℕ) (k most : ℕ) → length l ≡ most → k < most → length (take k l) ≡ k
+front-below l k most e h = length-take-le k l (omega arith)
+
+pub ruleset fronts = (needs, front-length, front-below)
 
 -- bytes that a room begins with
 front-is : (bytes rest room : List ℕ) (k : ℕ) → k ≡ length bytes → room ≡ bytes ++ rest → take k room ≡ bytes
@@ -31,9 +37,9 @@ front-is bytes rest room k e f = rw (e, f) (take-append-seam bytes rest)
 -- the ways out of `list_table`, by what compile answered
 module _ (bs room ws : List ℕ) (n : ℕ) (r : Compiled) (room₁ : List ℕ)
     (is : answered r room₁ ≡ answeredOf (compile bs n (length room) (length ws)) room)
-    (long : length room ≡ 65536) (enough : length ws ≡ 32768) where
+    (long : length room ≡ mostCircuit) (enough : length ws ≡ leastWorkspace) where
   abbrev o : Outcome (List ℕ)
-  o = compile bs n 65536 32768
+  o = compile bs n mostCircuit leastWorkspace
 
   answer : (r ≡ compiledOf o) × (room₁ ≡ roomAfter o room)
   answer = let e : answered r room₁ ≡ answeredOf o room = rw (long, enough) at is in answer-halves o room e
@@ -52,14 +58,14 @@ module _ (bs room ws : List ℕ) (n : ℕ) (r : Compiled) (room₁ : List ℕ)
   module _ (none : r .number ≡ 0) where
     holds : (bytes : List ℕ) × (o ≡ gives bytes) × (r .length ≡ length bytes) × (room₁ ≡ bytes ++ drop (length bytes) room)
     unfolding number valueOr roomAfter
-    holds = go o refl (compile-numbered bs n 65536 32768) (answer .0) (answer .1)
+    holds = go o refl (compile-numbered bs n mostCircuit leastWorkspace) (answer .0) (answer .1)
       where
         go : (x : Outcome (List ℕ)) → o ≡ x → Numbered x → r ≡ compiledOf x → room₁ ≡ roomAfter x room →
             (bytes : List ℕ) × (o ≡ gives bytes) × (r .length ≡ length bytes) × (room₁ ≡ bytes ++ drop (length bytes) room)
         go (gives bytes) q k e f = (bytes, q, ap (λ (y : Compiled). y .length) e, f)
         go (refuses k) q refusal e f = let some = refusal .0 in let same : r .number ≡ k = ap (λ (y : Compiled). y .number) e in absurd (omega arith)
 
-    pub table-room : length room₁ ≡ length room → r .length ≤ 65536
+    pub table-room : length room₁ ≡ length room → r .length ≤ mostCircuit
     table-room same =
         let h = holds in
         let e = ap length (h .3) ∙ length-append (h .0) (drop (length (h .0)) room) in
@@ -98,7 +104,7 @@ module _ (input text end : List ℕ) (last : ℕ) where
 pub ruleset inputs = (needs, input-none, input-some)
 
 -- what `list` leaves: the text takes the whole listing
-module _ (input text end : List ℕ) (r : ℕ) (p : written end r ≡ puts (listing input) text 0) (long : length text ≡ 393216) where
+module _ (input text end : List ℕ) (r : ℕ) (p : written end r ≡ puts (listing input) text 0) (long : length text ≡ mostText) where
   whole : written end r ≡ written (listing input ++ drop (length (listing input)) text) (length (listing input))
   whole = let few = listing-fits input in p ∙ puts-whole (listing input) text (omega arith)
 
@@ -115,3 +121,24 @@ module _ (input text end : List ℕ) (r : ℕ) (p : written end r ≡ puts (list
       (omega arith, sym (length-take-le r end (omega arith)))
 
 pub ruleset lists = (needs, list-count, list-text, list-counts)
+
+-- the ways out of `list_read`, whose buffer takes all that is ever looked at: the bytes that were read, or the whole buffer where the count is past it
+module _ (buffer text end : List ℕ) (count r : ℕ) (enough : mostInput ≤ length buffer) where
+  pub part-count : r ≡ length (listing (take count buffer)) → (whole : List ℕ) → BeginsWith whole buffer count → r ≡ length (listing whole)
+  part-count e whole h = e ∙ ap length (listing-read whole buffer count enough h)
+
+  pub part-text : end ≡ listing (take count buffer) ++ drop r text → (whole : List ℕ) → BeginsWith whole buffer count →
+      end ≡ listing whole ++ drop r text
+  part-text e whole h = e ∙ ap (λ (bs : List ℕ). bs ++ drop r text) (listing-read whole buffer count enough h)
+
+  module _ (most : ℕ) (long : length buffer ≡ most) (past : most ≤ count) where
+    all : buffer ≡ take count buffer
+    all = sym (take-all count buffer (omega arith))
+
+    pub all-count : r ≡ length (listing buffer) → (whole : List ℕ) → BeginsWith whole buffer count → r ≡ length (listing whole)
+    all-count e = part-count (e ∙ ap (λ (bs : List ℕ). length (listing bs)) all)
+
+    pub all-text : end ≡ listing buffer ++ drop r text → (whole : List ℕ) → BeginsWith whole buffer count → end ≡ listing whole ++ drop r text
+    all-text e = part-text (e ∙ ap (λ (bs : List ℕ). listing bs ++ drop r text) all)
+
+pub ruleset reads = (needs, part-count, part-text, all-count, all-text)

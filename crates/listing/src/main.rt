@@ -1,32 +1,47 @@
-// The listing program: "reads the byte n and then a table on standard input", and prints the table's circuit, or the refusal's number.
+// The listing program: "reads the byte n and then a table on standard input", and prints the table's circuit, or the refusal's number. Where
+// files are named as arguments it does the same with each of them in turn; `-` names standard input.
 ghost use mathlib.Core.Path.{_≡_};
-ghost use mathlib.Core.List.{_++_};
-ghost use Prim.Native.Nat.{_≤_};
+ghost use mathlib.Core.List.{List, _++_};
+ghost use Prim.Native.Nat.{ℕ, _≤_};
 ghost use lib.ListN.{length, take, drop};
+ghost use Rattle.model.specs.Limits.{mostCircuit};
 ghost use Rattle.model.specs.Answers.{circuitRead};
 ghost use Rattle.model.specs.Listing.{listed, listingOf, listing};
 ghost use Rattle.io.specs.Counts.{Counts};
 ghost use Rattle.lines.specs.AppendedBytes.{written, puts};
+ghost use Rattle.listing.specs.Inputs.{BeginsWith};
 use compile::compile;
+use libc::STDIN_FILENO;
+use libc::STDOUT_FILENO;
+use limits::{LEAST_WORKSPACE, MOST_CIRCUIT, MOST_RECORDS, MOST_REMOVALS};
 use lines::list_circuit;
 use lines::refusal_line;
 
+// A line has at most six bytes for each byte of its gate, so no listing is longer than this.
+const TEXT_LENGTH: usize = 6 * MOST_CIRCUIT;
+
+// The longest record: map, kind, removals behind their count, and number a; a number has three bytes.
+const RECORD_LENGTH: usize = 2 + 1 + 3 * MOST_REMOVALS as usize + 3;
+
+// As much of an input as is ever looked at: n, edition and p, the longest records, and map and kind of one too many.
+const INPUT_LENGTH: usize = 1 + 2 + RECORD_LENGTH * MOST_RECORDS + 2;
+
 // The listing of the circuit in a room's first bytes.
-fn list_room(text: &mut [u8], room: &[u8; 65536], used: usize) -> usize
-    requires { ⌜ used ≤ 65536 ⌝ }
+fn list_room(text: &mut [u8], room: &[u8; MOST_CIRCUIT], used: usize) -> usize
+    requires { ⌜ used ≤ mostCircuit ⌝ }
     ensures { λ r. ⌜ written (now (text .exit)) r ≡ puts (listed (circuitRead (take used (now (room .entry))))) (now (text .entry)) 0 ⌝ }
 {
     let bytes = &room[..];
     list_circuit(text, 0, &bytes[..used])
 }
 
-// The circuit that compile writes into a room of 65,536 bytes, line by line. "A refusal prints its number alone."
+// The circuit that compile writes into the room, line by line. "A refusal prints its number alone."
 fn list_table(
     text: &mut [u8],
     n: u8,
     table: &[u8],
-    room: &mut [u8; 65536],
-    workspace: &mut [u8; 32768],
+    room: &mut [u8; MOST_CIRCUIT],
+    workspace: &mut [u8; LEAST_WORKSPACE],
 ) -> usize
     ensures { λ r. ⌜ written (now (text .exit)) r ≡ puts (listingOf n (now (table .entry))) (now (text .entry)) 0 ⌝ }
 {
@@ -41,16 +56,16 @@ fn list_table(
 fn list_input(text: &mut [u8], input: &[u8]) -> usize
     ensures { λ r. ⌜ written (now (text .exit)) r ≡ puts (listing (now (input .entry))) (now (text .entry)) 0 ⌝ }
 {
-    let mut room = [0u8; 65536];
-    let mut workspace = [0u8; 32768];
+    let mut room = [0u8; MOST_CIRCUIT];
+    let mut workspace = [0u8; LEAST_WORKSPACE];
     if input.len() == 0 {
         return list_table(text, 0, input, &mut room, &mut workspace);
     }
     list_table(text, input[0], &input[1..], &mut room, &mut workspace)
 }
 
-// All that the program writes. A line has at most six bytes for each byte of its gate, so no listing is longer than the text.
-fn list(text: &mut [u8; 393216], input: &[u8]) -> usize
+// The text of an input, which is long enough for every listing.
+fn list(text: &mut [u8; TEXT_LENGTH], input: &[u8]) -> usize
     ensures { λ r. ⌜ r ≡ length (listing (now (input .entry))) ⌝ }
     ensures { λ r. ⌜ now (text .exit) ≡ listing (now (input .entry)) ++ drop r (now (text .entry)) ⌝ }
     ensures { λ r. ⌜ Counts r (now (text .exit)) ⌝ }
@@ -58,11 +73,61 @@ fn list(text: &mut [u8; 393216], input: &[u8]) -> usize
     list_input(&mut text[..], input)
 }
 
-// Of a longer input nothing but the first 7,655 bytes counts: n, and as much of a table as is ever looked at.
+// All that the program writes for an input, of which it read as much as the buffer takes: the buffer is long enough, whatever was left unread.
+fn list_read(text: &mut [u8; TEXT_LENGTH], buffer: &[u8; INPUT_LENGTH], count: usize) -> usize
+    ensures { λ r. ⌜ ((whole : List ℕ) → BeginsWith whole (now (buffer .entry)) count → r ≡ length (listing whole)) ⌝ }
+    ensures { λ r. ⌜ ((whole : List ℕ) → BeginsWith whole (now (buffer .entry)) count →
+        now (text .exit) ≡ listing whole ++ drop r (now (text .entry))) ⌝ }
+    ensures { λ r. ⌜ Counts r (now (text .exit)) ⌝ }
+{
+    let bytes = &buffer[..];
+    if count < INPUT_LENGTH {
+        return list(text, &bytes[..count]);
+    }
+    list(text, bytes)
+}
+
+// What can be read from a descriptor, listed.
+fn list_descriptor(fd: i32) {
+    let mut buffer = [0u8; INPUT_LENGTH];
+    let mut text = [0u8; TEXT_LENGTH];
+    let count = io::read_full(fd, &mut buffer);
+    let length = list_read(&mut text, &buffer, count);
+    io::write_all(STDOUT_FILENO, &text[..length]);
+}
+
+fn list_file(name: &[u8]) {
+    let fd = os::open_read(name);
+    if fd < 0 {
+        os::fail(name);
+        return;
+    }
+    list_descriptor(fd);
+    libc::close(fd);
+}
+
+fn is_hyphen(name: &[u8]) -> bool {
+    if name.len() != 1 {
+        return false;
+    }
+    name[0] == b'-'
+}
+
+fn list_argument(i: usize) {
+    let mut name = [0u8; libc::PATH_MAX];
+    let length = os::arg(i, &mut name);
+    if is_hyphen(&name[..length]) {
+        list_descriptor(STDIN_FILENO);
+        return;
+    }
+    list_file(&name[..length]);
+}
+
 fn main() {
-    let mut input = [0u8; 7655];
-    let mut text = [0u8; 393216];
-    let count = io::read_full(libc::STDIN_FILENO, &mut input);
-    let length = list(&mut text, &input[..count]);
-    io::write_all(libc::STDOUT_FILENO, &text[..length]);
+    if os::arg_count() < 2 {
+        list_descriptor(STDIN_FILENO);
+    }
+    for i in 1..os::arg_count() {
+        list_argument(i);
+    }
 }

@@ -10,6 +10,7 @@ pub mod EnoughFuel
 pub mod Figure2
 pub mod Figure3
 pub mod ReadingLaws
+pub mod Acceptance
 pub mod RoundTrip
 pub mod DecimalDigits
 pub mod WorkedPrograms

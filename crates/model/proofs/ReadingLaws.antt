@@ -10,7 +10,7 @@ use lib.ListN.{length, getD, length-append}
 use lib.Dec.{eqb, ltb, leb, lit≤}
 use Rattle.model.specs.Limits.{tableEdition, mostProcedures, mostRecords, mostDepth, mostRemovals}
 use Rattle.model.specs.Limits.{tableStops, wrongEdition, manyProcedures, wrongMap, wrongField, tooDeep, bytesLeft}
-use Rattle.model.specs.Syntax.{Condition, conjunction, disjunction, Statement, skip, sequence, if, qcase, Program, count}
+use Rattle.model.specs.Syntax.{Number, Condition, conjunction, disjunction, Statement, skip, sequence, if, qcase, Program, count}
 use Rattle.model.specs.Reading.{Input, Parsed, parsed, refused, andThen, provided, byteOf, byte, number, numbers, removals, procedure}
 use Rattle.model.specs.Reading.{StatementKind, skips, nots, sequences, ifs, qcases, statementKind}
 use Rattle.model.specs.Reading.{ConditionKind, greaters, atLeasts, equals, ands, ors, negations, conditionKind}
@@ -305,17 +305,37 @@ abbrev pub valued : Bool → ℕ → ℕ
 valued true v = v
 valued false v = 0
 
+-- "A number is a base byte and a signed 16-bit constant"
+abbrev pub numberLength : ℕ
+numberLength = 3
+
+-- "removals: a count byte 1 to 8, then that many numbers"
+abbrev pub longestRemovals : ℕ
+longestRemovals = 1 + numberLength * mostRemovals
+
+-- a NOT or a qcase: map, kind, removals and number a
+abbrev pub longestRecord : ℕ
+longestRecord = 2 + longestRemovals + numberLength
+
+-- edition, p and all records
+abbrev pub longestTable : ℕ
+longestTable = 2 + longestRecord * mostRecords
+
+-- no more of a table is ever looked at: map and kind of one record too many
+abbrev pub lookedAt : ℕ
+lookedAt = longestTable + 2
+
 -- at most c bytes were read, and no record
 abbrev Spent : {A : Type 0} → ℕ → Input → A → Input → Type 0
 Spent c i a j = (length (i .bytes) ≤ length (j .bytes) + c) × (j .records ≡ i .records)
 
 -- what is left is enough for all records that may still come, and for the map and kind of one more
 abbrev Enough : Input → Type 0
-Enough i = (i .records ≤ mostRecords) × (2 + 30 * mostRecords ≤ length (i .bytes) + 30 * i .records)
+Enough i = (i .records ≤ mostRecords) × (2 + longestRecord * mostRecords ≤ length (i .bytes) + longestRecord * i .records)
 
 -- behind the map and the kind of a record
 abbrev Opened : Input → Type 0
-Opened i = (i .records ≤ mostRecords) × (30 * mostRecords ≤ length (i .bytes) + 30 * i .records)
+Opened i = (i .records ≤ mostRecords) × (longestRecord * mostRecords ≤ length (i .bytes) + longestRecord * i .records)
 
 -- what is left behind a tree is enough
 abbrev Leaves : {A : Type 0} → A → Input → Type 0
@@ -323,10 +343,13 @@ Leaves a i = Enough i
 
 -- how many bytes the fields of a map take at most
 abbrev cost : ℕ → ℕ
-cost map = valued (stands 0 map) 25 + valued (stands 1 map) 3 + valued (stands 2 map) 3 + valued (stands 3 map) 1
+cost map = valued (stands 0 map) longestRemovals + valued (stands 1 map) numberLength + valued (stands 2 map) numberLength + valued (stands 3 map) 1
 
--- the fields of a permitted map take at most 28
-kind-cost : (kind : ℕ) → (cost (requiredMap kind) ≤ 28) × (cost (requiredMap kind + optionalMap kind) ≤ 28)
+-- with map and kind, those of a permitted map make no longer record than the longest
+abbrev Short : ℕ → Type 0
+Short map = 2 + cost map ≤ longestRecord
+
+kind-cost : (kind : ℕ) → Short (requiredMap kind) × Short (requiredMap kind + optionalMap kind)
 kind-cost zero = (lit≤ tt, lit≤ tt)
 kind-cost (suc zero) = (lit≤ tt, lit≤ tt)
 kind-cost (suc (suc zero)) = (lit≤ tt, lit≤ tt)
@@ -341,12 +364,12 @@ kind-cost (suc (suc (suc (suc (suc (suc (suc (suc (suc (suc zero)))))))))) = (li
 kind-cost (suc (suc (suc (suc (suc (suc (suc (suc (suc (suc (suc zero))))))))))) = (lit≤ tt, lit≤ tt)
 kind-cost (suc (suc (suc (suc (suc (suc (suc (suc (suc (suc (suc (suc kind)))))))))))) = (lit≤ tt, lit≤ tt)
 
-permitted-cost : (kind map : ℕ) → permitted kind map ≡ true → cost map ≤ 28
+permitted-cost : (kind map : ℕ) → permitted kind map ≡ true → Short map
 permitted-cost kind map ok =
     let required = requiredMap kind in let extra = optionalMap kind in
     or-cases (eqb map required) (eqb map (required + extra)) ok
-    (λ e. subst (λ (m : ℕ). cost m ≤ 28) (sym (eqb-true map required e)) (kind-cost kind .0))
-    (λ e. subst (λ (m : ℕ). cost m ≤ 28) (sym (eqb-true map (required + extra) e)) (kind-cost kind .1))
+    (λ e. subst Short (sym (eqb-true map required e)) (kind-cost kind .0))
+    (λ e. subst Short (sym (eqb-true map (required + extra) e)) (kind-cost kind .1))
 
 module _ (more : List ℕ) where
   -- more bytes behind all
@@ -390,26 +413,27 @@ module _ (more : List ℕ) where
       go [] room = absurd (omega arith)
       go (b ∷ bs) room = record { same = refl; holds = (refl, refl) }
 
-  same-number : (i : Input) → 3 ≤ length (i .bytes) → Same (Spent 3 i) (number i) (number (longer i))
+  same-number : (i : Input) → numberLength ≤ length (i .bytes) → Same (Spent numberLength i) (number i) (number (longer i))
   unfolding number
-  same-number i room = same-byte (Spent 3 i) i _ (omega arith) (λ base j e₁ r₁. same-provided (Spent 3 i) (leb base 1) wrongField _ _ (λ ok.
-      same-byte (Spent 3 i) j _ (omega arith) (λ low k e₂ r₂. same-byte (Spent 3 i) k _ (omega arith) (λ high l e₃ r₃.
+  same-number i room = let Q : Number → Input → Type 0 = Spent numberLength i in
+      same-byte Q i _ (omega arith) (λ base j e₁ r₁. same-provided Q (leb base 1) wrongField _ _ (λ ok.
+      same-byte Q j _ (omega arith) (λ low k e₂ r₂. same-byte Q k _ (omega arith) (λ high l e₃ r₃.
       record { same = refl; holds = (omega arith, omega arith) }))))
 
-  same-numbers : (n : ℕ) (i : Input) → 3 * n ≤ length (i .bytes) → Same (Spent (3 * n) i) (numbers n i) (numbers n (longer i))
+  same-numbers : (n : ℕ) (i : Input) → numberLength * n ≤ length (i .bytes) → Same (Spent (numberLength * n) i) (numbers n i) (numbers n (longer i))
   unfolding numbers
   same-numbers zero i room = record { same = refl; holds = (omega arith, refl) }
-  same-numbers (suc n) i room = let Q = Spent (3 * suc n) i in
-      same-then (Spent 3 i) Q (number i) (number (longer i)) _ (same-number i (omega arith)) (λ x j q.
-      same-then (Spent (3 * n) j) Q (numbers n j) (numbers n (longer j)) _ (same-numbers n j (omega (arith, q .0))) (λ xs k r.
+  same-numbers (suc n) i room = let Q = Spent (numberLength * suc n) i in
+      same-then (Spent numberLength i) Q (number i) (number (longer i)) _ (same-number i (omega arith)) (λ x j q.
+      same-then (Spent (numberLength * n) j) Q (numbers n j) (numbers n (longer j)) _ (same-numbers n j (omega (arith, q .0))) (λ xs k r.
       record { same = refl; holds = (omega (arith, q .0, r .0), r .1 ∙ q .1) }))
 
-  same-removals : (i : Input) → 25 ≤ length (i .bytes) → Same (Spent 25 i) (removals i) (removals (longer i))
+  same-removals : (i : Input) → longestRemovals ≤ length (i .bytes) → Same (Spent longestRemovals i) (removals i) (removals (longer i))
   unfolding removals
-  same-removals i room = same-byte (Spent 25 i) i _ (omega arith) (λ n j e₁ r₁.
-      same-provided (Spent 25 i) (leb 1 n && leb n mostRemovals) wrongField _ _ (λ ok.
+  same-removals i room = let Q : List Number → Input → Type 0 = Spent longestRemovals i in
+      same-byte Q i _ (omega arith) (λ n j e₁ r₁. same-provided Q (leb 1 n && leb n mostRemovals) wrongField _ _ (λ ok.
       let few : n ≤ mostRemovals = leb-true n mostRemovals (and-right (leb 1 n) (leb n mostRemovals) ok) in
-      same-less (Spent (3 * n) j) (Spent 25 i) (numbers n j) _ (λ xs k q. (omega (arith, q .0), q .1 ∙ r₁)) (same-numbers n j (omega arith))))
+      same-less (Spent (numberLength * n) j) Q (numbers n j) _ (λ xs k q. (omega (arith, q .0), q .1 ∙ r₁)) (same-numbers n j (omega arith))))
 
   same-procedure : (p : ℕ) (i : Input) → 1 ≤ length (i .bytes) → Same (Spent 1 i) (procedure p i) (procedure p (longer i))
   unfolding procedure
@@ -428,10 +452,11 @@ module _ (more : List ℕ) where
   unfolding fields
   same-fields p map i room =
       let Q : Fields → Input → Type 0 = Spent (cost map) i in
-      let c₀ = valued (stands 0 map) 25 in let c₁ = valued (stands 1 map) 3 in let c₂ = valued (stands 2 map) 3 in let c₃ = valued (stands 3 map) 1 in
-      same-then (Spent c₀ i) Q _ _ _ (same-optional 25 (stands 0 map) removals [] i (same-removals i) (omega arith)) (λ rs j q₀.
-      same-then (Spent c₁ j) Q _ _ _ (same-optional 3 (stands 1 map) number _ j (same-number j) (omega (arith, q₀ .0))) (λ a k q₁.
-      same-then (Spent c₂ k) Q _ _ _ (same-optional 3 (stands 2 map) number _ k (same-number k) (omega (arith, q₀ .0, q₁ .0))) (λ b l q₂.
+      let c₀ = valued (stands 0 map) longestRemovals in let c₁ = valued (stands 1 map) numberLength in
+      let c₂ = valued (stands 2 map) numberLength in let c₃ = valued (stands 3 map) 1 in
+      same-then (Spent c₀ i) Q _ _ _ (same-optional longestRemovals (stands 0 map) removals [] i (same-removals i) (omega arith)) (λ rs j q₀.
+      same-then (Spent c₁ j) Q _ _ _ (same-optional numberLength (stands 1 map) number _ j (same-number j) (omega (arith, q₀ .0))) (λ a k q₁.
+      same-then (Spent c₂ k) Q _ _ _ (same-optional numberLength (stands 2 map) number _ k (same-number k) (omega (arith, q₀ .0, q₁ .0))) (λ b l q₂.
       same-then (Spent c₃ l) Q _ _ _
         (same-optional 1 (stands 3 map) (procedure p) 0 l (same-procedure p l) (omega (arith, q₀ .0, q₁ .0, q₂ .0))) (λ f m q₃.
       record { same = refl; holds = (omega (arith, q₀ .0, q₁ .0, q₂ .0, q₃ .0), q₃ .1 ∙ q₂ .1 ∙ q₁ .1 ∙ q₀ .1) }))))
@@ -441,7 +466,8 @@ module _ (more : List ℕ) where
       Same Q (opening sort i f) (opening sort (longer i) f)
   unfolding opening known
   same-opening {K} {A} Q sort i f enough h =
-      let few : i .records ≤ mostRecords = enough .0 in let long : 2 + 30 * mostRecords ≤ length (i .bytes) + 30 * i .records = enough .1 in
+      let few : i .records ≤ mostRecords = enough .0 in
+      let long : 2 + longestRecord * mostRecords ≤ length (i .bytes) + longestRecord * i .records = enough .1 in
       same-byte Q i _ (omega arith) (λ map j e₁ r₁. same-byte Q j _ (omega arith) (λ kind k e₂ r₂.
       go map kind k (omega arith) (sort kind)))
     where
@@ -456,8 +482,8 @@ module _ (more : List ℕ) where
   same-contents Q p map kind i f opened h =
       same-provided Q (ltb (i .records) mostRecords) tooDeep _ _ (λ fewer. same-provided Q (permitted kind map) wrongMap _ _ (λ ok.
       let less : i .records < mostRecords = ltb-true (i .records) mostRecords fewer in
-      let long : 30 * mostRecords ≤ length (i .bytes) + 30 * i .records = opened .1 in
-      let cheap : cost map ≤ 28 = permitted-cost kind map ok in
+      let long : longestRecord * mostRecords ≤ length (i .bytes) + longestRecord * i .records = opened .1 in
+      let short : Short map = permitted-cost kind map ok in
       same-then (Spent (cost map) (counted i)) Q _ _ f (same-fields p map (counted i) (omega arith)) (λ fs j q.
       h fs j (omega (arith, q .0, q .1)))))
 
@@ -514,7 +540,8 @@ module _ (more : List ℕ) where
   unfolding trees provided
   same-trees p i enough = same-then Leaves (λ P j. ⊥) (statement p mostDepth i) _ _ (same-statement p mostDepth i enough) (λ s j q.
       same-then Leaves (λ P j. ⊥) (statements p p j) _ _ (same-statements p p j q) (λ ss k r.
-      let few : k .records ≤ mostRecords = r .0 in let long : 2 + 30 * mostRecords ≤ length (k .bytes) + 30 * k .records = r .1 in
+      let few : k .records ≤ mostRecords = r .0 in
+      let long : 2 + longestRecord * mostRecords ≤ length (k .bytes) + longestRecord * k .records = r .1 in
       let both = length-append (k .bytes) more in
       rw (ne-eqb (length (k .bytes)) 0 (omega arith), ne-eqb (length (k .bytes ++ more)) 0 (omega arith))
       (record { same = refl; holds = tt })))
@@ -523,9 +550,8 @@ module _ (more : List ℕ) where
   refused-alike (parsed a i) y h = absurd (h .holds)
   refused-alike (refused k) y h = (k, refl, h .same)
 
--- header, 255 records of at most 30 bytes, map and kind of one more: 7,654 bytes. A table as long as that is refused,
--- with the same number whatever follows it.
-pub read-long : (bs more : List ℕ) → 2 + (2 + 30 * mostRecords) ≤ length bs →
+-- A table of 7,654 bytes or more is refused, with the same number whatever follows those bytes.
+pub read-long : (bs more : List ℕ) → lookedAt ≤ length bs →
     (k : ℕ) × (readTable bs ≡ refused k) × (readTable (bs ++ more) ≡ refused k)
 unfolding readTable
 read-long [] more h = absurd (omega arith)

@@ -1,4 +1,4 @@
--- Laws of the readers of fields, turned as the code's needs are: how a field is followed by the next, and how tests decide. Assumes nothing.
+-- Laws of the readers of fields, turned as the code's needs are: how a field is followed by the next, and how tests decide.
 use mathlib.Core.Path.{_≡_, refl, sym, ap, _∙_, subst}
 use mathlib.Core.Bool.{Bool, true, false, cond, _&&_, _||_}
 use mathlib.Core.List.{List, [], _∷_}

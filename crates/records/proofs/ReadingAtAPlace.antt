@@ -1,4 +1,4 @@
--- Reading at a place of the table is the model's reading of the bytes from that place on, and gives the record that is written there. Assumes nothing.
+-- Reading at a place of the table is the model's reading of the bytes from that place on, and gives the record that is written there.
 use Prim.Native.Nat.{ℕ, zero, suc, _+_, _*_, _≤_, _<_}
 use native.Mathlib.Numerals.{add-one}
 use native.Mathlib.Omega.{arith}

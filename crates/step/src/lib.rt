@@ -174,7 +174,7 @@ pub fn subtree_end(index: &[u16], i: usize) -> usize
 }
 
 // The first child of record i, where it has one: the next record. Past the end of the index all numbers are alike.
-fn next(index: &[u16], i: usize) -> usize
+fn first_child(index: &[u16], i: usize) -> usize
     ensures { λ r. ⌜ r ≡ firstChild (now (index .entry)) i ⌝ }
 {
     if i < index.len() { i + 1 } else { i }
@@ -185,7 +185,7 @@ pub fn step_at(table: &[u8], index: &[u16], p: u8, i: usize, list: Qubits) -> St
     ensures { λ r. ⌜ r ≡ stepAt p (now (table .entry)) (now (index .entry)) i (qubitsOf list) ⌝ }
 {
     let n = size(list);
-    let first = next(index, i);
+    let first = first_child(index, i);
     let second = subtree_end(index, first);
     let found = record_at(table, start(index, i), p);
     match found {

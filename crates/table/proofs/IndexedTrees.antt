@@ -10,7 +10,7 @@ use mathlib.Core.Option.{Option, none, some}
 use borrow.Author.Tests.{lt-ltb, le-ltb, le-leb, lt-leb, ltb-true, ltb-false}
 use lib.Dec.{ltb}
 use lib.ListN.{length, getElem?}
-use Rattle.limits.specs.Sizes.{longestRecord, endsAt, indexLength, placeCount}
+use Rattle.limits.specs.Sizes.{endsAt, indexLength, placeCount}
 use Rattle.model.specs.Limits.{mostRecords, kindCount, firstCondition, tooDeep}
 use Rattle.model.specs.Syntax.{Condition, conjunction, disjunction, Statement, sequence, if, qcase}
 use Rattle.model.specs.Reading as model
@@ -18,6 +18,7 @@ use Rattle.model.specs.Reading.{Input, inputAt, Parsed, parsed, refused, andThe
 use Rattle.model.specs.Reading.{conditionKind, statementKind, conditionOf, condition, statement}
 use Rattle.model.proofs.BooleanLaws.{byBool, byLt, clash}
 use Rattle.model.proofs.ByteAtAPlace.{byte-there, byte-past}
+use Rattle.model.proofs.ReadingLaws.{longestRecord}
 use Rattle.records.specs.declared.Record.{Record}
 use Rattle.records.specs.declared.Record.the-variants as kind
 use Rattle.records.specs.Fields.{byteAt, recordOf, recordAt, fieldsOf}

@@ -8,7 +8,8 @@ use borrow.Author.Needs.{needs}
 use borrow.Author.Tests.{lt-leb, le-leb, eq-eqb, ne-eqb}
 use lib.Dec.{leb, eqb}
 use lib.ListN.{length, getD, length-drop}
-use Rattle.limits.specs.Sizes.{longestRecord, bodyCount, rootsAt, indexLength}
+use Rattle.limits.specs.Sizes.{bodyCount, rootsAt, indexLength}
+use Rattle.model.proofs.ReadingLaws.{longestRecord}
 use Rattle.model.specs.Limits.{bytesLeft, mostProcedures, mostRecords, mostDepth, tableStops, wrongEdition, manyProcedures}
 use Rattle.model.specs.Syntax.{Statement, Program}
 use Rattle.model.specs.Reading as model

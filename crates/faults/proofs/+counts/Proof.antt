@@ -1,4 +1,4 @@
--- `faults::counts` meets its contract: each way out is one law, and the depth falls. Assumes nothing.
+-- `faults::counts` meets its contract: each way out is one law, and the depth falls.
 use Rattle.faults.proofs.RemovalCounts.{counting}
 use Prim.Native.Nat.{ℕ, _<_}
 use borrow.Fn.Kinds.{In}

@@ -1,4 +1,4 @@
--- `faults::touches` meets its contract: each step of the walk is the record's, and the depth falls. Assumes nothing.
+-- `faults::touches` meets its contract: each step of the walk is the record's, and the depth falls.
 use Rattle.faults.proofs.RowOfAStatement.{walking}
 use Prim.Native.Nat.{ℕ, _<_}
 use borrow.Fn.Kinds.{In}

@@ -1,4 +1,4 @@
--- `faults::all_counts` meets its contract: before body f those below f are counted. Assumes nothing.
+-- `faults::all_counts` meets its contract: before body f those below f are counted.
 use Rattle.faults.proofs.RemovalCounts.{counting}
 use Prim.Native.Nat.{_≤_, _-_}
 use mathlib.Core.Path.{_≡_}

@@ -1,4 +1,4 @@
--- `faults::all_ranks` meets its contract: before procedure f the ranks of those below f are there. Assumes nothing.
+-- `faults::all_ranks` meets its contract: before procedure f the ranks of those below f are there.
 use Rattle.limits.specs.Sizes.{bodyCount}
 use Rattle.faults.proofs.RowTableFill.{ranking}
 use Prim.Native.Nat.{_≤_, _-_}

@@ -1,4 +1,4 @@
--- `faults::called` meets its contract: before position u the row has what is carried from those below u. Assumes nothing.
+-- `faults::called` meets its contract: before position u the row has what is carried from those below u.
 use Rattle.faults.proofs.RowOperations.{carrying}
 use Prim.Native.Nat.{_≤_, _-_}
 use mathlib.Core.Path.{_≡_}

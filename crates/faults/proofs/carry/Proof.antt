@@ -1,4 +1,4 @@
--- `faults::carry` meets its contract: position u of the callee, where it is touched. Assumes nothing.
+-- `faults::carry` meets its contract: position u of the callee, where it is touched.
 use Rattle.faults.proofs.RowOperations.{carrying}
 use Rattle.faults.proofs.carry.Statement.{statement}
 use Rattle.faults.proofs.carry.Tie as tie

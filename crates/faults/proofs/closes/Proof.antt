@@ -1,4 +1,4 @@
--- `faults::closes` meets its contract: position q is marked, and position 0 too where q was. Assumes nothing.
+-- `faults::closes` meets its contract: position q is marked, and position 0 too where q was.
 use Rattle.faults.proofs.RowOperations.{rows}
 use Rattle.faults.proofs.closes.Statement.{statement}
 use Rattle.faults.proofs.closes.Tie as tie

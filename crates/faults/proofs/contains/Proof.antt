@@ -1,4 +1,4 @@
--- `faults::contains` meets its contract: a word says nothing past its end. Assumes nothing.
+-- `faults::contains` meets its contract: a word says nothing past its end.
 use Rattle.faults.proofs.RowOperations.{rows}
 use Rattle.faults.proofs.contains.Statement.{statement}
 use Rattle.faults.proofs.contains.Tie as tie

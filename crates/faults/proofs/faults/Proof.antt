@@ -1,4 +1,4 @@
--- `faults::faults` meets its contract: main is walked by the whole table. Assumes nothing.
+-- `faults::faults` meets its contract: main is walked by the whole table.
 use Rattle.faults.proofs.RowTableFill.{filling}
 use Rattle.faults.proofs.faults.Statement.{statement}
 use Rattle.faults.proofs.faults.Tie as tie

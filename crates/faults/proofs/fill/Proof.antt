@@ -1,4 +1,4 @@
--- `faults::fill` meets its contract: lengths 1 to m are filled. Assumes nothing.
+-- `faults::fill` meets its contract: lengths 1 to m are filled.
 use Rattle.faults.proofs.RowTableFill.{filling}
 use Prim.Native.Nat.{_≤_, _-_}
 use mathlib.Core.Path.{_≡_}

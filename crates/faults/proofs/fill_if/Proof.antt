@@ -1,4 +1,4 @@
--- `faults::fill_if` meets its contract: the row is filled where the rank is k. Assumes nothing.
+-- `faults::fill_if` meets its contract: the row is filled where the rank is k.
 use Rattle.faults.proofs.RowTableFill.{filling}
 use Rattle.faults.proofs.fill_if.Statement.{statement}
 use Rattle.faults.proofs.fill_if.Tie as tie

@@ -1,4 +1,4 @@
--- `faults::fill_length` meets its contract: ranks 1 to k are filled. Assumes nothing.
+-- `faults::fill_length` meets its contract: ranks 1 to k are filled.
 use Rattle.faults.proofs.RowTableFill.{filling}
 use Prim.Native.Nat.{_≤_, _-_}
 use mathlib.Core.Path.{_≡_}

@@ -1,4 +1,4 @@
--- `faults::fill_rank` meets its contract: procedures 1 to f are filled. Assumes nothing.
+-- `faults::fill_rank` meets its contract: procedures 1 to f are filled.
 use Rattle.faults.proofs.RowTableFill.{filling}
 use Prim.Native.Nat.{_≤_, _-_}
 use mathlib.Core.Path.{_≡_}

@@ -1,4 +1,4 @@
--- `faults::fill_row` meets its contract: the body is walked by the table, and its row stored. Assumes nothing.
+-- `faults::fill_row` meets its contract: the body is walked by the table, and its row stored.
 use Rattle.faults.proofs.RowTableFill.{filling}
 use Rattle.faults.proofs.fill_row.Statement.{statement}
 use Rattle.faults.proofs.fill_row.Tie as tie

@@ -1,4 +1,4 @@
--- `faults::mark` meets its contract: one number more, which stands in the word or past it. Assumes nothing.
+-- `faults::mark` meets its contract: one number more, which stands in the word or past it.
 use Rattle.faults.proofs.RowOperations.{rows}
 use Rattle.faults.proofs.mark.Statement.{statement}
 use Rattle.faults.proofs.mark.Tie as tie

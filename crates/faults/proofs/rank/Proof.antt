@@ -1,4 +1,4 @@
--- `faults::rank` meets its contract: before body x those below x are counted. Assumes nothing.
+-- `faults::rank` meets its contract: before body x those below x are counted.
 use Rattle.faults.proofs.RowTableFill.{ranking}
 use Prim.Native.Nat.{_≤_, _-_}
 use mathlib.Core.Path.{_≡_}

@@ -1,4 +1,4 @@
--- `faults::reached` meets its contract: f itself, what it reaches, and what it does not. Assumes nothing.
+-- `faults::reached` meets its contract: f itself, what it reaches, and what it does not.
 use Rattle.faults.proofs.RowTableFill.{ranking}
 use Rattle.faults.proofs.reached.Statement.{statement}
 use Rattle.faults.proofs.reached.Tie as tie

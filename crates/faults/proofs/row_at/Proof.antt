@@ -1,4 +1,4 @@
--- `faults::row_at` meets its contract: the table says nothing past its end. Assumes nothing.
+-- `faults::row_at` meets its contract: the table says nothing past its end.
 use Rattle.faults.proofs.RowOperations.{rows}
 use Rattle.faults.proofs.row_at.Statement.{statement}
 use Rattle.faults.proofs.row_at.Tie as tie

@@ -1,4 +1,4 @@
--- `faults::store` meets its contract: the table has no row past its end. Assumes nothing.
+-- `faults::store` meets its contract: the table has no row past its end.
 use Rattle.faults.proofs.RowTableFill.{filling}
 use Rattle.faults.proofs.store.Statement.{statement}
 use Rattle.faults.proofs.store.Tie as tie

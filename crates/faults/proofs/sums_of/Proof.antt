@@ -1,4 +1,4 @@
--- `faults::sums_of` meets its contract: before j the sums below j are followed. Assumes nothing.
+-- `faults::sums_of` meets its contract: before j the sums below j are followed.
 use Rattle.model.specs.Limits.{mostQubits}
 use Rattle.faults.proofs.RemovalCounts.{counting}
 use Prim.Native.Nat.{_≤_, _-_}

@@ -1,4 +1,4 @@
--- `reach::any_lacks_removal` meets its contract: before procedure f no body below f lacks a removal. Assumes nothing.
+-- `reach::any_lacks_removal` meets its contract: before procedure f no body below f lacks a removal.
 use mathlib.Core.Path.{_≡_}
 use mathlib.Core.Bool.{false}
 use Prim.Native.Nat.{_-_, _≤_}

@@ -1,4 +1,4 @@
--- `reach::any_too_wide` meets its contract: before procedure f no body below f is too wide. Assumes nothing.
+-- `reach::any_too_wide` meets its contract: before procedure f no body below f is too wide.
 use mathlib.Core.Path.{_≡_}
 use mathlib.Core.Bool.{false}
 use Prim.Native.Nat.{_-_, _≤_}

@@ -1,4 +1,4 @@
--- `reach::body_lacks_removal` meets its contract: the body of f is the statement at its root. Assumes nothing.
+-- `reach::body_lacks_removal` meets its contract: the body of f is the statement at its root.
 use borrow.Author.Needs.{needs}
 use Rattle.reach.proofs.CallsAndWidths.{bodies}
 use Rattle.reach.proofs.body_lacks_removal.Statement.{statement}

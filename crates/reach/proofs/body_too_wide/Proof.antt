@@ -1,4 +1,4 @@
--- `reach::body_too_wide` meets its contract: a width over 1 is given as 2. Assumes nothing.
+-- `reach::body_too_wide` meets its contract: a width over 1 is given as 2.
 use borrow.Author.Needs.{needs}
 use Rattle.reach.proofs.CallsAndWidths.{bodies}
 use Rattle.reach.proofs.body_too_wide.Statement.{statement}

@@ -1,4 +1,4 @@
--- `reach::close` meets its contract: before procedure v all rows have gone through those below v. Assumes nothing.
+-- `reach::close` meets its contract: before procedure v all rows have gone through those below v.
 use mathlib.Core.Path.{_≡_}
 use Prim.Native.Nat.{_-_, _≤_}
 use Rattle.reach.specs.Matrix.{closed}

@@ -1,4 +1,4 @@
--- `reach::extend` meets its contract: by its test. Assumes nothing.
+-- `reach::extend` meets its contract: by its test.
 use borrow.Author.Needs.{needs}
 use Rattle.reach.proofs.MatrixOperations.{rows}
 use Rattle.reach.proofs.extend.Statement.{statement}

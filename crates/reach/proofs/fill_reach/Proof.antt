@@ -1,4 +1,4 @@
--- `reach::fill_reach` meets its contract: marked and closed, the matrix is the table of reach. Assumes nothing.
+-- `reach::fill_reach` meets its contract: marked and closed, the matrix is the table of reach.
 use borrow.Author.Needs.{needs}
 use Rattle.reach.proofs.CallsAndWidths.{bodies}
 use Rattle.reach.proofs.fill_reach.Statement.{statement}

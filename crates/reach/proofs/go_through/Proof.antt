@@ -1,4 +1,4 @@
--- `reach::go_through` meets its contract: before row f the rows below f have gone through v. Assumes nothing.
+-- `reach::go_through` meets its contract: before row f the rows below f have gone through v.
 use mathlib.Core.Path.{_≡_}
 use Prim.Native.Nat.{_-_, _≤_}
 use Rattle.limits.specs.Sizes.{bodyCount}

@@ -1,4 +1,4 @@
--- `reach::join` meets its contract: before column g the columns below g are joined. Assumes nothing.
+-- `reach::join` meets its contract: before column g the columns below g are joined.
 use mathlib.Core.Path.{_≡_}
 use Prim.Native.Nat.{_-_, _≤_}
 use Rattle.limits.specs.Sizes.{bodyCount}

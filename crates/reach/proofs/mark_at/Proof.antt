@@ -1,4 +1,4 @@
--- `reach::mark_at` meets its contract: a mark is looked for within the matrix only. Assumes nothing.
+-- `reach::mark_at` meets its contract: a mark is looked for within the matrix only.
 use borrow.Author.Needs.{needs}
 use Rattle.reach.proofs.MatrixOperations.{cells}
 use Rattle.reach.proofs.mark_at.Statement.{statement}

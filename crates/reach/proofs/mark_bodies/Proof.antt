@@ -1,4 +1,4 @@
--- `reach::mark_bodies` meets its contract: before procedure f the rows below f are marked. Assumes nothing.
+-- `reach::mark_bodies` meets its contract: before procedure f the rows below f are marked.
 use mathlib.Core.Path.{_≡_}
 use Prim.Native.Nat.{_-_, _≤_}
 use Rattle.table.specs.Index.{bodyAt}

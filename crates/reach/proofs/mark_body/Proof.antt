@@ -1,4 +1,4 @@
--- `reach::mark_body` meets its contract: the body of f is the statement at its root. Assumes nothing.
+-- `reach::mark_body` meets its contract: the body of f is the statement at its root.
 use borrow.Author.Needs.{needs}
 use Rattle.reach.proofs.CallsAndWidths.{bodies}
 use Rattle.reach.proofs.mark_body.Statement.{statement}

@@ -1,4 +1,4 @@
--- `reach::one_if` meets its contract: by its test. Assumes nothing.
+-- `reach::one_if` meets its contract: by its test.
 use borrow.Author.Needs.{needs}
 use Rattle.model.specs.Meaning.{digit}
 use Rattle.reach.proofs.one_if.Statement.{statement}

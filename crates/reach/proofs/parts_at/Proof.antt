@@ -1,4 +1,4 @@
--- `reach::parts_at` meets its contract: the step of the record is taken on an empty list. Assumes nothing.
+-- `reach::parts_at` meets its contract: the step of the record is taken on an empty list.
 use borrow.Author.Needs.{needs}
 use Rattle.reach.proofs.CallsAndWidths.{looking}
 use Rattle.reach.proofs.parts_at.Statement.{statement}

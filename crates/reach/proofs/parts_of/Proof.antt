@@ -1,4 +1,4 @@
--- `reach::parts_of` meets its contract: each step has its parts. Assumes nothing.
+-- `reach::parts_of` meets its contract: each step has its parts.
 use borrow.Author.Needs.{needs}
 use Rattle.reach.specs.CallsInATable.{partsOf}
 use Rattle.reach.proofs.CallsAndWidths.{looking}

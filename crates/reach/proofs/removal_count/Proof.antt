@@ -1,4 +1,4 @@
--- `reach::removal_count` meets its contract: one law for each way out. Assumes nothing.
+-- `reach::removal_count` meets its contract: one law for each way out.
 use borrow.Author.Needs.{needs}
 use Rattle.reach.proofs.CallsAndWidths.{removing}
 use Rattle.reach.proofs.removal_count.Statement.{statement}

@@ -1,4 +1,4 @@
--- `records::read_numbers` meets its contract: the count falls. Assumes nothing.
+-- `records::read_numbers` meets its contract: the count falls.
 use Rattle.records.proofs.FieldLaws.{reading}
 use Prim.Native.Nat.{ℕ, _<_}
 use borrow.Fn.Kinds.{In}

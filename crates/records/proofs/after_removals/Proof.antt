@@ -1,4 +1,4 @@
--- `records::after_removals` meets its contract: a count is a byte, so the sum fits. Assumes nothing.
+-- `records::after_removals` meets its contract: a count is a byte, so the sum fits.
 use borrow.Author.Needs.{needs}
 use Rattle.records.proofs.FieldLaws.{written}
 use Rattle.records.proofs.after_removals.Statement.{statement}

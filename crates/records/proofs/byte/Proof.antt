@@ -1,4 +1,4 @@
--- `records::byte` meets its contract: past the end getD is 0. Assumes nothing.
+-- `records::byte` meets its contract: past the end getD is 0.
 use borrow.Author.Needs.{needs}
 use Rattle.records.proofs.FieldLaws.{written}
 use Rattle.records.proofs.byte.Statement.{statement}

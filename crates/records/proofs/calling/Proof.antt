@@ -1,4 +1,4 @@
--- `records::calling` meets its contract: each way out by the tests before it. Assumes nothing.
+-- `records::calling` meets its contract: each way out by the tests before it.
 use Rattle.records.proofs.FieldLaws.{tests}
 use Rattle.records.specs.Fields.{calling}
 use Rattle.records.proofs.calling.Statement.{statement}

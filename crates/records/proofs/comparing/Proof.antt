@@ -1,4 +1,4 @@
--- `records::comparing` meets its contract: each way out by the tests before it. Assumes nothing.
+-- `records::comparing` meets its contract: each way out by the tests before it.
 use Rattle.records.proofs.FieldLaws.{tests}
 use Rattle.records.specs.Fields.{comparing}
 use Rattle.records.proofs.comparing.Statement.{statement}

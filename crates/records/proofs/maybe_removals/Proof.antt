@@ -1,4 +1,4 @@
--- `records::maybe_removals` meets its contract: each way out by the test before it. Assumes nothing.
+-- `records::maybe_removals` meets its contract: each way out by the test before it.
 use borrow.Author.Needs.{needs}
 use Rattle.records.proofs.FieldLaws.{reading}
 use Rattle.records.proofs.maybe_removals.Statement.{statement}

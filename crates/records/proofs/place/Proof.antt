@@ -1,4 +1,4 @@
--- `records::place` meets its contract: each way out by the tests before it. Assumes nothing.
+-- `records::place` meets its contract: each way out by the tests before it.
 use borrow.Author.Needs.{needs}
 use Rattle.records.proofs.FieldLaws.{written}
 use Rattle.records.proofs.place.Statement.{statement}

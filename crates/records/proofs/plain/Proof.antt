@@ -1,4 +1,4 @@
--- `records::plain` meets its contract: each way out by the tests before it. Assumes nothing.
+-- `records::plain` meets its contract: each way out by the tests before it.
 use Rattle.records.proofs.FieldLaws.{kinds}
 use Rattle.records.specs.Fields.{plain}
 use Rattle.records.proofs.plain.Statement.{statement}

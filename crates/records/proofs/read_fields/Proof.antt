@@ -1,4 +1,4 @@
--- `records::read_fields` meets its contract: by the bits that the map of the kind must have. Assumes nothing.
+-- `records::read_fields` meets its contract: by the bits that the map of the kind must have.
 use borrow.Author.Needs.{needs}
 use Rattle.records.proofs.FieldLaws.{kinds}
 use Rattle.records.proofs.ReadingAtAPlace.{fields-are-read}

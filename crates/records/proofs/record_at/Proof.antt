@@ -1,4 +1,4 @@
--- `records::record_at` meets its contract: by the bits that the map of its kind must have. Assumes nothing.
+-- `records::record_at` meets its contract: by the bits that the map of its kind must have.
 use borrow.Author.Needs.{needs}
 use Rattle.records.proofs.FieldLaws.{kinds}
 use Rattle.records.proofs.record_at.Statement.{statement}

@@ -1,4 +1,4 @@
--- `records::removes` meets its contract: a map over 2 to the power 0 is the map. Assumes nothing.
+-- `records::removes` meets its contract: a map over 2 to the power 0 is the map.
 use mathlib.Core.Path.{sym, ap}
 use Prim.Native.Nat.{ℕ, _%_}
 use native.Mathlib.Nat.{div-one}

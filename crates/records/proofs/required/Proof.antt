@@ -1,4 +1,4 @@
--- `records::required` meets its contract: by the entries of the table. Assumes nothing.
+-- `records::required` meets its contract: by the entries of the table.
 use borrow.Author.Needs.{needs}
 use Rattle.records.proofs.FieldLaws.{kinds}
 use Rattle.records.proofs.required.Statement.{statement}

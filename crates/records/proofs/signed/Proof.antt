@@ -1,4 +1,4 @@
--- `records::signed` meets its contract: the bits of the two bytes, 65536 less from 32768 on. Assumes nothing.
+-- `records::signed` meets its contract: the bits of the two bytes, 65536 less from 32768 on.
 use borrow.Author.Needs.{needs}
 use Rattle.records.proofs.FieldLaws.{signs}
 use Rattle.records.proofs.signed.Statement.{statement}

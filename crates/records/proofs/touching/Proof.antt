@@ -1,4 +1,4 @@
--- `records::touching` meets its contract: each way out by the test before it. Assumes nothing.
+-- `records::touching` meets its contract: each way out by the test before it.
 use Rattle.records.proofs.FieldLaws.{tests}
 use Rattle.records.specs.Fields.{touching}
 use Rattle.records.proofs.touching.Statement.{statement}

@@ -1,4 +1,4 @@
--- `records::written_at` meets its contract: past the end all three bytes are 0. Assumes nothing.
+-- `records::written_at` meets its contract: past the end all three bytes are 0.
 use borrow.Author.Needs.{needs}
 use Rattle.records.proofs.FieldLaws.{written}
 use Rattle.records.proofs.written_at.Statement.{statement}

@@ -1,5 +1,5 @@
 -- `run::walk` and `run::call` meet their contracts: the fuel falls at each call, the depth within a body, and each way out is one law.
--- Assumes nothing.
+--
 use mathlib.Core.Path.{_≡_}
 use Prim.Native.Nat.{ℕ, _+_, _*_, _≤_, _<_}
 use borrow.Fn.Kinds.{In}

@@ -1,4 +1,4 @@
--- `run::bit` meets its contract: qubit q is bit q − 1. Assumes nothing.
+-- `run::bit` meets its contract: qubit q is bit q − 1.
 use borrow.Author.Needs.{needs}
 use Rattle.run.proofs.WalkOfAWord.{bit-none, bit-past, bit-bit}
 use Rattle.run.proofs.bit.Statement.{statement}

@@ -1,4 +1,4 @@
--- `run::end_word` meets its contract: main from its root, on all qubits. Assumes nothing.
+-- `run::end_word` meets its contract: main from its root, on all qubits.
 use borrow.Author.Needs.{needs}
 use Rattle.run.proofs.WalkOfAWord.{main-ran}
 use Rattle.run.proofs.end_word.Statement.{statement}

@@ -1,4 +1,4 @@
--- `run::flip` meets its contract: qubit q is bit q − 1. Assumes nothing.
+-- `run::flip` meets its contract: qubit q is bit q − 1.
 use borrow.Author.Needs.{needs}
 use Rattle.run.proofs.WalkOfAWord.{flip-none, flip-past, flip-bit}
 use Rattle.run.proofs.flip.Statement.{statement}

@@ -1,4 +1,4 @@
--- `run::taken` meets its contract: one law for each way out. Assumes nothing.
+-- `run::taken` meets its contract: one law for each way out.
 use borrow.Author.Needs.{needs}
 use Rattle.step.proofs.ChosenBranch.{choosing}
 use Rattle.run.proofs.taken.Statement.{statement}

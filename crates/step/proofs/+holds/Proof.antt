@@ -1,4 +1,4 @@
--- `step::holds` meets its contract: the depth falls, and each step is one way out. Assumes nothing.
+-- `step::holds` meets its contract: the depth falls, and each step is one way out.
 use Rattle.step.proofs.ConditionByStep.{testing, held-and, held-or}
 use Prim.Native.Nat.{ℕ, _<_}
 use borrow.Fn.Kinds.{In}

@@ -1,4 +1,4 @@
--- `step::chosen` meets its contract: one law for each way out. Assumes nothing.
+-- `step::chosen` meets its contract: one law for each way out.
 use borrow.Author.Needs.{needs}
 use Rattle.step.proofs.ChosenBranch.{choosing}
 use Rattle.step.proofs.chosen.Statement.{statement}

@@ -1,4 +1,4 @@
--- `step::entry` meets its contract: the place is 0 or inside the list. Assumes nothing.
+-- `step::entry` meets its contract: the place is 0 or inside the list.
 use borrow.Author.Needs.{needs}
 use Rattle.step.proofs.ListsInAnArray.{entry-none, entry-some, place-inside}
 use Rattle.step.proofs.entry.Statement.{statement}

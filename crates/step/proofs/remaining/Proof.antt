@@ -1,4 +1,4 @@
--- `step::remaining` meets its contract: what is left from here on is the whole. Assumes nothing.
+-- `step::remaining` meets its contract: what is left from here on is the whole.
 use Prim.Native.Nat.{_+_, _*_, _<_, _^_}
 use mathlib.Core.Path.{_≡_, refl, sym, _∙_}
 use native.Mathlib.Omega.{arith}

@@ -1,4 +1,4 @@
--- `step::remove` meets its contract: what stands from i on is shifted, one entry a turn. Assumes nothing.
+-- `step::remove` meets its contract: what stands from i on is shifted, one entry a turn.
 use Prim.Native.Nat.{_≤_, _<_, _-_}
 use mathlib.Core.Path.{_≡_, sym, _∙_}
 use native.Mathlib.Omega.{arith}

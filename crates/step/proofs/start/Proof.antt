@@ -1,4 +1,4 @@
--- `step::start` meets its contract: past the end getD is 0. Assumes nothing.
+-- `step::start` meets its contract: past the end getD is 0.
 use native.Mathlib.Omega.{arith}
 use borrow.Author.Needs.{needs}
 use Rattle.records.proofs.FieldLaws.{past-end}

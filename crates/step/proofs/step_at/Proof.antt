@@ -1,4 +1,4 @@
--- `step::step_at` meets its contract: one law for each kind. Assumes nothing.
+-- `step::step_at` meets its contract: one law for each kind.
 use borrow.Author.Needs.{needs}
 use Rattle.step.proofs.StepOfARecord.{deciding}
 use Rattle.step.proofs.step_at.Statement.{statement}

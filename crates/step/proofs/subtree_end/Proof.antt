@@ -1,4 +1,4 @@
--- `step::subtree-end` meets its contract: past the end getD is 0. Assumes nothing.
+-- `step::subtree_end` meets its contract: past the end getD is 0.
 use borrow.Author.Needs.{needs}
 use Rattle.step.proofs.PlacesPastTheEnd.{far-past-end}
 use Rattle.step.proofs.subtree_end.Statement.{statement}

@@ -1,4 +1,4 @@
--- `step::touched` meets its contract: the entry at the value of a in what the removals leave. Assumes nothing.
+-- `step::touched` meets its contract: the entry at the value of a in what the removals leave.
 use borrow.Author.Needs.{needs}
 use Rattle.step.proofs.Removals.{touched-is}
 use Rattle.step.proofs.touched.Statement.{statement}

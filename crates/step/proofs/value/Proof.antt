@@ -1,4 +1,4 @@
--- `step::value` meets its contract: no sum leaves i32 behind the guard. Assumes nothing.
+-- `step::value` meets its contract: no sum leaves i32 behind the guard.
 use borrow.Author.Needs.{needs}
 use Rattle.step.proofs.NumberValues.{sum-stays, value-sum, value-guarded, value-constant}
 use Rattle.step.proofs.value.Statement.{statement}

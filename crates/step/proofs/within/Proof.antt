@@ -1,4 +1,4 @@
--- `step::within` meets its contract: each way out by the tests at zero and at the size. Assumes nothing.
+-- `step::within` meets its contract: each way out by the tests at zero and at the size.
 use borrow.Author.Needs.{needs}
 use Rattle.step.proofs.NumberValues.{position-low, position-high, position-in, position-unsigned}
 use Rattle.step.proofs.within.Statement.{statement}

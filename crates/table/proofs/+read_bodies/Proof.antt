@@ -1,4 +1,4 @@
--- `table::read_bodies` meets its contract: the procedures left fall. Assumes nothing.
+-- `table::read_bodies` meets its contract: the procedures left fall.
 use Rattle.table.proofs.TreeReadingLaws.{bodies}
 use Prim.Native.Nat.{ℕ, _+_, _-_, _<_}
 use borrow.Fn.Kinds.{In}

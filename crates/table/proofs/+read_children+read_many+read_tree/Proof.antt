@@ -1,4 +1,4 @@
--- `table::read_tree`, `table::read_children` and `table::read_many` meet their contracts: the depth falls, and within it the count. Assumes nothing.
+-- `table::read_tree`, `table::read_children` and `table::read_many` meet their contracts: the depth falls, and within it the count.
 use Rattle.table.proofs.TreeReadingLaws.{trees, children-done}
 use Prim.Native.Nat.{ℕ, _+_, _*_, _<_}
 use borrow.Fn.Kinds.{In}

@@ -1,4 +1,4 @@
--- `table::note` meets its contract: a value is stored where it fits. Assumes nothing.
+-- `table::note` meets its contract: a value is stored where it fits.
 use Rattle.table.proofs.TreeReadingLaws.{leaves}
 use borrow.Author.Needs.{needs}
 use Rattle.table.proofs.note.Statement.{statement}

@@ -1,4 +1,4 @@
--- `table::parts` meets its contract: by the two tables of kinds. Assumes nothing.
+-- `table::parts` meets its contract: by the two tables of kinds.
 use Rattle.table.proofs.TreeReadingLaws.{leaves}
 use borrow.Author.Needs.{needs}
 use Rattle.table.proofs.parts.Statement.{statement}

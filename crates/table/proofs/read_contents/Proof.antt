@@ -1,4 +1,4 @@
--- `table::read_contents` meets its contract: 5, then the fields. Assumes nothing.
+-- `table::read_contents` meets its contract: 5, then the fields.
 use Rattle.table.proofs.TreeReadingLaws.{leaves}
 use borrow.Author.Needs.{needs}
 use Rattle.table.proofs.read_contents.Statement.{statement}

@@ -1,4 +1,4 @@
--- `table::read_table` meets its contract: one law for each way out. Assumes nothing.
+-- `table::read_table` meets its contract: one law for each way out.
 use Rattle.table.proofs.WholeTable.{tables}
 use borrow.Author.Needs.{needs}
 use Rattle.table.proofs.read_table.Statement.{statement}

@@ -1,4 +1,4 @@
--- `table::refusal` meets its contract: the number goes out. Assumes nothing.
+-- `table::refusal` meets its contract: the number goes out.
 use Rattle.table.proofs.TreeReadingLaws.{leaves}
 use borrow.Author.Needs.{needs}
 use Rattle.table.proofs.refusal.Statement.{statement}

@@ -1,4 +1,4 @@
--- `table::wanted` meets its contract: by the kind's range. Assumes nothing.
+-- `table::wanted` meets its contract: by the kind's range.
 use Rattle.table.proofs.TreeReadingLaws.{leaves}
 use Rattle.table.proofs.wanted.Statement.{statement}
 use Rattle.table.proofs.wanted.Tie as tie

@@ -1,13 +1,13 @@
--- `step::next` meets its contract: by its test. Assumes nothing.
+-- `step::first_child` meets its contract: by its test.
 use borrow.Author.Tests.{lt-ltb, le-ltb}
 use borrow.Author.Needs.{needs}
 use Rattle.step.specs.Steps.{firstChild}
-use Rattle.step.proofs.next.Statement.{statement}
-use Rattle.step.proofs.next.Tie as tie
+use Rattle.step.proofs.first_child.Statement.{statement}
+use Rattle.step.proofs.first_child.Tie as tie
 
-pub next-spec : {M : Type 1} → statement M
+pub first-child-spec : {M : Type 1} → statement M
 unfolding firstChild
-next-spec =
+first-child-spec =
     tie.close
     (tie.spec
     (λ c. search needs)
