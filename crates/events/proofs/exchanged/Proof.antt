@@ -13,7 +13,7 @@ abbrev Inv-loop : tie.InvT-loop
 Inv-loop list u v old at₀ i₀ at i = (length at ≡ mostQubits) × (length old ≡ mostQubits) × (take i at ≡ map (exchange u v) (take i old))
 
 abbrev μ-loop : tie.MeasureT-loop
-μ-loop list u v old at₀ i₀ at i = 32 - i
+μ-loop list u v old at₀ i₀ at i = mostQubits - i
 
 pub exchanged-spec : {M : Type 1} → statement M
 exchanged-spec = tie.close (tie.spec

@@ -11,7 +11,7 @@ abbrev Inv-loop : tie.InvT-loop
 Inv-loop matrix p all₀ f₀ all f = (f ≤ bodyCount) × (all ≡ ranksBelow matrix p f)
 
 abbrev μ-loop : tie.MeasureT-loop
-μ-loop matrix p all₀ f₀ all f = 17 - f
+μ-loop matrix p all₀ f₀ all f = bodyCount - f
 
 pub all-ranks-spec : {M : Type 1} → statement M
 all-ranks-spec =

@@ -12,7 +12,7 @@ abbrev Inv-loop : tie.InvT-loop
 Inv-loop counts sums₀ j₀ sums j = (j ≤ mostQubits) × (sums ≡ sumsBelow counts j)
 
 abbrev μ-loop : tie.MeasureT-loop
-μ-loop counts sums₀ j₀ sums j = 32 - j
+μ-loop counts sums₀ j₀ sums j = mostQubits - j
 
 pub sums-of-spec : {M : Type 1} → statement M
 sums-of-spec =

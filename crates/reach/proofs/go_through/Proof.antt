@@ -11,7 +11,7 @@ abbrev Inv-loop : tie.InvT-loop
 Inv-loop matrix₀ v f₀ matrix f = (matrix ≡ through f v matrix₀) × (f ≤ bodyCount)
 
 abbrev μ-loop : tie.MeasureT-loop
-μ-loop matrix₀ v f₀ matrix f = 17 - f
+μ-loop matrix₀ v f₀ matrix f = bodyCount - f
 
 pub go-through-spec : {M : Type 1} → statement M
 go-through-spec =

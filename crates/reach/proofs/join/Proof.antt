@@ -11,7 +11,7 @@ abbrev Inv-loop : tie.InvT-loop
 Inv-loop matrix₀ f v g₀ matrix g = (matrix ≡ joined g f v matrix₀) × (g ≤ bodyCount)
 
 abbrev μ-loop : tie.MeasureT-loop
-μ-loop matrix₀ f v g₀ matrix g = 17 - g
+μ-loop matrix₀ f v g₀ matrix g = bodyCount - g
 
 pub join-spec : {M : Type 1} → statement M
 join-spec =
