@@ -12,7 +12,9 @@ use Rattle.model.specs.Emission.{Invocation, invoked, isWide, invocations}
 use Rattle.model.proofs.BooleanLaws.{byBool}
 use Rattle.model.proofs.ListLaws.{Data, Distinct, data-remaining, remaining-distinct, remaining-shorter}
 use Rattle.model.proofs.ReachAndRank.{Ranked}
-use Rattle.agreement.proofs.EmissionClauses.{invocations-wide, invocations-thin, invocations-yes, invocations-no, invocations-recursive, invocations-other}
+use Rattle.agreement.proofs.EmissionClauses.{
+  invocations-wide, invocations-thin, invocations-yes, invocations-no, invocations-recursive, invocations-other,
+}
 use Rattle.agreement.proofs.ProgramFacts.{Safely, SafeCall, Safe, Weakens, Fine, fine-call}
 
 -- an invocation is one of a list

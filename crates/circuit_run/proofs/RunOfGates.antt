@@ -10,7 +10,8 @@ use borrow.Author.Needs.{needs}
 use borrow.Author.Tests.{eq-eqb, ne-eqb, le-leb, lt-leb}
 use lib.ListN.{length, length-drop}
 use lib.Dec.{leb}
-use Rattle.model.specs.Limits.{mostWires, notWellFormed}
+use Rattle.model.specs.Limits.{notWellFormed}
+use Rattle.limits.specs.Sizes.{blockBits}
 use Rattle.model.specs.Reading.{Input, Parsed, parsed, refused, andThen}
 use Rattle.model.specs.Meaning.{State}
 use Rattle.model.specs.Gates.{Gate, act, acts}
@@ -36,7 +37,7 @@ ran-refused wires (parsed b j) f e = let z : _≡_ {A = ℕ} 0 1 = cc in absurd 
 ran-refused wires (refused k) f e = refl
 
 -- a gate that was read keeps the state within its block
-act-state : (most : ℕ) (i : Input) (g : Gate) (j : Input) (bits : List ℕ) → most ≤ mostWires → IsBlock bits → readGate most i ≡ parsed g j →
+act-state : (most : ℕ) (i : Input) (g : Gate) (j : Input) (bits : List ℕ) → most ≤ blockBits → IsBlock bits → readGate most i ≡ parsed g j →
     stateIn (blockOf (act g (stateIn bits))) ≡ act g (stateIn bits)
 act-state most i g j bits h b e =
     let ok : gateIsWellFormed most g ≡ true = (rw e at (reads-gate most i)) .0 in

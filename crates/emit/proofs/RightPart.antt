@@ -72,10 +72,10 @@ returns-only [] cs a = tt
 returns-only (q ∷ l) cs a = tt
 
 -- the wire of a recursive call's ancilla is the ancilla
-returns-wire : (g : ℕ) (l : List ℕ) (cs : Controls) (a : ℕ) → a + length (invoked g l a) ≤ 256 → returns l cs (wireOf a) ≡ returns l cs a
+returns-wire : (g : ℕ) (l : List ℕ) (cs : Controls) (a : ℕ) → a + length (invoked g l a) ≤ wireCount → returns l cs (wireOf a) ≡ returns l cs a
 unfolding returns invoked
 returns-wire g [] cs a h = refl
-returns-wire g (q ∷ l) cs a h = let le : a ≤ 255 = omega arith in rw (le-ltb mostWires a le)
+returns-wire g (q ∷ l) cs a h = let le : a ≤ mostWires = omega arith in rw (le-ltb mostWires a le)
 
 -- a right part, then a part whole
 module _ (bs ix : List ℕ) (p k : ℕ) (f : ℕ) (l : List ℕ) (cs : Controls) (first : ℕ) (x y : Statement) where

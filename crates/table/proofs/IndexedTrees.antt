@@ -11,7 +11,7 @@ use borrow.Author.Tests.{lt-ltb, le-ltb, le-leb, lt-leb, ltb-true, ltb-false}
 use lib.Dec.{ltb}
 use lib.ListN.{length, getElem?}
 use Rattle.limits.specs.Sizes.{endsAt, indexLength, placeCount}
-use Rattle.model.specs.Limits.{mostRecords, kindCount, firstCondition, tooDeep}
+use Rattle.model.specs.Limits.{mostRecords, kindCount, firstCondition, tooDeep, tableStops, wrongKind, wrongMap}
 use Rattle.model.specs.Syntax.{Condition, conjunction, disjunction, Statement, sequence, if, qcase}
 use Rattle.model.specs.Reading as model
 use Rattle.model.specs.Reading.{Input, inputAt, Parsed, parsed, refused, andThen, provided, Fields, known, opening, contents, permitted, stands, two}
@@ -266,7 +266,7 @@ module _ {A : Type 0} (p : ℕ) (bs : List ℕ) (at i : ℕ) (ix : List ℕ) (fo
       (λ q x. Agree bs i ix found (andThen q f) (andThenFields x ix g))
       (λ r next e is w. go r next l e is (omega (arith, w .high)))
       (λ m. refuses m ix)))
-      (λ t. rw t (refuses 5 ix))))
+      (λ t. rw t (refuses wrongMap ix))))
       (λ l. rw (le-ltb i mostRecords l) (refuses tooDeep ix))
 
   -- a record's map and kind
@@ -284,9 +284,9 @@ module _ {A : Type 0} (p : ℕ) (bs : List ℕ) (at i : ℕ) (ix : List ℕ) (fo
       (λ l. rw (le-leb (at + 2) (length bs) (omega arith), byte-next l)
       (byBool (wanted tests (byteAt bs (at + 1)))
       (λ w. rw w (by (sort (byteAt bs (at + 1))) refl l w))
-      (λ w. rw (w, sorted (byteAt bs (at + 1)) .lacks w) (refuses 4 ix))))
-      (λ l. rw (lt-leb (at + 2) (length bs) (omega arith), byte-past bs (at + 1) i l) (refuses 1 ix))))
-      (λ h. rw (le-ltb at (length bs) h, byte-past bs at i h) (refuses 1 ix))
+      (λ w. rw (w, sorted (byteAt bs (at + 1)) .lacks w) (refuses wrongKind ix))))
+      (λ l. rw (lt-leb (at + 2) (length bs) (omega arith), byte-past bs (at + 1) i l) (refuses tableStops ix))))
+      (λ h. rw (le-ltb at (length bs) h, byte-past bs at i h) (refuses tableStops ix))
     where
       byte-next : at + 1 < length bs → model.byte (inputAt bs (at + 1) i) ≡ parsed (byteAt bs (at + 1)) (inputAt bs (at + 2) i)
       byte-next l = let e : at + 1 + 1 ≡ at + 2 = omega arith in rw (← e) (byte-there bs (at + 1) i l)

@@ -10,7 +10,7 @@ use lib.Dec.{leb, eqb}
 use lib.ListN.{length, getD, length-drop}
 use Rattle.limits.specs.Sizes.{bodyCount, rootsAt, indexLength}
 use Rattle.model.proofs.ReadingLaws.{longestRecord}
-use Rattle.model.specs.Limits.{bytesLeft, mostProcedures, mostRecords, mostDepth, tableStops, wrongEdition, manyProcedures}
+use Rattle.model.specs.Limits.{bytesLeft, mostProcedures, mostRecords, mostDepth, tableStops, wrongEdition, manyProcedures, tableEdition}
 use Rattle.model.specs.Syntax.{Statement, Program}
 use Rattle.model.specs.Reading as model
 use Rattle.model.specs.Reading.{Input, inputAt, Parsed, parsed, refused, andThen, provided, statement, statements, readTable}
@@ -127,7 +127,7 @@ is-whole p i = main (statement p mostDepth i)
     main (refused m) = refl
 
 -- "header 1 (fewer than two bytes), 2, 3"
-short-table : (bs : List ℕ) → length bs < 2 → readTable bs ≡ refused 1
+short-table : (bs : List ℕ) → length bs < 2 → readTable bs ≡ refused tableStops
 unfolding readTable
 short-table [] h = refl
 short-table (a ∷ []) h = refl
@@ -136,7 +136,8 @@ short-table (a ∷ b ∷ bs) h = absurd (omega arith)
 header :
     (bs : List ℕ) → 2 ≤ length bs →
     readTable bs
-    ≡ provided (eqb (getD bs 0 0) 1) 2 (provided (leb (getD bs 1 0) mostProcedures) 3 (model.trees (getD bs 1 0) (inputAt bs 2 0)))
+    ≡ provided (eqb (getD bs 0 0) tableEdition) wrongEdition
+    (provided (leb (getD bs 1 0) mostProcedures) manyProcedures (model.trees (getD bs 1 0) (inputAt bs 2 0)))
 unfolding readTable
 header [] h = absurd (omega arith)
 header (a ∷ []) h = absurd (omega arith)

@@ -9,7 +9,7 @@ use lib.Dec.{lit<}
 use lib.ListN.{length, getD, List·getD-eq-default}
 use lib.Seq.{ext-getD}
 use Rattle.limits.specs.Sizes.{blockBits}
-use Rattle.model.specs.Limits.{blockLength, mostWires}
+use Rattle.model.specs.Limits.{blockLength}
 use Rattle.model.specs.Meaning.{State, bit, flipped, stateOf, wordFrom}
 use Rattle.model.specs.Gates.{Gate, flip, swap, exchange, renamed, fires, act}
 use Rattle.model.specs.Circuit.{wires, within, blockFrom, blockOf}
@@ -121,13 +121,13 @@ word-inside word h = record { none = refl; past = past }
   past (suc k) g = past-bit 64 word k h (omega arith)
 
 -- flipping a wire leaves it one of them
-pub flipped-inside : (s : State) (w : ℕ) → InBlock s → 1 ≤ w → w ≤ mostWires → InBlock (flipped w s)
+pub flipped-inside : (s : State) (w : ℕ) → InBlock s → 1 ≤ w → w ≤ blockBits → InBlock (flipped w s)
 flipped-inside s w h l m = record
   { none = flipped-other s w 0 (λ e. omega arith) ∙ h .none
   ; past = λ v g. flipped-other s w v (λ e. omega arith) ∙ h .past v g }
 
 -- and so does exchanging two wires
-pub exchanged-inside : (s : State) (u v : ℕ) → InBlock s → 1 ≤ u → u ≤ mostWires → 1 ≤ v → v ≤ mostWires → InBlock (renamed (exchange u v) s)
+pub exchanged-inside : (s : State) (u v : ℕ) → InBlock s → 1 ≤ u → u ≤ blockBits → 1 ≤ v → v ≤ blockBits → InBlock (renamed (exchange u v) s)
 exchanged-inside s u v h lu mu lv mv = record
   { none = renamed-at (exchange u v) s 0 ∙ ap s (exchange-other u v 0 (λ e. omega arith) (λ e. omega arith)) ∙ h .none
   ; past = λ w g. renamed-at (exchange u v) s w ∙ ap s (exchange-other u v w (λ e. omega arith) (λ e. omega arith)) ∙ h .past w g }
@@ -140,8 +140,8 @@ start-state word h = state-of-block (stateOf word) (word-inside word h)
 
 -- ---- a gate over the wires of a circuit
 
--- a gate over wires 1 to 255 keeps the state within its block
-pub act-inside : (most : ℕ) → most ≤ mostWires → (g : Gate) (s : State) → within most (wires g) ≡ true → InBlock s → InBlock (act g s)
+-- a gate over wires that have their bits in the block keeps the state within its block
+pub act-inside : (most : ℕ) → most ≤ blockBits → (g : Gate) (s : State) → within most (wires g) ≡ true → InBlock s → InBlock (act g s)
 unfolding act wires
 act-inside most h (flip cs t) s e i =
     let at-t = within-head most t (cs .ones ++ cs .zeros) e in
