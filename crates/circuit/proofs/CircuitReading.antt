@@ -67,7 +67,8 @@ countIn bs = getD bs 3 0 + 256 * getD bs 4 0 + 65536 * getD bs 5 0 + 16777216 * 
 
 -- the header's tests of at least 7 bytes, then the gates
 opened : (bs : List ℕ) → headerLength ≤ length bs →
-    circuitOf (inputAt bs 0) ≡ provided (eqb (getD bs 0 0) circuitEdition) notWellFormed (provided (leb 1 (getD bs 1 0) && leb (getD bs 1 0) mostQubits) notWellFormed
+    circuitOf (inputAt bs 0)
+      ≡ provided (eqb (getD bs 0 0) circuitEdition) notWellFormed (provided (leb 1 (getD bs 1 0) && leb (getD bs 1 0) mostQubits) notWellFormed
     (provided (leb (getD bs 1 0 + getD bs 2 0) mostWires) notWellFormed
     (wholeCircuit (getD bs 1 0) (getD bs 2 0) (readGates (getD bs 1 0 + getD bs 2 0) (countIn bs) (inputAt bs headerLength)))))
 unfolding circuitOf fourByteNumber andThen

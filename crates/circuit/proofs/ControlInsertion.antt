@@ -180,7 +180,8 @@ module _ (c : ControlLists) (u v : ℕ) where
 pub ruleset swaps = (needs, swap-rising, swap-falling)
 
 -- controls take a wire while neither list is full
-pub asking-takes : (w : ℕ) (bit : Bool) (cs : Controls) → length (cs .ones) < mostControls → length (cs .zeros) < mostControls → askingWithin w bit cs ≡ asking w bit cs
+pub asking-takes : (w : ℕ) (bit : Bool) (cs : Controls) → length (cs .ones) < mostControls → length (cs .zeros) < mostControls →
+    askingWithin w bit cs ≡ asking w bit cs
 unfolding askingWithin asking
 asking-takes w true cs h k = rw (within-takes w (cs .ones) h)
 asking-takes w false cs h k = rw (within-takes w (cs .zeros) k)

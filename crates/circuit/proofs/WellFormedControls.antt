@@ -79,7 +79,8 @@ controls-zero low most a b l m h k = byEq b a
     (λ r. simp (r, and-false))))
 
 -- what the loop of `controls_well_formed` keeps
-module _ (bs : List ℕ) (one ones zero zeros low most : ℕ) (whole : Bool) (inv : whole ≡ controlsWellFormed low most (part bs one ones) (part bs zero zeros)) where
+module _ (bs : List ℕ) (one ones zero zeros low most : ℕ) (whole : Bool)
+    (inv : whole ≡ controlsWellFormed low most (part bs one ones) (part bs zero zeros)) where
   module _ (rest : Bool) (is : rest ≡ rising low most (part bs zero zeros)) where
     pub controls-loop-ones : ones ≤ 0 → rest ≡ whole
     controls-loop-ones l = rw (is, inv, part-none bs one ones l) (sym (controls-no-ones low most (part bs zero zeros)))
@@ -120,4 +121,5 @@ module _ (bs : List ℕ) (one ones zero zeros low most : ℕ) (whole : Bool) (in
           (controls-zero low most (getD bs one 0) (getD bs zero 0) (part bs (one + 1) (ones - 1)) (part bs (zero + 1) (zeros - 1)) e lower)
 
 pub ruleset control-checks =
-    (needs, controls-loop-ones, controls-loop-ones-past, controls-loop-zeros, controls-loop-zeros-past, controls-loop-one-low, controls-loop-one, controls-loop-zero-low, controls-loop-zero)
+    (needs, controls-loop-ones, controls-loop-ones-past, controls-loop-zeros, controls-loop-zeros-past, controls-loop-one-low, controls-loop-one,
+    controls-loop-zero-low, controls-loop-zero)

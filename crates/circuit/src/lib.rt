@@ -57,7 +57,7 @@ pub enum GateRead {
 }
 
 // Is the wire among `count` wires from a place on?
-pub fn contains(bytes: &[u8], from: usize, count: usize, wire: u8) -> bool
+fn contains(bytes: &[u8], from: usize, count: usize, wire: u8) -> bool
     ensures { λ r. ⌜ r ≡ member wire (part (now (bytes .entry)) from count) ⌝ }
 {
     let mut at = from;
@@ -207,7 +207,7 @@ fn read_list(bytes: &[u8], at: usize, stands: bool) -> ListRead
 }
 
 // The gate, if it is well formed.
-pub fn check_gate(bytes: &[u8], gate: GateAt, most: u8) -> GateRead
+fn check_gate(bytes: &[u8], gate: GateAt, most: u8) -> GateRead
     ensures { λ r. ⌜ gateParsed (now (bytes .entry)) r
         ≡ gateChecked most (gateIn (now (bytes .entry)) gate) (inputAt (now (bytes .entry)) (gate .next)) ⌝ }
 {
@@ -306,7 +306,9 @@ fn little_endian(a: u8, b: u8, c: u8, d: u8) -> u32
     a as u32 + 256 * (b as u32) + 65536 * (c as u32) + 16777216 * (d as u32)
 }
 
-// A circuit's header: edition byte 1, n of 1 to 32, at most 255 wires, in at most 65,536 bytes.
+// A circuit's header: edition byte 1, n of 1 to 32, at most 255 wires, in at most 65,536 bytes. The gates are not looked at. Of a circuit that is
+// well formed the promise gives its n, ancillas and gate count. Of one that is not it gives neither answer: `NoHeader`, or a header behind which no reading
+// of gates gives a circuit. Either way whoever reads on from the answer ends as the definition does, in 14.
 pub fn read_header(bytes: &[u8]) -> HeaderRead
     ensures { λ r. ⌜ circuitAfter (now (bytes .entry)) r ≡ circuitRead (now (bytes .entry)) ⌝ }
 {

@@ -90,7 +90,7 @@ fn run_gates(bytes: &[u8], from: usize, most: u8, count: u32, wires: Wires) -> R
 }
 
 // "A refusal gives its number and otherwise zeros."
-pub fn refused(number: u8) -> CircuitBlock
+fn refused(number: u8) -> CircuitBlock
     ensures { λ r. ⌜ r ≡ refusedBlock number ⌝ }
 {
     CircuitBlock {
@@ -102,7 +102,7 @@ pub fn refused(number: u8) -> CircuitBlock
 }
 
 // "Reading a circuit gives 14 before 13."
-pub fn answer(ran: Ran, word: u64) -> CircuitBlock
+fn answer(ran: Ran, word: u64) -> CircuitBlock
     ensures { λ r. ⌜ r ≡ endAnswer word (wiresAtEnd ran) ⌝ }
 {
     let wires = ran.wires;

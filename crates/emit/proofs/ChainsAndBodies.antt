@@ -32,7 +32,8 @@ use Rattle.events.specs.Scan.{Progress, progress, emitOf, freed, placed, stored
 use Rattle.events.specs.Slots.{appears, seekOf}
 use Rattle.events.specs.FollowedEvents.{Follows, Opens, Invokes}
 use Rattle.emit.specs.WalkPromises.{
-  Ready, Roomy, bodyDepth, chainsIn, bodiesUpTo, leftOf, rightOf, DoneIn, Call, walks-call, Left, Right, BodyLeft, walks-body-left, BodyRight, walks-body-right, Bodies,
+  Ready, Roomy, bodyDepth, chainsIn, bodiesUpTo, leftOf, rightOf, DoneIn, Call, walks-call, Left, Right, BodyLeft, walks-body-left, BodyRight,
+  walks-body-right, Bodies,
   walks-bodies, Rest, walks-rest, Inner, walks-inner, Body, walks-body,
 }
 use Rattle.events.proofs.ScanOfEvents.{scan-append, scan-stopped, scan-places, scan-no-gate, scan-many, scan-frees, nextAfter, stacked-after}
@@ -265,7 +266,8 @@ module _ {bs ix m : List ℕ} {p k : ℕ} {write : Bool} {st : Emit} {room ws : 
     follows-as write (around-is (programAt p bs ix) (chainsIn bs ix p k) s later (st .next) inner) (follows-append write F (follows-append write G₁ H)))
 
 -- the body of f by its record
-body-is : (p : ℕ) (bs ix : List ℕ) (f i depth : ℕ) → i ≡ startOf ix (rootsAt + f) → depth ≡ bodyDepth p f → statementAt p bs ix depth i ≡ body (programAt p bs ix) f
+body-is : (p : ℕ) (bs ix : List ℕ) (f i depth : ℕ) → i ≡ startOf ix (rootsAt + f) → depth ≡ bodyDepth p f →
+    statementAt p bs ix depth i ≡ body (programAt p bs ix) f
 body-is p bs ix f i depth at deep = byLt p f
     (λ lt. let none : depth ≡ 0 = deep ∙ rw (lt-ltb p f lt) in
       spent-skip p bs ix depth i none ∙ sym (body-out (programAt p bs ix) f (rw (count-at p bs ix) lt)))
@@ -287,7 +289,8 @@ module _ {bs ix m : List ℕ} {p k : ℕ} {write : Bool} {st : Emit} {room ws : 
     let O = use-left A R (under-roomy p f depth w cs deep is-cs) in
     rw (body-is p bs ix f i depth at deep, is-f, is-l, is-cs, is-w) at O)
 
-  pub body-right-walk : {first : ℕ} → Right bs ix m p k write st room ws r room₁ ws₁ f i depth l cs first → BodyRight bs ix m p k write st room ws r room₁ ws₁ d first
+  pub body-right-walk : {first : ℕ} → Right bs ix m p k write st room ws r room₁ ws₁ f i depth l cs first →
+      BodyRight bs ix m p k write st room ws r room₁ ws₁ d first
   unfolding slotOf
   body-right-walk {first = first} A = walks-body-right (λ R h Q.
     let F = use-right A R (under-roomy p f depth w cs deep is-cs) (λ ok. rw (body-is p bs ix f i depth at deep, is-f, is-l) (Q ok)) in
@@ -295,7 +298,8 @@ module _ {bs ix m : List ℕ} {p k : ℕ} {write : Bool} {st : Emit} {room ws : 
 
 -- a chain's end: its first ancilla is flipped back, and all its ancillas are given back
 finish-between : (write : Bool) (g : Gate) (a : ℕ) (b : Emit) (room : List ℕ) → a ≤ b .next →
-    (a ≤ emitOf (scan write (places g ∷ frees a ∷ []) (progress b room)) .next) × (emitOf (scan write (places g ∷ frees a ∷ []) (progress b room)) .next ≤ b .next)
+    (a ≤ emitOf (scan write (places g ∷ frees a ∷ []) (progress b room)) .next)
+      × (emitOf (scan write (places g ∷ frees a ∷ []) (progress b room)) .next ≤ b .next)
 finish-between write g a b room h = byBool (eqb (b .status) 0)
     (λ z. let ok = eqb-true (b .status) 0 z in byLt (usable (length room)) (b .used + length (encode g))
       (λ lt. rw (scan-no-gate write (frees a ∷ []) b room ok g lt) (h, le-refl (b .next)))

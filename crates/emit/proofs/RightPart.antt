@@ -213,7 +213,8 @@ module _ {bs ix m : List ℕ} {p k : ℕ} {write : Bool} {st : Emit} {room ws : 
                     ++ right (chainsIn bs ix p k) rec X l (asking q false cs) first (st .next)) (second-is ok))
                   (right-then-right bs ix p k f l (asking q true cs) (asking q false cs) first second X Y R F G)))
             where
-              exactly : (first n second zero-count count other all : ℕ) → n ≡ min mostCalls zero-count → second ≡ min mostCalls (first + n) → zero-count ≡ count →
+              exactly : (first n second zero-count count other all : ℕ) → n ≡ min mostCalls zero-count → second ≡ min mostCalls (first + n) →
+                  zero-count ≡ count →
                   all ≡ count + other → first + all ≤ wireCount → second ≡ first + count
               exactly first n second zero-count count other all a b c d e = omega arith
               total : (first count other all : ℕ) → all ≡ count + other → first + all ≤ wireCount → first + count + other ≤ wireCount

@@ -36,7 +36,8 @@ pub finished : (write : Bool) (cs : Controls) (base w : ℕ) (x : Progress) (a r
     progress a room ≡ scan write (places (flip cs w) ∷ []) x → r ≡ returned base a →
     progress r room ≡ scan write (places (flip cs (wireOf base)) ∷ frees base ∷ []) x
 finished write cs base w x a r room e p q =
-    rw (q, ← e) (scan-first write (places (flip cs w)) (frees base ∷ []) x (progress a room) (progress (returned base a) room) p (returned-scan write base a room))
+    rw (q, ← e) (scan-first write (places (flip cs w)) (frees base ∷ []) x (progress a room)
+      (progress (returned base a) room) p (returned-scan write base a room))
 
 -- the ways out of `flip_again`
 no-return : (write : Bool) (cs : Controls) (a : ℕ) (x : Progress) → x ≡ scan write (returns [] cs a) x

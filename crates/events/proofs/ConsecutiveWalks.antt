@@ -18,7 +18,9 @@ use Rattle.model.specs.Answers.{usable}
 use Rattle.model.proofs.BooleanLaws.{byBool, byLt, byEq}
 use Rattle.agreement.proofs.AncillaStack.{OnlyGates}
 use Rattle.events.specs.declared.Emit.{Emit}
-use Rattle.events.specs.Scan.{Progress, progress, emitOf, placed, stored, scan, bytesFrom, slotAt, slotListLength, slotProcedure, slotList, slotOf, heldIn}
+use Rattle.events.specs.Scan.{
+  Progress, progress, emitOf, placed, stored, scan, bytesFrom, slotAt, slotListLength, slotProcedure, slotList, slotOf, heldIn,
+}
 use Rattle.events.specs.Slots.{filled, pairAt, appears}
 use Rattle.events.specs.FollowedEvents.{Follows}
 use Rattle.events.proofs.ScanOfEvents.{scan-append, scan-stopped, scan-places, scan-no-gate, scan-many, scan-next, nextAfter}
@@ -143,7 +145,8 @@ bytes-stored ws i (v ∷ vs) h =
 module _ (ws : List ℕ) (a f : ℕ) (l : List ℕ) (space : slotsLength ≤ length ws) (low : a ≤ mostWires) (short : length l ≤ mostQubits) where
   filled-procedure : slotProcedure (filled ws a f l) a ≡ f
   filled-procedure =
-    getD-before (set ws (slotLength * a) f) (suc (slotLength * a)) (length l ∷ l) (slotLength * a) (omega arith) ∙ getD-set-same ws (slotLength * a) f 0 (omega arith)
+    getD-before (set ws (slotLength * a) f) (suc (slotLength * a)) (length l ∷ l) (slotLength * a) (omega arith)
+      ∙ getD-set-same ws (slotLength * a) f 0 (omega arith)
 
   filled-length : slotListLength (filled ws a f l) a ≡ length l
   filled-length =

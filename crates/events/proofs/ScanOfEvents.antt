@@ -30,7 +30,8 @@ scan-append write [] ys x = refl
 scan-append write (e ∷ xs) ys (progress st room) = scan-append write xs ys _
 
 -- a refusal absorbs what follows
-pub scan-stopped : (write : Bool) (es : List Event) (st : Emit) (room : List ℕ) → eqb (st .status) 0 ≡ false → scan write es (progress st room) ≡ progress st room
+pub scan-stopped : (write : Bool) (es : List Event) (st : Emit) (room : List ℕ) → eqb (st .status) 0 ≡ false →
+    scan write es (progress st room) ≡ progress st room
 unfolding scan
 scan-stopped write [] st room h = refl
 scan-stopped write (e ∷ es) st room h = rw h (scan-stopped write es st room h)

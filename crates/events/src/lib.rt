@@ -391,7 +391,8 @@ pub fn finish(base: u16, controls: ControlLists, write: bool, room: &mut [u8], s
 
 // A recursive call's ancilla is flipped "again at its place in the right". "A call with an empty list emits nothing"
 pub fn flip_again(list: Qubits, controls: ControlLists, a: u16, write: bool, room: &mut [u8], st: Emit) -> Emit
-    ensures { λ r. ⌜ progress r (now (room .exit)) ≡ scan write (returns (qubitsOf list) (controlsFrom controls) (wireOf a)) (progress st (now (room .entry))) ⌝ }
+    ensures { λ r. ⌜ progress r (now (room .exit))
+        ≡ scan write (returns (qubitsOf list) (controlsFrom controls) (wireOf a)) (progress st (now (room .entry))) ⌝ }
 {
     let m = size(list);
     if m == 0 {

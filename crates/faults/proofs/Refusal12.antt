@@ -101,7 +101,8 @@ module _ (p : ℕ) (bs ix : List ℕ) (few : p ≤ mostProcedures) where
   rank-is : (f : ℕ) → f ≤ mostProcedures → rankAt ranks f ≡ rank P f
   unfolding rank
   rank-is f l = rw (lt-ltb f bodyCount (suc-le-suc l))
-    (ranks-at matrix p bodyCount f (suc-le-suc l) (le-refl bodyCount) ∙ rank-below f (suc p) ∙ ap (λ (n : ℕ). howMany (from P f) (suc n)) (sym (count-at p bs ix)))
+    (ranks-at matrix p bodyCount f (suc-le-suc l) (le-refl bodyCount) ∙ rank-below f (suc p)
+      ∙ ap (λ (n : ℕ). howMany (from P f) (suc n)) (sym (count-at p bs ix)))
 
   -- a table that has, of the procedures and lengths that D tells, what they touch
   record Holds (known : List ℕ) (D : ℕ → ℕ → Type 0) : Type 0 where

@@ -34,7 +34,8 @@ module _ (o : CallTouches) (s u : Statement) (m : ℕ) where
       ≡ rowOf (closes q (joined (touches o s (min m mostQubits)) (touches o u (min m mostQubits))))
   closes-rows q = closed-row q (joined (touches o s (min m mostQubits)) (touches o u (min m mostQubits)))
     (λ past. let far : min m mostQubits < q = omega (arith, short m) in
-      or-false (touches o s (min m mostQubits) q) (touches o u (min m mostQubits) q) (touches-inside o s (min m mostQubits) q far) (touches-inside o u (min m mostQubits) q far))
+      or-false (touches o s (min m mostQubits) q) (touches o u (min m mostQubits) q) (touches-inside o s (min m mostQubits) q far)
+        (touches-inside o u (min m mostQubits) q far))
 
 -- the row of what the statement at record i touches of a list of m entries, of 32 at most
 abbrev rowAt : List ℕ → ℕ → List ℕ → List ℕ → ℕ → ℕ → ℕ → ℕ
@@ -72,7 +73,8 @@ module _ (known : List ℕ) (p : ℕ) (bs ix : List ℕ) (m depth i : ℕ) where
         let size : length l ≡ min m mostQubits = ap length listed ∙ range-length (min m mostQubits) 1 in
         let o = knownTouches known in
         r ∙ sym (chosen-means (λ s. rowOf (touches o s (min m mostQubits))) l
-          (λ c s t h. ap rowOf (touches-yes o c s t (min m mostQubits) (rw size at h))) (λ c s t h. ap rowOf (touches-no o c s t (min m mostQubits) (rw size at h)))
+          (λ c s t h. ap rowOf (touches-yes o c s t (min m mostQubits) (rw size at h)))
+          (λ c s t h. ap rowOf (touches-no o c s t (min m mostQubits) (rw size at h)))
           p bs ix depth i deep steps e q)
 
     -- both parts, in sequence or under a qcase

@@ -2,11 +2,11 @@
 ghost use mathlib.Core.Path.{_≡_};
 ghost use mathlib.Core.List.{[], _∷_};
 ghost use Rattle.model.specs.Limits.{
-  tableEdition, mostProcedures, mostRecords, mostDepth, mostRemovals, kindCount, firstCondition, mostConstant, mostQubits, mostWires, circuitEdition, headerLength, mostCircuit,
-  blockLength, leastWorkspace,
+  tableEdition, mostProcedures, mostRecords, mostDepth, mostRemovals, kindCount, firstCondition, mostConstant, mostQubits, mostWires,
+  circuitEdition, headerLength, mostCircuit, blockLength, leastWorkspace,
 };
 ghost use Rattle.model.specs.Limits.{
-  success, tableStops, wrongEdition, manyProcedures, wrongKind, wrongMap, wrongField, tooDeep, bytesLeft, wrongQubits, noRemoval, tooWide,
+  tableStops, wrongEdition, manyProcedures, wrongKind, wrongMap, wrongField, tooDeep, bytesLeft, wrongQubits, noRemoval, tooWide,
   accessFault, highBit, notWellFormed, shortWorkspace, manyWires, noRoom,
 };
 ghost use Rattle.limits.specs.Sizes.{
@@ -64,9 +64,7 @@ pub const BLOCK_LENGTH: usize = 32;
 // "21 workspace shorter than 32,768 bytes"
 pub const LEAST_WORKSPACE: usize = 32768;
 
-// "Success is number 0"; "Refusals from the input"; "Refusals from the state"
-pub const SUCCESS: u8 = 0;
-
+// "Refusals from the input"
 pub const TABLE_STOPS: u8 = 1;
 
 pub const WRONG_EDITION: u8 = 2;
@@ -95,6 +93,7 @@ pub const HIGH_BIT: u8 = 13;
 
 pub const NOT_WELL_FORMED: u8 = 14;
 
+// "Refusals from the state"
 pub const SHORT_WORKSPACE: u8 = 21;
 
 pub const MANY_WIRES: u8 = 22;
@@ -142,25 +141,26 @@ pub const MOST_CALLS: u16 = 65535;
 // Each limit is the definition's.
 fn limits() -> [usize; 15]
     ensures {
-        λ r. ⌜ r ≡ tableEdition ∷ mostProcedures ∷ mostRecords ∷ mostDepth ∷ mostRemovals ∷ kindCount ∷ firstCondition ∷ mostConstant ∷ mostQubits ∷ mostWires ∷ circuitEdition ∷
-            headerLength ∷ mostCircuit ∷ blockLength ∷ leastWorkspace ∷ [] ⌝
+        λ r. ⌜ r ≡ tableEdition ∷ mostProcedures ∷ mostRecords ∷ mostDepth ∷ mostRemovals ∷ kindCount ∷ firstCondition ∷ mostConstant ∷
+            mostQubits ∷ mostWires ∷ circuitEdition ∷ headerLength ∷ mostCircuit ∷ blockLength ∷ leastWorkspace ∷ [] ⌝
     }
 {
     [
         TABLE_EDITION as usize, MOST_PROCEDURES as usize, MOST_RECORDS, MOST_DEPTH as usize, MOST_REMOVALS as usize, KIND_COUNT,
-        FIRST_CONDITION as usize, MOST_CONSTANT as usize, MOST_QUBITS as usize, MOST_WIRES as usize, CIRCUIT_EDITION as usize, HEADER_LENGTH, MOST_CIRCUIT, BLOCK_LENGTH, LEAST_WORKSPACE,
+        FIRST_CONDITION as usize, MOST_CONSTANT as usize, MOST_QUBITS as usize, MOST_WIRES as usize, CIRCUIT_EDITION as usize,
+        HEADER_LENGTH, MOST_CIRCUIT, BLOCK_LENGTH, LEAST_WORKSPACE,
     ]
 }
 
-// Each number of an answer is the definition's.
-fn numbers() -> [u8; 18]
+// Each refusal's number is the definition's.
+fn numbers() -> [u8; 17]
     ensures {
-        λ r. ⌜ r ≡ success ∷ tableStops ∷ wrongEdition ∷ manyProcedures ∷ wrongKind ∷ wrongMap ∷ wrongField ∷ tooDeep ∷ bytesLeft ∷ wrongQubits ∷
+        λ r. ⌜ r ≡ tableStops ∷ wrongEdition ∷ manyProcedures ∷ wrongKind ∷ wrongMap ∷ wrongField ∷ tooDeep ∷ bytesLeft ∷ wrongQubits ∷
             noRemoval ∷ tooWide ∷ accessFault ∷ highBit ∷ notWellFormed ∷ shortWorkspace ∷ manyWires ∷ noRoom ∷ [] ⌝
     }
 {
     [
-        SUCCESS, TABLE_STOPS, WRONG_EDITION, MANY_PROCEDURES, WRONG_KIND, WRONG_MAP, WRONG_FIELD, TOO_DEEP, BYTES_LEFT, WRONG_QUBITS, NO_REMOVAL,
+        TABLE_STOPS, WRONG_EDITION, MANY_PROCEDURES, WRONG_KIND, WRONG_MAP, WRONG_FIELD, TOO_DEEP, BYTES_LEFT, WRONG_QUBITS, NO_REMOVAL,
         TOO_WIDE, ACCESS_FAULT, HIGH_BIT, NOT_WELL_FORMED, SHORT_WORKSPACE, MANY_WIRES, NO_ROOM,
     ]
 }
@@ -168,7 +168,8 @@ fn numbers() -> [u8; 18]
 // Each size is the one that follows from the definitions' limits.
 fn sizes() -> [usize; 11]
     ensures {
-        λ r. ⌜ r ≡ bodyCount ∷ matrixLength ∷ lengthCount ∷ rowCount ∷ endsAt ∷ rootsAt ∷ indexLength ∷ placeCount ∷ mostControls ∷ slotLength ∷ mostCalls ∷ [] ⌝
+        λ r. ⌜ r ≡ bodyCount ∷ matrixLength ∷ lengthCount ∷ rowCount ∷ endsAt ∷ rootsAt ∷ indexLength ∷ placeCount ∷ mostControls ∷
+            slotLength ∷ mostCalls ∷ [] ⌝
     }
 {
     [BODY_COUNT, MATRIX_LENGTH, LENGTH_COUNT, ROW_COUNT, ENDS_AT, ROOTS_AT, INDEX_LENGTH, PLACE_COUNT, CONTROLS_LENGTH, SLOT_LENGTH, MOST_CALLS as usize]

@@ -15,7 +15,7 @@ use circuit::read_gate;
 use limits::HEADER_LENGTH;
 
 // One byte.
-pub fn put(text: &mut [u8], at: usize, byte: u8) -> usize
+fn put(text: &mut [u8], at: usize, byte: u8) -> usize
     ensures { λ r. ⌜ written (now (text .exit)) r ≡ puts (byte ∷ []) (now (text .entry)) at ⌝ }
 {
     if text.len() <= at {
@@ -109,7 +109,7 @@ fn put_placed(
 }
 
 // "controls ascending (+ on 1, − on 0, printed as a hyphen)": before each control on 1 come the controls on 0 below it.
-pub fn put_controls(
+fn put_controls(
     text: &mut [u8],
     at: usize,
     circuit: &[u8],

@@ -95,7 +95,8 @@ not-below n = le-ltb n n (omega arith)
 module _ (m : List ℕ) (R : ℕ → ℕ → Bool) (h : Shows m R) (f v g : ℕ) (lf : f ≤ mostProcedures) (lv : v ≤ mostProcedures) (lg : g ≤ mostProcedures) where
   shows-carried : Shows (carried (cell v g) (cell f g) m) (λ x y. R x y || (eqb f x && (eqb g y && R v g)))
   unfolding carried
-  shows-carried = let within : cell f g < matrixLength = omega arith in rw (lt-ltb (cell f g) matrixLength within, shows-mark-at m R h v g lv lg) (byBool (R v g)
+  shows-carried = let within : cell f g < matrixLength = omega arith in
+      rw (lt-ltb (cell f g) matrixLength within, shows-mark-at m R h v g lv lg) (byBool (R v g)
     (λ e. rw e (shows-as (set m (cell f g) 1) (λ x y. R x y || (eqb f x && eqb g y)) (λ x y. R x y || (eqb f x && (eqb g y && true)))
       (λ x y lx ly. rw (and-true (eqb g y))) (shows-set m R h f g lf lg)))
     (λ e. rw e (shows-as m R (λ x y. R x y || (eqb f x && (eqb g y && false)))
@@ -209,4 +210,5 @@ module _ (R : ℕ → ℕ → Bool) where
         let column : k % bodyCount < bodyCount = mod-lt k (suc-le-suc zero-le) in
         let split : cell (k / bodyCount) (k % bodyCount) ≡ k = div-add-mod k bodyCount in
         let row : k / bodyCount ≤ mostProcedures = omega arith in
-        ap (λ (i : ℕ). getD m i 0) (sym split) ∙ h .cells (k / bodyCount) (k % bodyCount) row (omega arith) ∙ sym (digit-at k (k / bodyCount) (k % bodyCount) below refl refl)
+        ap (λ (i : ℕ). getD m i 0) (sym split) ∙ h .cells (k / bodyCount) (k % bodyCount) row (omega arith)
+          ∙ sym (digit-at k (k / bodyCount) (k % bodyCount) below refl refl)

@@ -54,7 +54,8 @@ module _ (bs ix : List ℕ) (n word space : ℕ) (j : Checked) (is : checkedOutc
       run-short h = rw (checked, ← e, t, lt-leb leastWorkspace space h)
 
       -- the end word
-      pub run-given : leastWorkspace ≤ space → (value : ℕ) → value ≡ ranWord P (min n mostQubits) word → record { number = 0; value = value } ≡ answerOf (run bs n word space)
+      pub run-given : leastWorkspace ≤ space → (value : ℕ) → value ≡ ranWord P (min n mostQubits) word →
+          record { number = 0; value = value } ≡ answerOf (run bs n word space)
       unfolding run after require answerOf
       run-given h value v = rw (checked, ← e, t, le-leb leastWorkspace space h,
         ran-min P n word value (range .few) (range .passes12) (ltb-true word (2 ^ n) (sym e ∙ t)) v)

@@ -164,7 +164,7 @@ pub fn start(index: &[u16], i: usize) -> usize
 }
 
 // The record behind the subtree of record i.
-pub fn subtree_end(index: &[u16], i: usize) -> usize
+fn subtree_end(index: &[u16], i: usize) -> usize
     ensures { λ r. ⌜ r ≡ endOf (now (index .entry)) i ⌝ }
 {
     if index.len() <= i {

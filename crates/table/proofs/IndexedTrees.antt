@@ -239,8 +239,10 @@ conditions-sorted k = byLt k firstCondition
     })
     (λ l.
     record {
-      there = λ w e. let m = ltb-true k kindCount (rw (le-ltb k firstCondition l) at w) in entry-there kinds (k - firstCondition) (omega arith) (rw (le-ltb k firstCondition l) at e);
-      lacks = λ w. let m = ltb-false k kindCount (rw (le-ltb k firstCondition l) at w) in rw (le-ltb k firstCondition l) (entry-lacks kinds (k - firstCondition) (omega arith));
+      there = λ w e. let m = ltb-true k kindCount (rw (le-ltb k firstCondition l) at w) in
+          entry-there kinds (k - firstCondition) (omega arith) (rw (le-ltb k firstCondition l) at e);
+      lacks = λ w. let m = ltb-false k kindCount (rw (le-ltb k firstCondition l) at w) in
+          rw (le-ltb k firstCondition l) (entry-lacks kinds (k - firstCondition) (omega arith));
       small = λ w. ltb-true k kindCount (rw (le-ltb k firstCondition l) at w);
     })
   where

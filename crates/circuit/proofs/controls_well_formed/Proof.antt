@@ -9,7 +9,8 @@ use Rattle.circuit.proofs.controls_well_formed.Tie as tie
 
 abbrev Inv-loop : tie.InvT-loop
 Inv-loop bytes most low₀ one₀ ones-left₀ zero₀ zeros-left₀ low one ones-left zero zeros-left =
-    controlsWellFormed 0 most (part bytes one₀ ones-left₀) (part bytes zero₀ zeros-left₀) ≡ controlsWellFormed low most (part bytes one ones-left) (part bytes zero zeros-left)
+    controlsWellFormed 0 most (part bytes one₀ ones-left₀) (part bytes zero₀ zeros-left₀)
+      ≡ controlsWellFormed low most (part bytes one ones-left) (part bytes zero zeros-left)
 
 abbrev μ-loop : tie.MeasureT-loop
 μ-loop bytes most low₀ one₀ ones-left₀ zero₀ zeros-left₀ low one ones-left zero zeros-left = ones-left + zeros-left

@@ -13,7 +13,8 @@ use Rattle.events.proofs.load.Tie as tie
 
 abbrev Inv-loop : tie.InvT-loop
 Inv-loop ws a from len at₀ n i₀ at i =
-    (from ≡ slotLength * a + 2) × (len ≡ slotListLength ws a) × (n ≡ len) × (i ≤ n) × (n ≤ mostQubits) × (length at ≡ mostQubits) × (take i at ≡ bytesFrom ws from i)
+    (from ≡ slotLength * a + 2) × (len ≡ slotListLength ws a) × (n ≡ len) × (i ≤ n) × (n ≤ mostQubits) × (length at ≡ mostQubits)
+      × (take i at ≡ bytesFrom ws from i)
 
 abbrev μ-loop : tie.MeasureT-loop
 μ-loop ws a from len at₀ n i₀ at i = n - i
