@@ -13,7 +13,7 @@ use lib.Dec.{eqb}
 use Rattle.model.specs.Syntax.{Statement, skip, NOT, sequence, if, qcase, call, Program, count, body}
 use Rattle.model.specs.Lists.{qubits, remaining, touched, holds, member}
 use Rattle.model.specs.Reach.{recursive}
-use Rattle.model.specs.Gates.{Controls, noControls, asking, flip, exchange}
+use Rattle.model.specs.Gates.{Controls, noControls, withControl, flip, exchange}
 use Rattle.model.specs.Emission.{
   Event, takes, places, frees, Chains, startChain, whole, Invocation, invocation, invoked, isWide, invocations, invokes, returns, left, right, under,
   swaps, entryGates, samePair, allEntryGates, Emitted, bodyInvocations, around, bodies, bodiesFrom, chainsWithin, emission, below, inUse, peak,
@@ -71,8 +71,8 @@ module _ (n : ℕ) where
       (λ e. rw (whole-yes chains l cs next c s t e) (whole-stacked s l cs next h))
       (λ e. rw (whole-no chains l cs next c s t e) (whole-stacked t l cs next h))
     whole-stacked (qcase rs a s t) l cs next h =
-      let zero-side = asking (touched rs a l) false cs in
-      let one-side = asking (touched rs a l) true cs in
+      let zero-side = withControl (touched rs a l) false cs in
+      let one-side = withControl (touched rs a l) true cs in
       stacked-append next next next (whole chains s l zero-side next) (whole chains t l one-side next)
         (whole-stacked s l zero-side next h) (whole-stacked t l one-side next h)
     whole-stacked (call rs f) l cs next h = startChain-stacked f (remaining rs l) cs next h
@@ -98,8 +98,8 @@ module _ (n : ℕ) where
       (λ e. rw (left-no chains r l cs next c s t e, invocations-no r l next c s t e) (left-stacked r t l cs next h))
     left-stacked r (qcase rs a s t) l cs next h =
       let m = next + length (invocations r s l next) in
-      let zero-side = asking (touched rs a l) false cs in
-      let one-side = asking (touched rs a l) true cs in
+      let zero-side = withControl (touched rs a l) false cs in
+      let one-side = withControl (touched rs a l) true cs in
       let k = length (invocations r t l m) in
       let e : next + length (invocations r s l next ++ invocations r t l m) ≡ m + k = rw length-append (omega arith) in
       rw e (stacked-append next m (m + k) (left chains r s l zero-side next) (left chains r t l one-side m)
@@ -133,8 +133,8 @@ module _ (n : ℕ) where
       (λ e. rw (right-no chains r l cs next c s t top e) (right-stacked r t l cs next top h))
     right-stacked r (qcase rs a s t) l cs next top h =
       let m = next + length (invocations r s l next) in
-      let zero-side = asking (touched rs a l) false cs in
-      let one-side = asking (touched rs a l) true cs in
+      let zero-side = withControl (touched rs a l) false cs in
+      let one-side = withControl (touched rs a l) true cs in
       stacked-append top top top (right chains r t l one-side m top) (right chains r s l zero-side next top)
         (right-stacked r t l one-side m top h) (right-stacked r s l zero-side next top h)
     right-stacked r (call rs f) l cs next top h = byBool (r f)

@@ -10,7 +10,7 @@ use lib.ListN.{length}
 use Rattle.model.specs.Syntax.{Statement, skip, NOT, sequence, if, qcase, call, Program, count, body}
 use Rattle.model.specs.Lists.{qubits, remaining, touched, holds}
 use Rattle.model.specs.Reach.{recursive, width, anyTooWide}
-use Rattle.model.specs.Gates.{Controls, noControls, asking}
+use Rattle.model.specs.Gates.{Controls, noControls, withControl}
 use Rattle.model.specs.Emission.{Chains, startChain, whole, Invocation, invocation, invoked, isWide, invocations, left, right, under, isFirst}
 use Rattle.model.specs.Emission.{Emitted, bodyInvocations, around, bodies, bodiesFrom, chainsWithin, emission}
 use Rattle.model.proofs.BooleanLaws.{byBool, not-zero}
@@ -57,7 +57,7 @@ module _ (Q : ℕ → Type 0) (chains chains′ : Chains) (A : Agree Q chains ch
     (λ e. rw (whole-yes chains l cs next c s t e, whole-yes chains′ l cs next c s t e) (whole-agree s l cs next (q .0)))
     (λ e. rw (whole-no chains l cs next c s t e, whole-no chains′ l cs next c s t e) (whole-agree t l cs next (q .1)))
   whole-agree (qcase rs a s t) l cs next q =
-    rw (whole-agree s l (asking (touched rs a l) false cs) next (q .0), whole-agree t l (asking (touched rs a l) true cs) next (q .1))
+    rw (whole-agree s l (withControl (touched rs a l) false cs) next (q .0), whole-agree t l (withControl (touched rs a l) true cs) next (q .1))
   whole-agree (call rs f) l cs next q = start-agree f (remaining rs l) cs next q
 
   -- the parts of a body: its recursive calls start no chain
@@ -74,8 +74,8 @@ module _ (Q : ℕ → Type 0) (chains chains′ : Chains) (A : Agree Q chains ch
       (λ e. rw (left-yes chains r l cs next c s t e, left-yes chains′ r l cs next c s t e) (left-agree s l cs next (o .0)))
       (λ e. rw (left-no chains r l cs next c s t e, left-no chains′ r l cs next c s t e) (left-agree t l cs next (o .1)))
     left-agree (qcase rs a s t) l cs next o =
-      rw (left-agree s l (asking (touched rs a l) false cs) next (o .0),
-        left-agree t l (asking (touched rs a l) true cs) (next + length (invocations r s l next)) (o .1))
+      rw (left-agree s l (withControl (touched rs a l) false cs) next (o .0),
+        left-agree t l (withControl (touched rs a l) true cs) (next + length (invocations r s l next)) (o .1))
     left-agree (call rs f) l cs next o = byBool (r f)
       (λ e. rw (left-recursive chains r l cs next rs f e, left-recursive chains′ r l cs next rs f e))
       (λ e. rw (left-other chains r l cs next rs f e, left-other chains′ r l cs next rs f e) (start-agree f (remaining rs l) cs next (o e)))
@@ -98,8 +98,8 @@ module _ (Q : ℕ → Type 0) (chains chains′ : Chains) (A : Agree Q chains ch
       (λ e. rw (right-no chains r l cs next c s t top e, right-no chains′ r l cs next c s t top e)
         (right-agree t l cs next top (o .1) (width-if r c s t w .1)))
     right-agree (qcase rs a s t) l cs next top o w =
-      rw (right-agree t l (asking (touched rs a l) true cs) (next + length (invocations r s l next)) top (o .1) (width-qcase r rs a s t w .1),
-        right-agree s l (asking (touched rs a l) false cs) next top (o .0) (width-qcase r rs a s t w .0))
+      rw (right-agree t l (withControl (touched rs a l) true cs) (next + length (invocations r s l next)) top (o .1) (width-qcase r rs a s t w .1),
+        right-agree s l (withControl (touched rs a l) false cs) next top (o .0) (width-qcase r rs a s t w .0))
     right-agree (call rs f) l cs next top o w = refl
 
 -- Q holds of the procedure of every invocation

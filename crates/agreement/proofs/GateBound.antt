@@ -16,7 +16,7 @@ use lib.Dec.{eqb, ltb}
 use Rattle.model.specs.Syntax.{Statement, skip, NOT, sequence, if, qcase, call, Program, count, body}
 use Rattle.model.specs.Lists.{qubits, remaining, touched, holds, member}
 use Rattle.model.specs.Reach.{calls, recursive, width, anyLacksRemoval, anyTooWide}
-use Rattle.model.specs.Gates.{Controls, noControls, asking, exchange}
+use Rattle.model.specs.Gates.{Controls, noControls, withControl, exchange}
 use Rattle.model.specs.Emission.{Event, takes, places, frees, Chains, startChain, whole, Invocation, invocation, invoked, isWide, invocations}
 use Rattle.model.specs.Emission.{invokes, returns, left, right, under, swaps, entryGates, samePair, allEntryGates, isFirst, Emitted, bodyInvocations, around}
 use Rattle.model.specs.Emission.{bodies, bodiesFrom, chainsWithin, emission, gates}
@@ -248,8 +248,8 @@ module _ (p : ℕ) (rank : ℕ → ℕ) (n u j T : ℕ) (chains : Chains) (CB : 
     (λ e. rw (whole-yes chains l cs next c s t e) (let x = whole-size s l cs next (i .0) (r .0) h in omega arith))
     (λ e. rw (whole-no chains l cs next c s t e) (let y = whole-size t l cs next (i .1) (r .1) h in omega arith))
   whole-size (qcase rs a s t) l cs next i r h = rw size-append
-    (let x = whole-size s l (asking (touched rs a l) false cs) next (i .0) (r .0) h in
-     let y = whole-size t l (asking (touched rs a l) true cs) next (i .1) (r .1) h in omega arith)
+    (let x = whole-size s l (withControl (touched rs a l) false cs) next (i .0) (r .0) h in
+     let y = whole-size t l (withControl (touched rs a l) true cs) next (i .1) (r .1) h in omega arith)
   whole-size (call rs f) l cs next i r h =
     let x = startChain-size f (remaining rs l) cs next i r (let z = remaining-no-longer rs l in omega arith) in omega arith
 
@@ -274,8 +274,8 @@ module _ (p : ℕ) (rank : ℕ → ℕ) (n u j T : ℕ) (chains : Chains) (CB : 
       (let x = parts-size r t l cs next top (i .1) (q .1) (width-if r c s t w .1) h in omega arith))
   parts-size r (qcase rs a s t) l cs next top i q w h =
     let m = next + length (invocations r s l next) in
-    let x = parts-size r s l (asking (touched rs a l) false cs) next top (i .0) (q .0) (width-qcase r rs a s t w .0) h in
-    let y = parts-size r t l (asking (touched rs a l) true cs) m top (i .1) (q .1) (width-qcase r rs a s t w .1) h in
+    let x = parts-size r s l (withControl (touched rs a l) false cs) next top (i .0) (q .0) (width-qcase r rs a s t w .0) h in
+    let y = parts-size r t l (withControl (touched rs a l) true cs) m top (i .1) (q .1) (width-qcase r rs a s t w .1) h in
     simp (length-append, size-append) (omega arith)
   parts-size r (call rs f) l cs next top i q w h = byBool (r f)
     (λ e. rw (left-recursive chains r l cs next rs f e, right-recursive chains r l cs next rs f top e, invocations-recursive r l next rs f e)

@@ -9,7 +9,7 @@ use Rattle.model.specs.Syntax.{Statement, skip, NOT, sequence, if, qcase, call,
 use Rattle.model.specs.Lists.{remaining, touched, holds}
 use Rattle.model.specs.Meaning.{State, CallDoes}
 use Rattle.model.specs.Reach.{width}
-use Rattle.model.specs.Gates.{Controls, asking, flip, fires}
+use Rattle.model.specs.Gates.{Controls, withControl, flip, fires}
 use Rattle.model.specs.Emission.{places, Chains, isWide, invocations, invokes, returns, left, right}
 use Rattle.model.proofs.BooleanLaws.{byBool}
 use Rattle.model.proofs.ListLaws.{Distinct, Data, data-remaining, remaining-distinct}
@@ -51,8 +51,8 @@ module _ (P : Program) (rank : ℕ → ℕ) (E : CallDoes) (G : Safely) (n : ℕ
   left-rests (qcase rs i x y) l C cs next s q v o d u a z h =
     let w = touched rs i l in
     let m = next + length (invocations r x l next) in
-    let c0 = asking w false cs in
-    let c1 = asking w true cs in
+    let c0 = withControl w false cs in
+    let c1 = withControl w true cs in
     rw (effect-append, left-rests x l (w ∷ C) c0 next s (q .0) (width-qcase r rs i x y v .0) (o .1) d u a z (fires-fewer w false cs s h))
       (left-rests y l (w ∷ C) c1 m s (q .1) (width-qcase r rs i x y v .1) (o .2) d u (omega arith) (zero-up next m s (omega arith) z)
         (fires-fewer w true cs s h))
@@ -80,8 +80,8 @@ module _ (P : Program) (rank : ℕ → ℕ) (E : CallDoes) (G : Safely) (n : ℕ
   right-rests (qcase rs i x y) l C cs next top s q v o d u a z h =
     let w = touched rs i l in
     let m = next + length (invocations r x l next) in
-    let c0 = asking w false cs in
-    let c1 = asking w true cs in
+    let c0 = withControl w false cs in
+    let c1 = withControl w true cs in
     rw (effect-append, right-rests y l (w ∷ C) c1 m top s (q .1) (width-qcase r rs i x y v .1) (o .2) d u a z (fires-fewer w true cs s h))
       (right-rests x l (w ∷ C) c0 next top s (q .0) (width-qcase r rs i x y v .0) (o .1) d u a z (fires-fewer w false cs s h))
   right-rests (call rs f) l C cs next top s q v o d u a z h = byBool (r f)

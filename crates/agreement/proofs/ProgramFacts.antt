@@ -12,7 +12,7 @@ use Rattle.model.specs.Lists.{remaining, touched, holds, member}
 use Rattle.model.specs.Faults.{touchFaults}
 use Rattle.model.specs.Meaning.{State, flipped, CallDoes, does}
 use Rattle.model.specs.Reach.{recursive, width}
-use Rattle.model.specs.Gates.{Controls, noControls, asking, renamed}
+use Rattle.model.specs.Gates.{Controls, noControls, withControl, renamed}
 use Rattle.model.specs.Emission.{Chains, under}
 use Rattle.model.proofs.BooleanLaws.{clash, not-true-false}
 use Rattle.model.proofs.ListLaws.{member-head, member-tail, not-in-nil, Distinct, Off, Data}
@@ -115,12 +115,12 @@ pub asked-in-none : (C : List ℕ) → AskedIn C noControls
 asked-in-none C w m = clash m (asks-none w)
 
 -- one control more, one wire more
-pub asked-in-asking : (w : ℕ) (b : Bool) (C : List ℕ) (cs : Controls) → AskedIn C cs → AskedIn (w ∷ C) (asking w b cs)
-asked-in-asking w b C cs A v m = asks-cases w b cs v m (λ e. rw e (member-head w C)) (λ i. member-tail v w C (A v i))
+pub asked-in-with-control : (w : ℕ) (b : Bool) (C : List ℕ) (cs : Controls) → AskedIn C cs → AskedIn (w ∷ C) (withControl w b cs)
+asked-in-with-control w b C cs A v m = asks-cases w b cs v m (λ e. rw e (member-head w C)) (λ i. member-tail v w C (A v i))
 
 -- the control of a body asks its ancilla alone
 pub asked-in-under : (a : ℕ) → AskedIn (a ∷ []) (under a)
-asked-in-under a = asked-in-asking a true [] noControls (asked-in-none [])
+asked-in-under a = asked-in-with-control a true [] noControls (asked-in-none [])
 
 -- every wire that the controls ask lies below next
 abbrev pub Below : ℕ → Controls → Type 0
@@ -131,12 +131,12 @@ pub below-none : (next : ℕ) → Below next noControls
 below-none next w m = clash m (asks-none w)
 
 -- one control more, on a wire below next
-pub below-asking : (next w : ℕ) (b : Bool) (cs : Controls) → w < next → Below next cs → Below next (asking w b cs)
-below-asking next w b cs h B v m = asks-cases w b cs v m (λ e. rw e h) (λ i. B v i)
+pub below-with-control : (next w : ℕ) (b : Bool) (cs : Controls) → w < next → Below next cs → Below next (withControl w b cs)
+below-with-control next w b cs h B v m = asks-cases w b cs v m (λ e. rw e h) (λ i. B v i)
 
 -- the control of a body whose ancilla is below next
 pub below-under : (next a : ℕ) → a < next → Below next (under a)
-below-under next a h = below-asking next a true noControls h (below-none next)
+below-under next a h = below-with-control next a true noControls h (below-none next)
 
 -- below a wire is below a higher wire
 pub below-up : (next m : ℕ) (cs : Controls) → next ≤ m → Below next cs → Below m cs

@@ -11,7 +11,7 @@ use Rattle.model.specs.Syntax.{Statement, skip, NOT, sequence, if, qcase, call,
 use Rattle.model.specs.Lists.{remaining, touched, holds, member}
 use Rattle.model.specs.Meaning.{State, flipped, CallDoes, callDoes, does}
 use Rattle.model.specs.Reach.{width}
-use Rattle.model.specs.Gates.{Controls, asking, flip, fires}
+use Rattle.model.specs.Gates.{Controls, withControl, flip, fires}
 use Rattle.model.specs.Emission.{Event, places, Chains, startChain, whole, Invocation, invocation, invoked, isWide, invocations, invokes, returns, left, right}
 use Rattle.model.proofs.BooleanLaws.{byBool}
 use Rattle.model.proofs.ListLaws.{member-head, member-tail, Distinct, Data, data-off, data-remaining, data-touched, remaining-distinct}
@@ -24,7 +24,7 @@ use Rattle.agreement.proofs.EmissionClauses.{invocations-other, left-wi
 use Rattle.agreement.proofs.EmissionClauses.{right-thin, right-yes, right-no, right-recursive, right-other, width-sequence, width-if, width-qcase}
 use Rattle.agreement.proofs.EmissionClauses.{thin-width, wide-width, thin-low}
 use Rattle.agreement.proofs.ProgramFacts.{
-  Safely, SafeCall, Safe, World, Zero, zero-up, zero-flip, AskedIn, asked-in-asking, Below, below-asking, below-up, Served,
+  Safely, SafeCall, Safe, World, Zero, zero-up, zero-flip, AskedIn, asked-in-with-control, Below, below-with-control, below-up, Served,
 }
 use Rattle.agreement.proofs.InvocationsOfABody.{Mem, mem-left, mem-right, invocations-range, invocations-new}
 use Rattle.agreement.proofs.FrameAndRenaming.{does-keeps, does-stays, fires-does}
@@ -203,8 +203,8 @@ module _ (P : Program) (rank : ℕ → ℕ) (E : CallDoes) (G : Safely) (n : ℕ
         (split y l C cs next top s (q .1) (width-if r c x y v .1) (rw e at o) d u ne a (rw (invocations-no r l next c x y e) at t) z A B h))
     split (qcase rs i x y) l C cs next top s q v o d u ne a t z A B h =
       let w = touched rs i l in
-      let c0 = asking w false cs in
-      let c1 = asking w true cs in
+      let c0 = withControl w false cs in
+      let c1 = withControl w true cs in
       let Dx = invocations r x l next in
       let hi = next + length Dx in
       let Dy = invocations r y l hi in
@@ -212,10 +212,10 @@ module _ (P : Program) (rank : ℕ → ℕ) (E : CallDoes) (G : Safely) (n : ℕ
       let vx = width-qcase r rs i x y v .0 in
       let vy = width-qcase r rs i x y v .1 in
       let room : hi + length Dy ≤ top = omega (arith, rw length-append at t) in
-      let A0 = asked-in-asking w false C cs A in
-      let A1 = asked-in-asking w true C cs A in
-      let B0 = below-asking next w false cs (omega arith) B in
-      let B1 = below-asking hi w true cs (omega arith) (below-up next hi cs (omega arith) B) in
+      let A0 = asked-in-with-control w false C cs A in
+      let A1 = asked-in-with-control w true C cs A in
+      let B0 = below-with-control next w false cs (omega arith) B in
+      let B1 = below-with-control hi w true cs (omega arith) (below-up next hi cs (omega arith) B) in
       byBool (s w)
         (λ e. rw (does-one E rs i x y l s e)
           (split-one w C (left chains r x l c0 next) (right chains r x l c0 next top) (left chains r y l c1 hi) (right chains r y l c1 hi top)

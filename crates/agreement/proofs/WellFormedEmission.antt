@@ -14,7 +14,7 @@ use Rattle.model.specs.Limits.{mostQubits, headerLength}
 use Rattle.model.specs.Faults.{touchFaults, programFaults}
 use Rattle.model.specs.Meaning.{CallDoes}
 use Rattle.model.specs.Reach.{recursive, width, anyLacksRemoval, anyTooWide}
-use Rattle.model.specs.Gates.{Controls, noControls, insert, asking, flip, swap, swapOf, exchange}
+use Rattle.model.specs.Gates.{Controls, noControls, insert, withControl, flip, swap, swapOf, exchange}
 use Rattle.model.specs.Emission.{
   Event, takes, places, frees, Chains, startChain, whole, Invocation, invocation, invoked, isWide, invocations, invokes, returns, left, right, under,
   swaps, entryGates, samePair, allEntryGates, Emitted, bodyInvocations, around, bodies, bodiesFrom, chainsWithin, emission, gates, peak,
@@ -36,7 +36,7 @@ use Rattle.agreement.proofs.EmissionClauses.{
   width-sequence, width-if, width-qcase, thin-width, wide-width, Low, thin-low,
 }
 use Rattle.agreement.proofs.ProgramFacts.{
-  Safely, SafeCall, Safe, World, AskedIn, asked-in-none, asked-in-asking, asked-in-under, Below, below-none, below-asking, below-under, below-up,
+  Safely, SafeCall, Safe, World, AskedIn, asked-in-none, asked-in-with-control, asked-in-under, Below, below-none, below-with-control, below-under, below-up,
   below-not, Fine, fine-call, Served,
 }
 use Rattle.agreement.proofs.InvocationsOfABody.{Mem, mem-left, DistinctAncillas}
@@ -84,8 +84,8 @@ within-all most (x ∷ l) h =
     let b = h x (member-head x l) in
     rw (le-leb 1 x (b .0), le-leb x most (b .1)) (within-all most l (λ v m. h v (member-tail v x l m)))
 
-zero-unasked : (w : ℕ) (b : Bool) (cs : Controls) → 0 < w → asks cs 0 ≡ false → asks (asking w b cs) 0 ≡ false
-zero-unasked w b cs h n = not-true-false (asks (asking w b cs) 0) (λ m. asks-cases w b cs 0 m (λ e. not-positive e) (λ i. clash i n))
+zero-unasked : (w : ℕ) (b : Bool) (cs : Controls) → 0 < w → asks cs 0 ≡ false → asks (withControl w b cs) 0 ≡ false
+zero-unasked w b cs h n = not-true-false (asks (withControl w b cs) 0) (λ m. asks-cases w b cs 0 m (λ e. not-positive e) (λ i. clash i n))
   where
     not-positive : 0 ≡ w → ⊥
     not-positive e = omega arith
@@ -108,9 +108,9 @@ unfolding ascends
 neat-none = record { ones-ascend = refl; zeros-ascend = refl; apart = λ v m. not-in-nil v m; positive = asks-none 0 }
 
 -- one more control keeps the order, on a wire that is not asked yet
-neat-asking : (w : ℕ) (b : Bool) (cs : Controls) → 0 < w → asks cs w ≡ false → Neat cs → Neat (asking w b cs)
-unfolding asking asks
-neat-asking w true cs h o c =
+neat-with-control : (w : ℕ) (b : Bool) (cs : Controls) → 0 < w → asks cs w ≡ false → Neat cs → Neat (withControl w b cs)
+unfolding withControl asks
+neat-with-control w true cs h o c =
     let o₁ = or-false-left (member w (cs .ones)) (member w (cs .zeros)) o in
     let o₀ = or-false-right (member w (cs .ones)) (member w (cs .zeros)) o in
     record {
@@ -118,7 +118,7 @@ neat-asking w true cs h o c =
       zeros-ascend = c .zeros-ascend;
       apart = λ v m. insert-cases w v (cs .ones) m (λ e. rw e o₀) (λ i. c .apart v i);
       positive = zero-unasked w true cs h (c .positive) }
-neat-asking w false cs h o c =
+neat-with-control w false cs h o c =
     let o₁ = or-false-left (member w (cs .ones)) (member w (cs .zeros)) o in
     let o₀ = or-false-right (member w (cs .ones)) (member w (cs .zeros)) o in
     record {
@@ -197,7 +197,7 @@ placed-reverse most (frees a ∷ es) x = rw (reverse-cons (frees a) es) (placed-
 
 -- the one control of an entry or a body
 neat-under : (a : ℕ) → 0 < a → Neat (under a)
-neat-under a h = neat-asking a true noControls h (asks-none a) neat-none
+neat-under a h = neat-with-control a true noControls h (asks-none a) neat-none
 
 -- data wires stay data wires where two of them are exchanged
 data-exchange : (n u v : ℕ) (l : List ℕ) → (0 < u) × (u ≤ n) → (0 < v) × (v ≤ n) → Data n l → Data n (map (exchange u v) l)
@@ -295,11 +295,11 @@ module _ (P : Program) (rank : ℕ → ℕ) (E : CallDoes) (G : Safely) (n most 
       flip-well-formed most cs (F .neat) (below-up next (suc most) cs h (F .below)) (touched rs i l) touched-positive (omega arith) touched-unasked
 
     -- .. and closes as a control
-    touched-closes : (b : Bool) → InForce next (touched rs i l ∷ C) (asking (touched rs i l) b cs)
+    touched-closes : (b : Bool) → InForce next (touched rs i l ∷ C) (withControl (touched rs i l) b cs)
     touched-closes b = record {
-      neat = neat-asking (touched rs i l) b cs touched-positive touched-unasked (F .neat);
-      below = below-asking next (touched rs i l) b cs touched-below (F .below);
-      closed = asked-in-asking (touched rs i l) b C cs (F .closed) }
+      neat = neat-with-control (touched rs i l) b cs touched-positive touched-unasked (F .neat);
+      below = below-with-control next (touched rs i l) b cs touched-below (F .below);
+      closed = asked-in-with-control (touched rs i l) b C cs (F .closed) }
 
   -- a statement emitted whole
   whole-placed : (s : Statement) (l C : List ℕ) (cs : Controls) (next : ℕ) → Low rank k s → Safe G s l C → Data n l → Distinct l → n < next →
@@ -317,9 +317,9 @@ module _ (P : Program) (rank : ℕ → ℕ) (E : CallDoes) (G : Safely) (n most 
   whole-placed (qcase rs i x y) l C cs next r o d u a F h t =
     let q = touched rs i l in
     let F′ = touched-closes rs i l C cs next d a F (o .0) in
-    placed-both most (whole chains x l (asking q false cs) next) (whole chains y l (asking q true cs) next) t
-      (λ t′. whole-placed x l (q ∷ C) (asking q false cs) next (r .0) (o .1) d u a (F′ false) h t′)
-      (λ t′. whole-placed y l (q ∷ C) (asking q true cs) next (r .1) (o .2) d u a (F′ true) h t′)
+    placed-both most (whole chains x l (withControl q false cs) next) (whole chains y l (withControl q true cs) next) t
+      (λ t′. whole-placed x l (q ∷ C) (withControl q false cs) next (r .0) (o .1) d u a (F′ false) h t′)
+      (λ t′. whole-placed y l (q ∷ C) (withControl q true cs) next (r .1) (o .2) d u a (F′ true) h t′)
   whole-placed (call rs f) l C cs next r o d u a F h t =
     startChain-placed f (remaining rs l) C cs next r o (data-remaining n rs l d) (remaining-distinct rs l u) a F t
 
@@ -350,14 +350,14 @@ module _ (P : Program) (rank : ℕ → ℕ) (E : CallDoes) (G : Safely) (n most 
   left-placed r (qcase rs i x y) l C cs next q o d u a F h t =
     let w = touched rs i l in
     let m = next + length (invocations r x l next) in
-    let first = left chains r x l (asking w false cs) next in
-    let second = left chains r y l (asking w true cs) m in
+    let first = left chains r x l (withControl w false cs) next in
+    let second = left chains r y l (withControl w true cs) m in
     let F′ = touched-closes rs i l C cs next d a F (o .0) in
-    let h′ = stacked-to n most next m first (left-stacked n chains S r x l (asking w false cs) next a) h (λ v j. t v (taken-left v first second j)) in
+    let h′ = stacked-to n most next m first (left-stacked n chains S r x l (withControl w false cs) next a) h (λ v j. t v (taken-left v first second j)) in
     placed-both most first second t
-      (λ t′. left-placed r x l (w ∷ C) (asking w false cs) next (q .0) (o .1) d u a (F′ false) h t′)
-      (λ t′. left-placed r y l (w ∷ C) (asking w true cs) m (q .1) (o .2) d u (omega arith)
-        (in-force-up next m (w ∷ C) (asking w true cs) (omega arith) (F′ true)) h′ t′)
+      (λ t′. left-placed r x l (w ∷ C) (withControl w false cs) next (q .0) (o .1) d u a (F′ false) h t′)
+      (λ t′. left-placed r y l (w ∷ C) (withControl w true cs) m (q .1) (o .2) d u (omega arith)
+        (in-force-up next m (w ∷ C) (withControl w true cs) (omega arith) (F′ true)) h′ t′)
   left-placed r (call rs f) l C cs next q o d u a F h t = byBool (r f)
     (λ e. rw (left-recursive chains r l cs next rs f e)
       (invokes-placed (remaining rs l) C cs next a F (rw (left-recursive chains r l cs next rs f e) at t)))
@@ -400,10 +400,10 @@ module _ (P : Program) (rank : ℕ → ℕ) (E : CallDoes) (G : Safely) (n most 
     let m = next + length (invocations r x l next) in
     let le′ = rw length-append at le in
     let F′ = touched-closes rs i l C cs next d a F (o .0) in
-    placed-both most (right chains r y l (asking w true cs) m top) (right chains r x l (asking w false cs) next top) t
-      (λ t′. right-placed r y l (w ∷ C) (asking w true cs) m top (q .1) (width-qcase r rs i x y v .1) (o .2) d u (omega arith)
-        (in-force-up next m (w ∷ C) (asking w true cs) (omega arith) (F′ true)) (omega arith) h t′)
-      (λ t′. right-placed r x l (w ∷ C) (asking w false cs) next top (q .0) (width-qcase r rs i x y v .0) (o .1) d u a (F′ false) (omega arith) h t′)
+    placed-both most (right chains r y l (withControl w true cs) m top) (right chains r x l (withControl w false cs) next top) t
+      (λ t′. right-placed r y l (w ∷ C) (withControl w true cs) m top (q .1) (width-qcase r rs i x y v .1) (o .2) d u (omega arith)
+        (in-force-up next m (w ∷ C) (withControl w true cs) (omega arith) (F′ true)) (omega arith) h t′)
+      (λ t′. right-placed r x l (w ∷ C) (withControl w false cs) next top (q .0) (width-qcase r rs i x y v .0) (o .1) d u a (F′ false) (omega arith) h t′)
   right-placed r (call rs f) l C cs next top q v o d u a F le h t = byBool (r f)
     (λ e. let le′ = rw (invocations-recursive r l next rs f e) at le in
       rw (right-recursive chains r l cs next rs f top e) (returns-placed f (remaining rs l) C cs next a F (omega arith)))

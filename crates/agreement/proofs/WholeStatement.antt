@@ -8,7 +8,7 @@ use lib.ListN.{length}
 use Rattle.model.specs.Syntax.{Statement, skip, NOT, sequence, if, qcase, call, Program}
 use Rattle.model.specs.Lists.{remaining, touched, holds}
 use Rattle.model.specs.Meaning.{State, flipped, CallDoes, callDoes, does}
-use Rattle.model.specs.Gates.{Controls, asking, flip, fires, act}
+use Rattle.model.specs.Gates.{Controls, withControl, flip, fires, act}
 use Rattle.model.specs.Emission.{places, Chains, startChain, whole}
 use Rattle.model.proofs.BooleanLaws.{byBool}
 use Rattle.model.proofs.ListLaws.{member-head, Distinct, Data, data-off, data-remaining, data-touched, remaining-distinct}
@@ -17,7 +17,7 @@ use Rattle.model.proofs.EnoughFuel.{does-yes, does-no, does-zero, does-one}
 use Rattle.agreement.proofs.EffectOfEvents.{effect, effect-nil, effect-takes, effect-places, effect-frees, effect-append}
 use Rattle.agreement.proofs.EmissionClauses.{Low, whole-yes, whole-no}
 use Rattle.agreement.proofs.ProgramFacts.{
-  Safely, SafeCall, Safe, World, Zero, zero-up, zero-flip, AskedIn, asked-in-asking, Below, below-asking, below-not, fine-call, Served,
+  Safely, SafeCall, Safe, World, Zero, zero-up, zero-flip, AskedIn, asked-in-with-control, Below, below-with-control, below-not, fine-call, Served,
 }
 use Rattle.agreement.proofs.FrameAndRenaming.{does-keeps, does-stays, fires-does}
 
@@ -85,8 +85,8 @@ module _ (P : Program) (rank : ℕ → ℕ) (E : CallDoes) (G : Safely) (n : ℕ
       (λ e. rw (whole-no chains l cs next c x y e) (whole-rests y l C cs next s (r .1) (rw e at o) d u a z h))
     whole-rests (qcase rs i x y) l C cs next s r o d u a z h =
       let q = touched rs i l in
-      rw (effect-append, whole-rests x l (q ∷ C) (asking q false cs) next s (r .0) (o .1) d u a z (fires-fewer q false cs s h))
-        (whole-rests y l (q ∷ C) (asking q true cs) next s (r .1) (o .2) d u a z (fires-fewer q true cs s h))
+      rw (effect-append, whole-rests x l (q ∷ C) (withControl q false cs) next s (r .0) (o .1) d u a z (fires-fewer q false cs s h))
+        (whole-rests y l (q ∷ C) (withControl q true cs) next s (r .1) (o .2) d u a z (fires-fewer q true cs s h))
     whole-rests (call rs f) l C cs next s r o d u a z h =
       startChain-rests f (remaining rs l) C cs next s r o (data-remaining n rs l d) (remaining-distinct rs l u) a z h
 
@@ -106,15 +106,15 @@ module _ (P : Program) (rank : ℕ → ℕ) (E : CallDoes) (G : Safely) (n : ℕ
     whole-fires (qcase rs i x y) l C cs next s r o d u a z A B h =
       let q = touched rs i l in
       let low : q < next = omega (arith, data-touched n rs i l d) in
-      let c0 = asking q false cs in
-      let c1 = asking q true cs in
+      let c0 = withControl q false cs in
+      let c1 = withControl q true cs in
       byBool (s q)
         (λ e. rw (does-one E rs i x y l s e, effect-append,
                   whole-rests x l (q ∷ C) c0 next s (r .0) (o .1) d u a z (fires-miss q false cs s e))
-          (whole-fires y l (q ∷ C) c1 next s (r .1) (o .2) d u a z (asked-in-asking q true C cs A) (below-asking next q true cs low B)
+          (whole-fires y l (q ∷ C) c1 next s (r .1) (o .2) d u a z (asked-in-with-control q true C cs A) (below-with-control next q true cs low B)
             (fires-hit q true cs s e ∙ h)))
         (λ e. rw (does-zero E rs i x y l s e, effect-append,
-                  whole-fires x l (q ∷ C) c0 next s (r .0) (o .1) d u a z (asked-in-asking q false C cs A) (below-asking next q false cs low B)
+                  whole-fires x l (q ∷ C) c0 next s (r .0) (o .1) d u a z (asked-in-with-control q false C cs A) (below-with-control next q false cs low B)
                     (fires-hit q false cs s e ∙ h))
           (whole-rests y l (q ∷ C) c1 next (does E x l s) (r .1) (o .2) d u a (zero-does x l next s d a z)
             (fires-miss q true cs (does E x l s) (does-keeps E G (W .keeps) x l (q ∷ C) s q (o .1) (member-head q C) ∙ e))))

@@ -11,12 +11,12 @@ use borrow.Author.Tests.{lt-ltb, le-ltb}
 use lib.ListN.{length, getD, take, drop, set, length-take, length-set}
 use lib.Seq.{take-take, take-suc-set, drop-set-lt, append-snoc}
 use Rattle.limits.specs.Sizes.{mostControls}
-use Rattle.model.specs.Gates.{Controls, insert, asking, swapOf}
+use Rattle.model.specs.Gates.{Controls, insert, withControl, swapOf}
 use Rattle.model.specs.Circuit.{listBit, listBytes}
 use Rattle.model.proofs.BooleanLaws.{byLt}
 use Rattle.model.proofs.ListLaws.{take-again, drop-front}
 use Rattle.circuit.specs.GatesInBytes.{part}
-use Rattle.circuit.specs.GatesToWrite.{wiresOf, controlsFrom, gateFrom, placeFor, insertWithin, askingWithin}
+use Rattle.circuit.specs.GatesToWrite.{wiresOf, controlsFrom, gateFrom, placeFor, insertWithin, withControlWithin}
 use Rattle.circuit.specs.declared.write.ControlLists.{ControlLists}
 use Rattle.circuit.specs.declared.write.ControlList.{ControlList}
 use Rattle.circuit.proofs.LoopsOverWires.{part-step, part-none}
@@ -147,19 +147,19 @@ carry-next w front wires count i carried h k all inv =
 
 pub ruleset inserts = (needs, length-set, insert-full, carry-place, carry-begins, insert-done, carry-next)
 
--- the ways out of `asking`
+-- the ways out of `withControl`
 module _ (c : ControlLists) (w : ℕ) (bit : Bool) (more : ControlList) where
-  pub asking-one : bit ≡ true → wiresOf more ≡ insertWithin w (wiresOf (c .ones)) →
-      controlsFrom (record { ones = more; zeros = c .zeros }) ≡ askingWithin w bit (controlsFrom c)
-  unfolding askingWithin
-  asking-one e q = rw (e, q)
+  pub with-control-one : bit ≡ true → wiresOf more ≡ insertWithin w (wiresOf (c .ones)) →
+      controlsFrom (record { ones = more; zeros = c .zeros }) ≡ withControlWithin w bit (controlsFrom c)
+  unfolding withControlWithin
+  with-control-one e q = rw (e, q)
 
-  pub asking-zero : bit ≡ false → wiresOf more ≡ insertWithin w (wiresOf (c .zeros)) →
-      controlsFrom (record { ones = c .ones; zeros = more }) ≡ askingWithin w bit (controlsFrom c)
-  unfolding askingWithin
-  asking-zero e q = rw (e, q)
+  pub with-control-zero : bit ≡ false → wiresOf more ≡ insertWithin w (wiresOf (c .zeros)) →
+      controlsFrom (record { ones = c .ones; zeros = more }) ≡ withControlWithin w bit (controlsFrom c)
+  unfolding withControlWithin
+  with-control-zero e q = rw (e, q)
 
-pub ruleset asks = (needs, asking-one, asking-zero)
+pub ruleset asks = (needs, with-control-one, with-control-zero)
 
 -- the ways out of `swap_of`
 module _ (c : ControlLists) (u v : ℕ) where
@@ -180,11 +180,11 @@ module _ (c : ControlLists) (u v : ℕ) where
 pub ruleset swaps = (needs, swap-rising, swap-falling)
 
 -- controls take a wire while neither list is full
-pub asking-takes : (w : ℕ) (bit : Bool) (cs : Controls) → length (cs .ones) < mostControls → length (cs .zeros) < mostControls →
-    askingWithin w bit cs ≡ asking w bit cs
-unfolding askingWithin asking
-asking-takes w true cs h k = rw (within-takes w (cs .ones) h)
-asking-takes w false cs h k = rw (within-takes w (cs .zeros) k)
+pub with-control-takes : (w : ℕ) (bit : Bool) (cs : Controls) → length (cs .ones) < mostControls → length (cs .zeros) < mostControls →
+    withControlWithin w bit cs ≡ withControl w bit cs
+unfolding withControlWithin withControl
+with-control-takes w true cs h k = rw (within-takes w (cs .ones) h)
+with-control-takes w false cs h k = rw (within-takes w (cs .zeros) k)
 
 bit-empty : (value : ℕ) (l : List ℕ) → length l ≡ 0 → 0 ≡ listBit value l
 unfolding listBit

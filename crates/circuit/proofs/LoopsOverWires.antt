@@ -11,7 +11,7 @@ use lib.ListN.{length, getD, drop-of-length-le}
 use lib.Seq.{drop-cons, take-nil}
 use Rattle.model.specs.Lists.{member}
 use Rattle.circuit.specs.GatesInBytes.{part}
-use Rattle.circuit.specs.GateChecks.{rising}
+use Rattle.circuit.specs.GateChecks.{ascendsFrom}
 
 -- a part that is not empty begins with the byte at its place
 pub part-step : (bs : List ℕ) (at left : ℕ) → 0 < left → at < length bs → part bs at left ≡ getD bs at 0 ∷ part bs (at + 1) (left - 1)
@@ -46,27 +46,27 @@ module _ (bs : List ℕ) (at left wire : ℕ) (whole : Bool) (inv : whole ≡ me
     contains-next f = rw (inv, part-step bs at left l h, ne-eqb wire (getD bs at 0) (λ e. f (sym e)))
 
 -- what the loop of `ascending` keeps
-module _ (bs : List ℕ) (at left low most : ℕ) (whole : Bool) (inv : whole ≡ rising low most (part bs at left)) where
+module _ (bs : List ℕ) (at left low most : ℕ) (whole : Bool) (inv : whole ≡ ascendsFrom low most (part bs at left)) where
   pub ascending-none : left ≤ 0 → true ≡ whole
-  unfolding rising
+  unfolding ascendsFrom
   ascending-none l = rw (inv, part-none bs at left l)
 
   pub ascending-past : length bs ≤ at → true ≡ whole
-  unfolding rising
+  unfolding ascendsFrom
   ascending-past h = rw (inv, part-past bs at left h)
 
   module _ (l : 0 < left) (h : at < length bs) where
     pub ascending-low : getD bs at 0 ≤ low → false ≡ whole
-    unfolding rising
+    unfolding ascendsFrom
     ascending-low e = rw (inv, part-step bs at left l h, le-ltb low (getD bs at 0) e)
 
     module _ (a : low < getD bs at 0) where
       pub ascending-high : most < getD bs at 0 → false ≡ whole
-      unfolding rising
+      unfolding ascendsFrom
       ascending-high e = rw (inv, part-step bs at left l h, lt-ltb low (getD bs at 0) a, lt-leb (getD bs at 0) most e)
 
-      pub ascending-next : getD bs at 0 ≤ most → whole ≡ rising (getD bs at 0) most (part bs (at + 1) (left - 1))
-      unfolding rising
+      pub ascending-next : getD bs at 0 ≤ most → whole ≡ ascendsFrom (getD bs at 0) most (part bs (at + 1) (left - 1))
+      unfolding ascendsFrom
       ascending-next e = rw (inv, part-step bs at left l h, lt-ltb low (getD bs at 0) a, le-leb (getD bs at 0) most e)
 
 pub ruleset contained = (needs, contains-none, contains-past, contains-found, contains-next)

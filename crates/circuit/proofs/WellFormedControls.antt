@@ -11,12 +11,12 @@ use lib.Dec.{eqb}
 use Rattle.model.specs.Lists.{member}
 use Rattle.model.proofs.BooleanLaws.{byBool, byEq, byLt, eqb-same, not-true-false, or-false, or-false-left, or-false-right}
 use Rattle.circuit.specs.GatesInBytes.{part}
-use Rattle.circuit.specs.GateChecks.{rising, meets, controlsWellFormed}
+use Rattle.circuit.specs.GateChecks.{ascendsFrom, meets, controlsWellFormed}
 use Rattle.circuit.proofs.LoopsOverWires.{part-step, part-none, part-past}
 use Rattle.circuit.proofs.WellFormedGate.{rising-above}
 
 -- a wire at or below `low` is not in a list that rises from above it
-fresh : (low most : ℕ) (l : List ℕ) (w : ℕ) → rising low most l ≡ true → w ≤ low → member w l ≡ false
+fresh : (low most : ℕ) (l : List ℕ) (w : ℕ) → ascendsFrom low most l ≡ true → w ≤ low → member w l ≡ false
 fresh low most l w r h = not-true-false (member w l) (λ m. let a : low < w = rising-above low most l w r m in omega arith)
 
 meets-none : (l : List ℕ) → meets l [] ≡ false
@@ -41,39 +41,39 @@ unfolding meets member
 meets-same w l m = rw (eqb-same w)
 
 -- a wire below the first of a list that rises is not in it
-fresh-cons : (w x most : ℕ) (l : List ℕ) → w < x → rising x most l ≡ true → member w (x ∷ l) ≡ false
+fresh-cons : (w x most : ℕ) (l : List ℕ) → w < x → ascendsFrom x most l ≡ true → member w (x ∷ l) ≡ false
 unfolding member
 fresh-cons w x most l h r = or-false (eqb w x) (member w l) (ne-eqb w x (λ e. omega arith)) (fresh x most l w r (omega arith))
 
-controls-no-ones : (low most : ℕ) (m : List ℕ) → controlsWellFormed low most [] m ≡ rising low most m
-unfolding controlsWellFormed rising meets
-controls-no-ones low most m = and-true (rising low most m)
+controls-no-ones : (low most : ℕ) (m : List ℕ) → controlsWellFormed low most [] m ≡ ascendsFrom low most m
+unfolding controlsWellFormed ascendsFrom meets
+controls-no-ones low most m = and-true (ascendsFrom low most m)
 
-controls-no-zeros : (low most : ℕ) (l : List ℕ) → controlsWellFormed low most l [] ≡ rising low most l
-unfolding controlsWellFormed rising
+controls-no-zeros : (low most : ℕ) (l : List ℕ) → controlsWellFormed low most l [] ≡ ascendsFrom low most l
+unfolding controlsWellFormed ascendsFrom
 controls-no-zeros low most l = simp (meets-none, and-true)
 
 -- the lower of the two next wires is of the first list
 controls-one : (low most a b : ℕ) (l m : List ℕ) → low < a → a < b → controlsWellFormed low most (a ∷ l) (b ∷ m) ≡ controlsWellFormed a most l (b ∷ m)
-unfolding controlsWellFormed rising
+unfolding controlsWellFormed ascendsFrom
 controls-one low most a b l m h k = byLt most b
     (λ q. simp (lt-leb b most q, and-false))
-    (λ q. byBool (rising b most m)
+    (λ q. byBool (ascendsFrom b most m)
     (λ r. rw (lt-ltb low a h, lt-ltb low b (omega arith), lt-ltb a b k, le-leb a most (omega arith), meets-first a l (b ∷ m) (fresh-cons a b most m k r)))
     (λ r. simp (r, and-false)))
 
 controls-same : (low most a : ℕ) (l m : List ℕ) → controlsWellFormed low most (a ∷ l) (a ∷ m) ≡ controlsWellFormed a most (a ∷ l) m
-unfolding controlsWellFormed rising
+unfolding controlsWellFormed ascendsFrom
 controls-same low most a l m = simp (meets-same, le-ltb a a (omega arith), and-false)
 
 -- the lower of the two next wires is of the second list
 controls-zero : (low most a b : ℕ) (l m : List ℕ) → low < b → b ≤ a → controlsWellFormed low most (a ∷ l) (b ∷ m) ≡ controlsWellFormed b most (a ∷ l) m
-unfolding controlsWellFormed rising
+unfolding controlsWellFormed ascendsFrom
 controls-zero low most a b l m h k = byEq b a
     (λ e. rw e (controls-same low most a l m))
     (λ f. byLt most a
     (λ q. simp (lt-leb a most q, and-false))
-    (λ q. byBool (rising a most l)
+    (λ q. byBool (ascendsFrom a most l)
     (λ r. rw (lt-ltb low a (omega arith), lt-ltb low b h, lt-ltb b a (omega arith), le-leb b most (omega arith),
         meets-second b (a ∷ l) m (fresh-cons b a most l (omega arith) r)))
     (λ r. simp (r, and-false))))
@@ -81,14 +81,14 @@ controls-zero low most a b l m h k = byEq b a
 -- what the loop of `controls_well_formed` keeps
 module _ (bs : List ℕ) (one ones zero zeros low most : ℕ) (whole : Bool)
     (inv : whole ≡ controlsWellFormed low most (part bs one ones) (part bs zero zeros)) where
-  module _ (rest : Bool) (is : rest ≡ rising low most (part bs zero zeros)) where
+  module _ (rest : Bool) (is : rest ≡ ascendsFrom low most (part bs zero zeros)) where
     pub controls-loop-ones : ones ≤ 0 → rest ≡ whole
     controls-loop-ones l = rw (is, inv, part-none bs one ones l) (sym (controls-no-ones low most (part bs zero zeros)))
 
     pub controls-loop-ones-past : length bs ≤ one → rest ≡ whole
     controls-loop-ones-past l = rw (is, inv, part-past bs one ones l) (sym (controls-no-ones low most (part bs zero zeros)))
 
-  module _ (rest : Bool) (is : rest ≡ rising low most (part bs one ones)) where
+  module _ (rest : Bool) (is : rest ≡ ascendsFrom low most (part bs one ones)) where
     pub controls-loop-zeros : zeros ≡ 0 → rest ≡ whole
     controls-loop-zeros l = rw (is, inv, part-none bs zero zeros (omega arith)) (sym (controls-no-zeros low most (part bs one ones)))
 
@@ -104,7 +104,7 @@ module _ (bs : List ℕ) (one ones zero zeros low most : ℕ) (whole : Bool)
 
     module _ (lower : getD bs one 0 < getD bs zero 0) where
       pub controls-loop-one-low : getD bs one 0 ≤ low → false ≡ whole
-      unfolding controlsWellFormed rising
+      unfolding controlsWellFormed ascendsFrom
       controls-loop-one-low e = rw (inv, first, le-ltb low (getD bs one 0) e)
 
       pub controls-loop-one : low < getD bs one 0 → whole ≡ controlsWellFormed (getD bs one 0) most (part bs (one + 1) (ones - 1)) (part bs zero zeros)
@@ -113,7 +113,7 @@ module _ (bs : List ℕ) (one ones zero zeros low most : ℕ) (whole : Bool)
 
     module _ (lower : getD bs zero 0 ≤ getD bs one 0) where
       pub controls-loop-zero-low : getD bs zero 0 ≤ low → false ≡ whole
-      unfolding controlsWellFormed rising
+      unfolding controlsWellFormed ascendsFrom
       controls-loop-zero-low e = simp (inv, second, le-ltb low (getD bs zero 0) e, and-false)
 
       pub controls-loop-zero : low < getD bs zero 0 → whole ≡ controlsWellFormed (getD bs zero 0) most (part bs one ones) (part bs (zero + 1) (zeros - 1))

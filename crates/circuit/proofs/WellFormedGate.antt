@@ -13,7 +13,7 @@ use Rattle.model.proofs.BooleanLaws.{byBool, same-test, and-left, and-right, an
 use Rattle.model.proofs.ListLaws.{member-cases, member-append}
 use Rattle.model.proofs.AscendingWires.{ascends-tail, ascends-fresh, ascends-distinct, within-append}
 use Rattle.circuit.specs.GatesInBytes.{gateWith}
-use Rattle.circuit.specs.GateChecks.{rising, meets, controlsWellFormed, free, paired, checked}
+use Rattle.circuit.specs.GateChecks.{ascendsFrom, meets, controlsWellFormed, free, paired, checked}
 
 -- the three parts of a test on a list's first wire
 module _ (a b c : Bool) where
@@ -29,21 +29,21 @@ module _ (a b c : Bool) where
   last : a && b && c ≡ true → c ≡ true
   last e = and-right (a && b) c e
 
-module _ (low most w : ℕ) (l : List ℕ) (r : rising low most (w ∷ l) ≡ true) where
+module _ (low most w : ℕ) (l : List ℕ) (r : ascendsFrom low most (w ∷ l) ≡ true) where
   rising-first : low < w
-  unfolding rising
-  rising-first = ltb-true low w (first (ltb low w) (leb w most) (rising w most l) r)
+  unfolding ascendsFrom
+  rising-first = ltb-true low w (first (ltb low w) (leb w most) (ascendsFrom w most l) r)
 
   rising-middle : leb w most ≡ true
-  unfolding rising
-  rising-middle = middle (ltb low w) (leb w most) (rising w most l) r
+  unfolding ascendsFrom
+  rising-middle = middle (ltb low w) (leb w most) (ascendsFrom w most l) r
 
-  rising-last : rising w most l ≡ true
-  unfolding rising
-  rising-last = last (ltb low w) (leb w most) (rising w most l) r
+  rising-last : ascendsFrom w most l ≡ true
+  unfolding ascendsFrom
+  rising-last = last (ltb low w) (leb w most) (ascendsFrom w most l) r
 
 -- a wire of a list that rises from above `low` is above `low`
-pub rising-above : (low most : ℕ) (l : List ℕ) (w : ℕ) → rising low most l ≡ true → member w l ≡ true → low < w
+pub rising-above : (low most : ℕ) (l : List ℕ) (w : ℕ) → ascendsFrom low most l ≡ true → member w l ≡ true → low < w
 unfolding member
 rising-above low most [] w r m = absurd (false≢true m)
 rising-above low most (x ∷ l) w r m =
@@ -51,15 +51,15 @@ rising-above low most (x ∷ l) w r m =
     member-cases w x l m (λ e. rw e h)
     (λ q. let a : x < w = rising-above x most l w (rising-last low most x l r) q in omega arith)
 
-rising-ascends : (low most : ℕ) (l : List ℕ) → rising low most l ≡ true → ascends l ≡ true
+rising-ascends : (low most : ℕ) (l : List ℕ) → ascendsFrom low most l ≡ true → ascends l ≡ true
 unfolding ascends
 rising-ascends low most [] r = refl
 rising-ascends low most (w ∷ []) r = refl
 rising-ascends low most (v ∷ w ∷ l) r =
-    let rest : rising v most (w ∷ l) ≡ true = rising-last low most v (w ∷ l) r in
+    let rest : ascendsFrom v most (w ∷ l) ≡ true = rising-last low most v (w ∷ l) r in
     and-both (ltb v w) (ascends (w ∷ l)) (lt-ltb v w (rising-first v most w l rest)) (rising-ascends v most (w ∷ l) rest)
 
-rising-within : (low most : ℕ) (l : List ℕ) → rising low most l ≡ true → within most l ≡ true
+rising-within : (low most : ℕ) (l : List ℕ) → ascendsFrom low most l ≡ true → within most l ≡ true
 unfolding within
 rising-within low most [] r = refl
 rising-within low most (w ∷ l) r =
@@ -67,19 +67,19 @@ rising-within low most (w ∷ l) r =
     three (leb 1 w) (leb w most) (within most l) (le-leb 1 w (omega arith)) (rising-middle low most w l r)
     (rising-within w most l (rising-last low most w l r))
 
-rises : (low most w : ℕ) (l : List ℕ) → low < w → ascends (w ∷ l) ≡ true → within most (w ∷ l) ≡ true → rising low most (w ∷ l) ≡ true
-unfolding rising ascends within
+rises : (low most w : ℕ) (l : List ℕ) → low < w → ascends (w ∷ l) ≡ true → within most (w ∷ l) ≡ true → ascendsFrom low most (w ∷ l) ≡ true
+unfolding ascendsFrom ascends within
 rises low most w [] h a i = three (ltb low w) (leb w most) true (lt-ltb low w h) (middle (leb 1 w) (leb w most) true i) refl
 rises low most w (x ∷ l) h a i =
-    three (ltb low w) (leb w most) (rising w most (x ∷ l)) (lt-ltb low w h) (middle (leb 1 w) (leb w most) (within most (x ∷ l)) i)
+    three (ltb low w) (leb w most) (ascendsFrom w most (x ∷ l)) (lt-ltb low w h) (middle (leb 1 w) (leb w most) (within most (x ∷ l)) i)
     (rises w most x l (ltb-true w x (and-left (ltb w x) (ascends (x ∷ l)) a)) (and-right (ltb w x) (ascends (x ∷ l)) a)
     (last (leb 1 w) (leb w most) (within most (x ∷ l)) i))
 
 -- a list rises from 1 to at most `most` exactly where it ascends within those bounds
-rising-is : (most : ℕ) (l : List ℕ) → rising 0 most l ≡ ascends l && within most l
-unfolding rising ascends within
+rising-is : (most : ℕ) (l : List ℕ) → ascendsFrom 0 most l ≡ ascends l && within most l
+unfolding ascendsFrom ascends within
 rising-is most [] = refl
-rising-is most (w ∷ l) = same-test (rising 0 most (w ∷ l)) (ascends (w ∷ l) && within most (w ∷ l))
+rising-is most (w ∷ l) = same-test (ascendsFrom 0 most (w ∷ l)) (ascends (w ∷ l) && within most (w ∷ l))
     (λ r. and-both (ascends (w ∷ l)) (within most (w ∷ l)) (rising-ascends 0 most (w ∷ l) r) (rising-within 0 most (w ∷ l) r))
     (λ b. let i : within most (w ∷ l) ≡ true = and-right (ascends (w ∷ l)) (within most (w ∷ l)) b in
     rises 0 most w l (leb-true 1 w (first (leb 1 w) (leb w most) (within most l) i)) (and-left (ascends (w ∷ l)) (within most (w ∷ l)) b) i)

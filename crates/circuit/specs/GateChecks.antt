@@ -6,9 +6,9 @@ use lib.Dec.{ltb, leb}
 use Rattle.model.specs.Lists.{member}
 
 -- the wires ascend from above `low` to at most `most`
-unfoldable pub rising : ℕ → ℕ → List ℕ → Bool
-rising low most [] = true
-rising low most (w ∷ l) = ltb low w && leb w most && rising w most l
+unfoldable pub ascendsFrom : ℕ → ℕ → List ℕ → Bool
+ascendsFrom low most [] = true
+ascendsFrom low most (w ∷ l) = ltb low w && leb w most && ascendsFrom w most l
 
 -- do the two lists share a wire?
 unfoldable pub meets : List ℕ → List ℕ → Bool
@@ -17,7 +17,7 @@ meets (w ∷ l) m = member w m || meets l m
 
 -- the controls of a gate: the wires of each list ascend from above `low` to at most `most`, and no wire is in both
 unfoldable pub controlsWellFormed : ℕ → ℕ → List ℕ → List ℕ → Bool
-controlsWellFormed low most ones zeros = rising low most ones && rising low most zeros && not (meets ones zeros)
+controlsWellFormed low most ones zeros = ascendsFrom low most ones && ascendsFrom low most zeros && not (meets ones zeros)
 
 -- a wire of the gate beside its controls: 1 to `most`, and in neither list
 unfoldable pub free : ℕ → List ℕ → List ℕ → ℕ → Bool

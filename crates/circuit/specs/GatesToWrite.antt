@@ -33,9 +33,9 @@ unfoldable pub insertWithin : ℕ → List ℕ → List ℕ
 insertWithin w l = elim (ltb (length l) mostControls) [ true ↦ insert w l | false ↦ l ]
 
 -- one control more, where there is room for it
-unfoldable pub askingWithin : ℕ → Bool → Controls → Controls
-askingWithin w true cs = record { ones = insertWithin w (cs .ones); zeros = cs .zeros }
-askingWithin w false cs = record { ones = cs .ones; zeros = insertWithin w (cs .zeros) }
+unfoldable pub withControlWithin : ℕ → Bool → Controls → Controls
+withControlWithin w true cs = record { ones = insertWithin w (cs .ones); zeros = cs .zeros }
+withControlWithin w false cs = record { ones = cs .ones; zeros = insertWithin w (cs .zeros) }
 
 -- a gate's map byte
 abbrev pub mapOf : Bool → Controls → ℕ

@@ -7,7 +7,7 @@ ghost use Rattle.model.specs.Circuit.{wireList, readGate, readGates, gateIsWell
 ghost use Rattle.model.specs.Reading.{optional};
 ghost use Rattle.model.specs.Answers.{circuitRead};
 ghost use Rattle.circuit.specs.GatesInBytes.{part, inputAt, settled, fills, listIn, listParsed, gateIn, gateParsed, gateChecked, gateEnd};
-ghost use Rattle.circuit.specs.GateChecks.{rising, free, controlsWellFormed};
+ghost use Rattle.circuit.specs.GateChecks.{ascendsFrom, free, controlsWellFormed};
 ghost use Rattle.circuit.specs.Header.{circuitAfter};
 ghost use Rattle.answers.specs.Structs.{headerOf, refusedHeader};
 ghost use Rattle.model.specs.Limits.{notWellFormed};
@@ -77,7 +77,7 @@ fn contains(bytes: &[u8], from: usize, count: usize, wire: u8) -> bool
 
 // Do the wires ascend from above `floor` to at most `most`?
 pub fn ascending(bytes: &[u8], from: usize, count: usize, floor: u8, most: u8) -> bool
-    ensures { λ r. ⌜ r ≡ rising floor most (part (now (bytes .entry)) from count) ⌝ }
+    ensures { λ r. ⌜ r ≡ ascendsFrom floor most (part (now (bytes .entry)) from count) ⌝ }
 {
     let mut low = floor;
     let mut at = from;

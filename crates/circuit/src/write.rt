@@ -5,7 +5,7 @@ ghost use lib.ListN.{length, set};
 ghost use lib.Seq.{sets};
 ghost use Rattle.model.specs.Gates.{noControls, flip, swapOf};
 ghost use Rattle.model.specs.Circuit.{listBit, listBytes, encode, controlBytes, fourBytes};
-ghost use Rattle.circuit.specs.GatesToWrite.{placeFor, insertWithin, askingWithin, wiresOf, controlsFrom, gateFrom, mapOf, headerBytes};
+ghost use Rattle.circuit.specs.GatesToWrite.{placeFor, insertWithin, withControlWithin, wiresOf, controlsFrom, gateFrom, mapOf, headerBytes};
 use limits::{CIRCUIT_EDITION, CONTROLS_LENGTH, MOST_CONTROLS};
 
 // Wires in ascending order: the first `count` of `wires`. Around a statement stand fewer qcases than its tree is deep, and the body's ancilla beside them.
@@ -89,8 +89,8 @@ pub fn no_controls() -> ControlLists
 }
 
 // One control more: the wire is asked for 1 (true) or 0 (false).
-pub fn asking(controls: ControlLists, wire: u8, bit: bool) -> ControlLists
-    ensures { λ r. ⌜ controlsFrom r ≡ askingWithin wire bit (controlsFrom controls) ⌝ }
+pub fn with_control(controls: ControlLists, wire: u8, bit: bool) -> ControlLists
+    ensures { λ r. ⌜ controlsFrom r ≡ withControlWithin wire bit (controlsFrom controls) ⌝ }
 {
     let ones = controls.ones;
     let zeros = controls.zeros;

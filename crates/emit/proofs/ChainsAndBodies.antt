@@ -14,7 +14,7 @@ use Rattle.model.specs.Limits.{mostWires, mostDepth, mostCircuit}
 use Rattle.model.specs.Syntax.{Program, body}
 use Rattle.model.specs.Lists.{member}
 use Rattle.model.specs.Reach.{recursive}
-use Rattle.model.specs.Gates.{Controls, asking, insert, Gate, flip}
+use Rattle.model.specs.Gates.{Controls, withControl, insert, Gate, flip}
 use Rattle.model.specs.Emission.{
   Event, places, frees, Chains, startChain, Invocation, invocation, invoked, invokes, left, right, under, allEntryGates, Emitted, bodyInvocations,
   around, bodies, bodiesFrom, chainsWithin,
@@ -274,7 +274,7 @@ body-is p bs ix f i depth at deep = byLt p f
     (λ le. let all : depth ≡ mostDepth = deep ∙ rw (le-ltb p f le) in rw (all, at) (sym (body-at p bs ix f le)))
 
 under-roomy : (p f depth w : ℕ) (cs : Controls) → depth ≡ bodyDepth p f → cs ≡ under w → Roomy depth cs
-unfolding asking insert
+unfolding withControl insert
 under-roomy p f depth w cs deep e = byLt p f
     (λ lt. let none : depth ≡ 0 = deep ∙ rw (lt-ltb p f lt) in rw e (record { ones = omega arith; zeros = omega arith }))
     (λ le. let all : depth ≡ mostDepth = deep ∙ rw (le-ltb p f le) in rw e (record { ones = omega arith; zeros = omega arith }))

@@ -11,13 +11,13 @@ use Rattle.limits.specs.Sizes.{slotsLength}
 use Rattle.model.specs.Syntax.{Number, Statement, skip, NOT, qcase}
 use Rattle.model.specs.Lists.{remaining, touched, holds}
 use Rattle.model.specs.Reach.{recursive, width}
-use Rattle.model.specs.Gates.{Controls, asking, flip}
+use Rattle.model.specs.Gates.{Controls, withControl, flip}
 use Rattle.model.specs.Emission.{Event, places, Chains, whole, Invocation, invoked, isWide, invocations, invokes, left}
 use Rattle.agreement.proofs.EmissionClauses.{
   left-wide, left-thin, left-yes, left-no, left-recursive, left-other, invocations-wide, invocations-thin, invocations-yes, invocations-no,
   invocations-recursive, invocations-other,
 }
-use Rattle.circuit.specs.GatesToWrite.{askingWithin}
+use Rattle.circuit.specs.GatesToWrite.{withControlWithin}
 use Rattle.records.specs.Fields.{removalsOf}
 use Rattle.table.specs.Index.{testAt, statementAt, programAt}
 use Rattle.step.specs.declared.Step.{Step}
@@ -34,7 +34,7 @@ use Rattle.emit.specs.WalkPromises.{Ready, Roomy, chainsIn, Whole, Call,
 use Rattle.events.proofs.ScanOfEvents.{scan-was}
 use Rattle.events.proofs.ConsecutiveWalks.{follows-none, follows-stopped, follows-gates, follows-next, follows-if, follows-append, held-kept, held-append}
 use Rattle.emit.proofs.WalkPreconditions.{ready-then}
-use Rattle.emit.proofs.WholeStatement.{within-is, roomy-less, roomy-asking, whole-next, left-next, use-whole, use-call}
+use Rattle.emit.proofs.WholeStatement.{within-is, roomy-less, roomy-with-control, whole-next, left-next, use-whole, use-call}
 
 -- the matrix says which calls of f are recursive
 pub recursive-is : {bs ix m : List ℕ} {p : ℕ} {st : Emit} {ws : List ℕ} (f : ℕ) → Ready bs ix m p st ws → recursiveIn m f ≡ recursive (programAt p bs ix) f
@@ -90,7 +90,7 @@ module _ (ch : Chains) (r : ℕ → Bool) (l : List ℕ) (cs : Controls) (next :
   left-not rs a q e t = (rw (e, t), rw e)
 
   left-case : (rs : List Number) (a : Number) (q : ℕ) (x y : Statement) → s ≡ qcase rs a x y → q ≡ touched rs a l →
-      (left ch r x l (asking q false cs) next ++ left ch r y l (asking q true cs) (next + length (invocations r x l next)) ≡ left ch r s l cs next)
+      (left ch r x l (withControl q false cs) next ++ left ch r y l (withControl q true cs) (next + length (invocations r x l next)) ≡ left ch r s l cs next)
       × (invocations r x l next ++ invocations r y l (next + length (invocations r x l next)) ≡ invocations r s l next)
   unfolding left invocations
   left-case rs a q x y e t = (rw (e, t), rw e)
@@ -228,8 +228,8 @@ module _ {bs ix m : List ℕ} {p k : ℕ} {write : Bool} {st : Emit} {room ws : 
               opens-by (rw q (sym (left-thin (chainsIn bs ix p k) rec l cs (st .next) X Y thin))) (rw q (sym (invocations-thin rec l (st .next) X Y thin)))
                 (whole-then-left bs ix p k f l cs X Y R F (use-left B (ready-then R F) (roomy-less nz C))))
 
-          pub left-branches : {q x y : ℕ} {cs₁ cs₂ : Controls} → found ≡ step.Branches q x y → cs₁ ≡ askingWithin q false cs →
-              Left bs ix m p k write st room ws r room₁ ws₁ f x (depth - 1) l cs₁ → cs₂ ≡ askingWithin q true cs →
+          pub left-branches : {q x y : ℕ} {cs₁ cs₂ : Controls} → found ≡ step.Branches q x y → cs₁ ≡ withControlWithin q false cs →
+              Left bs ix m p k write st room ws r room₁ ws₁ f x (depth - 1) l cs₁ → cs₂ ≡ withControlWithin q true cs →
               Left bs ix m p k write r room₁ ws₁ b room₂ ws₂ f y (depth - 1) l cs₂ → Left bs ix m p k write st room ws b room₂ ws₂ f i depth l cs
           left-branches {q = q} {x = x} {y = y} e c₁ A c₂ B =
             let rec = recursive (programAt p bs ix) f in
@@ -240,9 +240,9 @@ module _ {bs ix m : List ℕ} {p k : ℕ} {write : Bool} {st : Emit} {room ws : 
             walks-left (λ R C.
               let A′ = subst (λ (v : Controls). Left bs ix m p k write st room ws r room₁ ws₁ f x (depth - 1) l v) (c₁ ∙ within-is nz C q false) A in
               let B′ = subst (λ (v : Controls). Left bs ix m p k write r room₁ ws₁ b room₂ ws₂ f y (depth - 1) l v) (c₂ ∙ within-is nz C q true) B in
-              let O = use-left A′ R (roomy-asking nz C q false) in
-              opens-by (t .0) (t .1) (left-then-left bs ix p k f l (asking q false cs) (asking q true cs) X Y R O
-                (use-left B′ (ready-then R (O .follows)) (roomy-asking nz C q true))))
+              let O = use-left A′ R (roomy-with-control nz C q false) in
+              opens-by (t .0) (t .1) (left-then-left bs ix p k f l (withControl q false cs) (withControl q true cs) X Y R O
+                (use-left B′ (ready-then R (O .follows)) (roomy-with-control nz C q true))))
 
 pub ruleset lefts = (
     needs, left-stopped, left-spent, left-idle, left-touches, left-chosen,

@@ -12,14 +12,14 @@ use Rattle.model.specs.Limits.{mostWires}
 use Rattle.model.specs.Syntax.{Number, Statement, skip, NOT, qcase}
 use Rattle.model.specs.Lists.{remaining, touched, holds}
 use Rattle.model.specs.Reach.{recursive, width}
-use Rattle.model.specs.Gates.{Controls, asking}
+use Rattle.model.specs.Gates.{Controls, withControl}
 use Rattle.model.specs.Emission.{Chains, whole, invoked, invocations, returns, right}
 use Rattle.agreement.proofs.AncillaStack.{OnlyGates}
 use Rattle.agreement.proofs.EmissionClauses.{
   right-wide, right-thin, right-yes, right-no, right-recursive, right-other, invocations-wide, invocations-thin, invocations-yes, invocations-no,
   invocations-recursive,
 }
-use Rattle.circuit.specs.GatesToWrite.{askingWithin}
+use Rattle.circuit.specs.GatesToWrite.{withControlWithin}
 use Rattle.records.specs.Fields.{removalsOf}
 use Rattle.table.specs.Index.{testAt, statementAt, programAt}
 use Rattle.step.specs.declared.Step.{Step}
@@ -35,7 +35,7 @@ use Rattle.emit.specs.WalkPromises.{Ready, Roomy, chainsIn, Whole, Right
 use Rattle.emit.proofs.CallCounts.{same-count}
 use Rattle.events.proofs.ConsecutiveWalks.{follows-none, follows-stopped, follows-gates, follows-next, follows-if, follows-as, follows-append}
 use Rattle.emit.proofs.WalkPreconditions.{ready-then}
-use Rattle.emit.proofs.WholeStatement.{within-is, roomy-less, roomy-asking, right-next, use-whole}
+use Rattle.emit.proofs.WholeStatement.{within-is, roomy-less, roomy-with-control, right-next, use-whole}
 use Rattle.emit.proofs.LeftPart.{recursive-is, wide-so, wide-not, was-ok}
 
 module _ {bs ix m : List ℕ} {p k : ℕ} {write : Bool} {st : Emit} {room ws : List ℕ} {r : Emit} {room₁ ws₁ : List ℕ} where
@@ -56,7 +56,7 @@ module _ (ch : Chains) (r : ℕ → Bool) (l : List ℕ) (cs : Controls) (first 
   right-not rs a e = rw e
 
   right-case : (rs : List Number) (a : Number) (q : ℕ) (x y : Statement) → s ≡ qcase rs a x y → q ≡ touched rs a l →
-      right ch r y l (asking q true cs) (first + length (invocations r x l first)) top ++ right ch r x l (asking q false cs) first top
+      right ch r y l (withControl q true cs) (first + length (invocations r x l first)) top ++ right ch r x l (withControl q false cs) first top
         ≡ right ch r s l cs first top
   unfolding right
   right-case rs a q x y e t = rw (e, t)
@@ -185,8 +185,8 @@ module _ {bs ix m : List ℕ} {p k : ℕ} {write : Bool} {st : Emit} {room ws : 
 
           pub right-branches : {q x y n second : ℕ} {cs₁ cs₂ : Controls} → found ≡ step.Branches q x y →
               n ≡ min mostCalls (length (invocations (recursiveIn m f) (statementAt p bs ix (depth - 1) x) l 0)) → second ≡ min mostCalls (first + n) →
-              cs₁ ≡ askingWithin q true cs → Right bs ix m p k write st room ws r room₁ ws₁ f y (depth - 1) l cs₁ second →
-              cs₂ ≡ askingWithin q false cs → Right bs ix m p k write r room₁ ws₁ b room₂ ws₂ f x (depth - 1) l cs₂ first →
+              cs₁ ≡ withControlWithin q true cs → Right bs ix m p k write st room ws r room₁ ws₁ f y (depth - 1) l cs₁ second →
+              cs₂ ≡ withControlWithin q false cs → Right bs ix m p k write r room₁ ws₁ b room₂ ws₂ f x (depth - 1) l cs₂ first →
               Right bs ix m p k write st room ws b room₂ ws₂ f i depth l cs first
           right-branches {q = q} {x = x} {y = y} {n = n} {second = second} e is-n is-s c₁ A c₂ B =
             let rec = recursive (programAt p bs ix) f in
@@ -203,15 +203,15 @@ module _ {bs ix m : List ℕ} {p k : ℕ} {write : Bool} {st : Emit} {room ws : 
               let second-is : st .status ≡ 0 → second ≡ first + length (invocations rec X l first) = λ ok.
                     exactly first n second (length (invocations rec X l 0)) (length (invocations rec X l first)) _
                       (length (invocations rec S l first)) counted is-s same both (Q ok) in
-              let F = use-right A′ R (roomy-asking nz C q true) (λ ok.
+              let F = use-right A′ R (roomy-with-control nz C q true) (λ ok.
                     subst (λ (v : ℕ). v + length (invocations rec Y l v) ≤ wireCount) (sym (second-is ok))
                       (total first (length (invocations rec X l first)) _ (length (invocations rec S l first)) both (Q ok))) in
-              let G = use-right B′ (ready-then R F) (roomy-asking nz C q false) (λ ok.
+              let G = use-right B′ (ready-then R F) (roomy-with-control nz C q false) (λ ok.
                     part first (length (invocations rec X l first)) _ (length (invocations rec S l first)) both (Q (was-ok F ok))) in
               follows-as write (right-case (chainsIn bs ix p k) rec l cs first (st .next) S (h .0) (h .1) q X Y (h .2) (h .3))
-                (follows-if write (λ ok. ap (λ (v : ℕ). right (chainsIn bs ix p k) rec Y l (asking q true cs) v (st .next)
-                    ++ right (chainsIn bs ix p k) rec X l (asking q false cs) first (st .next)) (second-is ok))
-                  (right-then-right bs ix p k f l (asking q true cs) (asking q false cs) first second X Y R F G)))
+                (follows-if write (λ ok. ap (λ (v : ℕ). right (chainsIn bs ix p k) rec Y l (withControl q true cs) v (st .next)
+                    ++ right (chainsIn bs ix p k) rec X l (withControl q false cs) first (st .next)) (second-is ok))
+                  (right-then-right bs ix p k f l (withControl q true cs) (withControl q false cs) first second X Y R F G)))
             where
               exactly : (first n second zero-count count other all : ℕ) → n ≡ min mostCalls zero-count → second ≡ min mostCalls (first + n) →
                   zero-count ≡ count →

@@ -9,12 +9,12 @@ use lib.ListN.{length}
 use lib.Dec.{ltb}
 use Rattle.model.specs.Syntax.{Number, Statement, skip, NOT, sequence, qcase, call}
 use Rattle.model.specs.Lists.{remaining, touched, holds}
-use Rattle.model.specs.Gates.{Controls, asking, insert, flip}
+use Rattle.model.specs.Gates.{Controls, withControl, insert, flip}
 use Rattle.model.specs.Emission.{places, Chains, startChain, whole, invocations, left, right}
 use Rattle.model.proofs.BooleanLaws.{byBool}
 use Rattle.agreement.proofs.AncillaStack.{StackedChains, whole-stacked, left-stacked, right-stacked, chains-stacked}
 use Rattle.agreement.proofs.EmissionClauses.{whole-yes, whole-no}
-use Rattle.circuit.specs.GatesToWrite.{askingWithin}
+use Rattle.circuit.specs.GatesToWrite.{withControlWithin}
 use Rattle.records.specs.Fields.{removalsOf}
 use Rattle.table.specs.Index.{testAt, statementAt, programAt}
 use Rattle.step.specs.declared.Step.{Step}
@@ -26,7 +26,7 @@ use Rattle.events.specs.declared.Emit.{Emit}
 use Rattle.events.specs.Scan.{progress, scan}
 use Rattle.events.specs.FollowedEvents.{Follows}
 use Rattle.emit.specs.WalkPromises.{Ready, Roomy, chainsIn, Whole, walks-whole, Call, walks-call}
-use Rattle.circuit.proofs.ControlInsertion.{asking-takes}
+use Rattle.circuit.proofs.ControlInsertion.{with-control-takes}
 use Rattle.events.proofs.ScanOfEvents.{nextAfter, stacked-after}
 use Rattle.events.proofs.ConsecutiveWalks.{follows-none, follows-stopped, follows-gates, follows-next, follows-if, follows-as, follows-append}
 use Rattle.emit.proofs.WalkPreconditions.{ready-then}
@@ -38,16 +38,16 @@ insert-length w [] = refl
 insert-length w (x ∷ l) = byBool (ltb w x) (λ e. rw (e, insert)) (λ e. rw (e, insert) (ap suc (insert-length w l)))
 
 module _ {depth : ℕ} {cs : Controls} (nz : depth ≡ 0 → ⊥) (C : Roomy depth cs) where
-  pub within-is : (w : ℕ) (b : Bool) → askingWithin w b cs ≡ asking w b cs
-  within-is w b = asking-takes w b cs (omega (arith, C .ones)) (omega (arith, C .zeros))
+  pub within-is : (w : ℕ) (b : Bool) → withControlWithin w b cs ≡ withControl w b cs
+  within-is w b = with-control-takes w b cs (omega (arith, C .ones)) (omega (arith, C .zeros))
 
   pub roomy-less : Roomy (depth - 1) cs
   roomy-less = record { ones = omega (arith, C .ones); zeros = omega (arith, C .zeros) }
 
-  pub roomy-asking : (w : ℕ) (b : Bool) → Roomy (depth - 1) (asking w b cs)
-  unfolding asking
-  roomy-asking w true = record { ones = rw (insert-length w (cs .ones)) (omega (arith, C .ones)); zeros = omega (arith, C .zeros) }
-  roomy-asking w false = record { ones = omega (arith, C .ones); zeros = rw (insert-length w (cs .zeros)) (omega (arith, C .zeros)) }
+  pub roomy-with-control : (w : ℕ) (b : Bool) → Roomy (depth - 1) (withControl w b cs)
+  unfolding withControl
+  roomy-with-control w true = record { ones = rw (insert-length w (cs .ones)) (omega (arith, C .ones)); zeros = omega (arith, C .zeros) }
+  roomy-with-control w false = record { ones = omega (arith, C .ones); zeros = rw (insert-length w (cs .zeros)) (omega (arith, C .zeros)) }
 
 -- the next wire behind a statement's events
 module _ (bs ix : List ℕ) (p k : ℕ) where
@@ -80,7 +80,7 @@ module _ (ch : Chains) (l : List ℕ) (cs : Controls) (next : ℕ) (s : Statemen
   whole-pair e = rw e
 
   whole-case : {rs : List Number} {a : Number} {q : ℕ} {x y : Statement} → s ≡ qcase rs a x y → q ≡ touched rs a l →
-      whole ch x l (asking q false cs) next ++ whole ch y l (asking q true cs) next ≡ whole ch s l cs next
+      whole ch x l (withControl q false cs) next ++ whole ch y l (withControl q true cs) next ≡ whole ch s l cs next
   unfolding whole
   whole-case e t = rw (e, t)
 
@@ -161,17 +161,17 @@ module _ {bs ix m : List ℕ} {p k : ℕ} {write : Bool} {st : Emit} {room ws : 
               (two-parts bs ix p k l (statementAt p bs ix (depth - 1) x) (statementAt p bs ix (depth - 1) y) cs cs R F
                 (use-whole B (ready-then R F) (roomy-less nz C))))
 
-          pub whole-branches : {q x y : ℕ} {cs₁ cs₂ : Controls} → found ≡ step.Branches q x y → cs₁ ≡ askingWithin q false cs →
-              Whole bs ix m p k write st room ws r room₁ ws₁ x (depth - 1) l cs₁ → cs₂ ≡ askingWithin q true cs →
+          pub whole-branches : {q x y : ℕ} {cs₁ cs₂ : Controls} → found ≡ step.Branches q x y → cs₁ ≡ withControlWithin q false cs →
+              Whole bs ix m p k write st room ws r room₁ ws₁ x (depth - 1) l cs₁ → cs₂ ≡ withControlWithin q true cs →
               Whole bs ix m p k write r room₁ ws₁ b room₂ ws₂ y (depth - 1) l cs₂ →
               Whole bs ix m p k write st room ws b room₂ ws₂ i depth l cs
           whole-branches {q = q} {x = x} {y = y} e c₁ A c₂ B = let h = at-step p bs ix depth i l nz is e in walks-whole (λ R C.
             let A′ = subst (λ (v : Controls). Whole bs ix m p k write st room ws r room₁ ws₁ x (depth - 1) l v) (c₁ ∙ within-is nz C q false) A in
             let B′ = subst (λ (v : Controls). Whole bs ix m p k write r room₁ ws₁ b room₂ ws₂ y (depth - 1) l v) (c₂ ∙ within-is nz C q true) B in
-            let F = use-whole A′ R (roomy-asking nz C q false) in
+            let F = use-whole A′ R (roomy-with-control nz C q false) in
             follows-as write (whole-case (chainsIn bs ix p k) l cs (st .next) (statementAt p bs ix depth i) (h .2) (h .3))
-              (two-parts bs ix p k l (statementAt p bs ix (depth - 1) x) (statementAt p bs ix (depth - 1) y) (asking q false cs)
-                (asking q true cs) R F (use-whole B′ (ready-then R F) (roomy-asking nz C q true))))
+              (two-parts bs ix p k l (statementAt p bs ix (depth - 1) x) (statementAt p bs ix (depth - 1) y) (withControl q false cs)
+                (withControl q true cs) R F (use-whole B′ (ready-then R F) (roomy-with-control nz C q true))))
 
 pub ruleset wholes = (
     needs, whole-stopped, whole-spent, whole-idle, whole-touches, whole-calls, whole-chosen,

@@ -9,7 +9,7 @@ ghost use Rattle.table.specs.Index.{statementAt};
 ghost use Rattle.step.specs.Steps.{qubitsOf};
 ghost use Rattle.reach.specs.Matrix.{recursiveIn};
 ghost use Rattle.emit.specs.WalkPromises.{bodyDepth, Whole, Call, Left, Right, BodyLeft, BodyRight, Bodies, Rest, Inner, Body, Emits};
-use circuit::write::{ControlLists, asking, no_controls};
+use circuit::write::{ControlLists, with_control, no_controls};
 use events::{Emit, emit_entries, emit_flip, finish, flip_again, invoke, load, procedure, seek, under, wire};
 use limits::{HEADER_LENGTH, MATRIX_LENGTH, MOST_CALLS, MOST_DEPTH, ROOTS_AT};
 use reach::{recursive, width};
@@ -105,9 +105,9 @@ fn emit_whole(
             emit_whole(table, index, p, matrix, k, part, depth - 1, list, controls, write, room, ws, st)
         }
         Step::Branches(q, a, b) => {
-            let zero = asking(controls, q, false);
+            let zero = with_control(controls, q, false);
             let one = emit_whole(table, index, p, matrix, k, a, depth - 1, list, zero, write, room, ws, st);
-            emit_whole(table, index, p, matrix, k, b, depth - 1, list, asking(controls, q, true), write, room, ws, one)
+            emit_whole(table, index, p, matrix, k, b, depth - 1, list, with_control(controls, q, true), write, room, ws, one)
         }
         Step::Calls(f, at) => {
             emit_call(table, index, p, matrix, k, f, remaining(table, at, list), controls, write, room, ws, st)
@@ -272,9 +272,9 @@ fn emit_left(
             emit_left(table, index, p, matrix, k, f, part, depth - 1, list, controls, write, room, ws, st)
         }
         Step::Branches(q, a, b) => {
-            let zero = asking(controls, q, false);
+            let zero = with_control(controls, q, false);
             let one = emit_left(table, index, p, matrix, k, f, a, depth - 1, list, zero, write, room, ws, st);
-            emit_left(table, index, p, matrix, k, f, b, depth - 1, list, asking(controls, q, true), write, room, ws, one)
+            emit_left(table, index, p, matrix, k, f, b, depth - 1, list, with_control(controls, q, true), write, room, ws, one)
         }
         Step::Calls(g, at) => {
             let rest = remaining(table, at, list);
@@ -321,9 +321,9 @@ fn emit_right(
         }
         Step::Branches(q, a, b) => {
             let second = sum(first, count_calls(table, index, p, matrix, f, a, depth - 1, list));
-            let one = asking(controls, q, true);
+            let one = with_control(controls, q, true);
             let one_end = emit_right(table, index, p, matrix, k, f, b, depth - 1, list, one, second, write, room, ws, st);
-            emit_right(table, index, p, matrix, k, f, a, depth - 1, list, asking(controls, q, false), first, write, room, ws, one_end)
+            emit_right(table, index, p, matrix, k, f, a, depth - 1, list, with_control(controls, q, false), first, write, room, ws, one_end)
         }
         Step::Calls(g, at) => {
             if recursive(matrix, f, g) {

@@ -19,7 +19,7 @@ use Rattle.step.specs.declared.Qubits.{Qubits}
 use Rattle.step.specs.Steps.{qubitsOf}
 use Rattle.events.specs.declared.Emit.{Emit}
 use Rattle.events.specs.Scan.{Progress, progress, emitOf, roomOf, stopped, taken, freed, scan, slotAt, wireOf, slotOf, heldIn}
-use Rattle.events.specs.Slots.{filled, taking, returned}
+use Rattle.events.specs.Slots.{filled, ancillaTaken, returned}
 use Rattle.events.specs.FollowedEvents.{Opens, Invokes, fills-slot}
 use Rattle.events.proofs.ScanOfEvents.{scan-stopped, scan-takes, scan-no-wire, scan-frees}
 use Rattle.events.proofs.EntryGates.{scan-nothing, scan-first}
@@ -126,10 +126,10 @@ module _ (f : ℕ) (cs : Controls) (write : Bool) (st : Emit) (room ws : List �
           kept = λ i k. getD-before ws (slotAt n) (f ∷ length (q ∷ l) ∷ q ∷ l) i k };
         held = λ z. one-held (filled ws n f (q ∷ l)) n (invocation f (q ∷ l) n) (filled-is ws n f (q ∷ l) space h short) })
 
-    pub invoked-slot : (a r : Emit) (room₁ ws₁ : List ℕ) → progress a ws₁ ≡ taking f (q ∷ l) st ws →
+    pub invoked-slot : (a r : Emit) (room₁ ws₁ : List ℕ) → progress a ws₁ ≡ ancillaTaken f (q ∷ l) st ws →
         progress r room₁ ≡ scan write (places (flip cs (wireOf (st .next))) ∷ []) (progress a room) →
         Opens write (invokes (q ∷ l) cs (st .next)) (invoked f (q ∷ l) (st .next)) st room ws r room₁ ws₁
-    unfolding taking
+    unfolding ancillaTaken
     invoked-slot a r room₁ ws₁ e p = byEq (st .status) 0
       (λ ok. byLt mostWires (st .next)
         (λ lt. refused-now a r room₁ ws₁ ok lt (rw (eq-eqb (st .status) 0 ok, lt-ltb mostWires (st .next) lt) at e) p)
@@ -137,13 +137,13 @@ module _ (f : ℕ) (cs : Controls) (write : Bool) (st : Emit) (room ws : List �
       (λ h. refused-before a r room₁ ws₁ h (rw (ne-eqb (st .status) 0 h) at e) p)
 
   some-invoked : (l : List ℕ) → (length l ≡ 0 → ⊥) → length l ≤ mostQubits → slotsLength ≤ length ws → (a r : Emit) (room₁ ws₁ : List ℕ) →
-      progress a ws₁ ≡ taking f l st ws → progress r room₁ ≡ scan write (places (flip cs (wireOf (st .next))) ∷ []) (progress a room) →
+      progress a ws₁ ≡ ancillaTaken f l st ws → progress r room₁ ≡ scan write (places (flip cs (wireOf (st .next))) ∷ []) (progress a room) →
       Opens write (invokes l cs (st .next)) (invoked f l (st .next)) st room ws r room₁ ws₁
   some-invoked [] h short space a r room₁ ws₁ e p = absurd (h refl)
   some-invoked (q ∷ l) h short space a r room₁ ws₁ e p = invoked-slot q l short space a r room₁ ws₁ e p
 
   pub invoke-some : (list : Qubits) (n w : ℕ) (a r : Emit) (room₁ ws₁ : List ℕ) → length (list .at) ≡ mostQubits → n ≡ length (qubitsOf list) → (n ≡ 0 → ⊥) →
-      w ≡ wireOf (st .next) → progress a ws₁ ≡ taking f (qubitsOf list) st ws → progress r room₁ ≡ scan write (places (flip cs w) ∷ []) (progress a room) →
+      w ≡ wireOf (st .next) → progress a ws₁ ≡ ancillaTaken f (qubitsOf list) st ws → progress r room₁ ≡ scan write (places (flip cs w) ∷ []) (progress a room) →
       Invokes f (qubitsOf list) cs write st room ws r room₁ ws₁
   invoke-some list n w a r room₁ ws₁ all is h v e p =
     let t : length (qubitsOf list) ≡ min (list .len) (length (list .at)) = length-take (list .len) (list .at) in

@@ -14,20 +14,20 @@ use lib.Seq.{sets, drop-cons, take-suc, take-suc-set, take-all, getD-take}
 use lib.Dec.{eqb, leb}
 use Rattle.limits.specs.Sizes.{slotLength}
 use Rattle.model.specs.Limits.{mostWires, mostQubits, mostCircuit, manyWires, noRoom}
-use Rattle.model.specs.Gates.{Controls, noControls, asking, exchange}
+use Rattle.model.specs.Gates.{Controls, noControls, withControl, exchange}
 use Rattle.model.specs.Emission.{Event, places, under}
 use Rattle.model.specs.Circuit.{encode}
 use Rattle.model.specs.Answers.{usable}
 use Rattle.model.proofs.BooleanLaws.{byLt}
 use Rattle.model.proofs.GateLaws.{exchange-left, exchange-right, exchange-other}
 use Rattle.circuit.specs.declared.write.NewGate.{NewGate}
-use Rattle.circuit.specs.GatesToWrite.{gateFrom, insertWithin, askingWithin}
+use Rattle.circuit.specs.GatesToWrite.{gateFrom, insertWithin, withControlWithin}
 use Rattle.circuit.proofs.GateBytes.{sets-past}
 use Rattle.step.specs.declared.Qubits.{Qubits}
 use Rattle.step.specs.Steps.{qubitsOf}
 use Rattle.events.specs.declared.Emit.{Emit}
 use Rattle.events.specs.Scan.{Progress, progress, stopped, freed, placed, stored, scan, bytesFrom, slotListLength, slotProcedure, slotList}
-use Rattle.events.specs.Slots.{filled, taking, returned, pairAt, appears, opensAt, seekOf}
+use Rattle.events.specs.Slots.{filled, ancillaTaken, returned, pairAt, appears, opensAt, seekOf}
 use Rattle.events.proofs.ScanOfEvents.{scan-stopped, scan-places, scan-no-gate, scan-many}
 
 pub ruleset reading = (needs, lt-ltb, le-ltb)
@@ -98,17 +98,17 @@ back-given a st e = rw (eq-eqb (st .status) 0 e)
 
 -- the ways out of `take`
 module _ (f : ℕ) (l : List ℕ) (st : Emit) (ws : List ℕ) where
-  pub take-stopped : (st .status ≡ 0 → ⊥) → progress st ws ≡ taking f l st ws
-  unfolding taking
+  pub take-stopped : (st .status ≡ 0 → ⊥) → progress st ws ≡ ancillaTaken f l st ws
+  unfolding ancillaTaken
   take-stopped h = rw (ne-eqb (st .status) 0 h)
 
-  pub take-past : (r : Emit) → st .status ≡ 0 → mostWires < st .next → r ≡ stopped st manyWires → progress r ws ≡ taking f l st ws
-  unfolding taking
+  pub take-past : (r : Emit) → st .status ≡ 0 → mostWires < st .next → r ≡ stopped st manyWires → progress r ws ≡ ancillaTaken f l st ws
+  unfolding ancillaTaken
   take-past r e h q = rw (q, eq-eqb (st .status) 0 e, lt-ltb mostWires (st .next) h)
 
   pub take-one : (after : List ℕ) (h : ℕ) → st .status ≡ 0 → st .next ≤ mostWires → after ≡ filled ws (st .next) f l → h ≡ max (st .highest) (st .next) →
-      progress (record { status = 0; used = st .used; gates = st .gates; next = st .next + 1; highest = h }) after ≡ taking f l st ws
-  unfolding taking
+      progress (record { status = 0; used = st .used; gates = st .gates; next = st .next + 1; highest = h }) after ≡ ancillaTaken f l st ws
+  unfolding ancillaTaken
   take-one after h e le p q = rw (p, q, eq-eqb (st .status) 0 e, le-ltb mostWires (st .next) le)
 
 pub ruleset takings = (needs, back-stopped, back-given, take-stopped, take-past, take-one)
@@ -211,8 +211,8 @@ module _ (ws : List ℕ) (base m e upto a : ℕ) (left : seekOf ws base m a (upt
 pub ruleset seeking = (needs, pair-yes, pair-no, appears-none, appears-here, appears-on, opens-yes, opens-no, seek-none, seek-here, seek-on)
 
 -- one control under none
-pub under-is : (a : ℕ) (none r : Controls) → none ≡ noControls → r ≡ askingWithin a true none → r ≡ under a
-unfolding askingWithin insertWithin asking
+pub under-is : (a : ℕ) (none r : Controls) → none ≡ noControls → r ≡ withControlWithin a true none → r ≡ under a
+unfolding withControlWithin insertWithin withControl
 under-is a none r e q = rw (q, e)
 
 -- the ways out of `exchange`

@@ -16,8 +16,8 @@ abbrev pub filled : List ℕ → ℕ → ℕ → List ℕ → List ℕ
 filled ws a f l = sets ws (slotAt a) (f ∷ length l ∷ l)
 
 -- the next ancilla is taken, and its slot filled
-unfoldable pub taking : ℕ → List ℕ → Emit → List ℕ → Progress
-taking f l st ws =
+unfoldable pub ancillaTaken : ℕ → List ℕ → Emit → List ℕ → Progress
+ancillaTaken f l st ws =
     cond (eqb (st .status) 0)
     (cond (ltb mostWires (st .next)) (progress (stopped st manyWires) ws) (progress (taken st (st .next)) (filled ws (st .next) f l)))
     (progress st ws)

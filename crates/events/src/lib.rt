@@ -13,9 +13,9 @@ ghost use Rattle.model.specs.Answers.{usable};
 ghost use Rattle.circuit.specs.GatesToWrite.{controlsFrom, gateFrom};
 ghost use Rattle.step.specs.Steps.{qubitsOf};
 ghost use Rattle.events.specs.Scan.{progress, stopped, scan, slotListLength, slotProcedure, slotList, wireOf, slotOf, heldIn};
-ghost use Rattle.events.specs.Slots.{filled, taking, returned, pairAt, appears, opensAt, seekOf, turned, entryAt, Differ};
+ghost use Rattle.events.specs.Slots.{filled, ancillaTaken, returned, pairAt, appears, opensAt, seekOf, turned, entryAt, Differ};
 ghost use Rattle.events.specs.FollowedEvents.{Invokes};
-use circuit::write::{ControlLists, NewGate, asking, no_controls, flip_of, swap_of, gate_length, put_pair, put_gate};
+use circuit::write::{ControlLists, NewGate, with_control, no_controls, flip_of, swap_of, gate_length, put_pair, put_gate};
 use limits::{LAST_WIRE, LIST_LENGTH, MANY_WIRES, MOST_CIRCUIT, MOST_GATES, MOST_QUBITS, NO_ROOM, SLOT_LENGTH};
 use records::byte;
 use step::{Qubits, size};
@@ -184,7 +184,7 @@ fn larger(a: u16, b: u16) -> u16
 
 // The next ancilla is taken for a call of f with a list, or 22.
 fn take(f: u8, list: Qubits, ws: &mut [u8], st: Emit) -> Emit
-    ensures { λ r. ⌜ progress r (now (ws .exit)) ≡ taking f (qubitsOf list) st (now (ws .entry)) ⌝ }
+    ensures { λ r. ⌜ progress r (now (ws .exit)) ≡ ancillaTaken f (qubitsOf list) st (now (ws .entry)) ⌝ }
 {
     if st.status != 0 {
         return st;
@@ -249,7 +249,7 @@ pub fn seek(ws: &[u8], base: u16, m: u8, e: u16, upto: u16) -> u16
 pub fn under(a: u8) -> ControlLists
     ensures { λ r. ⌜ controlsFrom r ≡ model.under a ⌝ }
 {
-    asking(no_controls(), a, true)
+    with_control(no_controls(), a, true)
 }
 
 // The two wires exchanged, every other wire itself.

@@ -9,7 +9,7 @@ use borrow.Author.Tests.{ne-eqb}
 use lib.Dec.{ltb}
 use Rattle.model.specs.Lists.{member}
 use Rattle.model.specs.Meaning.{State, update, flipped}
-use Rattle.model.specs.Gates.{Controls, noControls, insert, asking, Gate, flip, swap, swapOf, exchange, renamed, allOne, allZero, fires, act}
+use Rattle.model.specs.Gates.{Controls, noControls, insert, withControl, Gate, flip, swap, swapOf, exchange, renamed, allOne, allZero, fires, act}
 use Rattle.model.proofs.BooleanLaws.{byBool, byEq, byLt, eqb-same, not-not, or-cases, or-left, or-right}
 use Rattle.model.proofs.ListLaws.{member-head, member-tail, member-nil, member-cases, not-head, not-tail}
 
@@ -88,8 +88,8 @@ insert-cases {A = A} w v (x ∷ l) h f g = byBool (ltb w x)
       (λ q. g (rw q (member-head x l)))
       (λ m. insert-cases w v l m f (λ i. g (member-tail v x l i))))
 
-pub asks-cases {ℓ} : {A : Type ℓ} (w : ℕ) (b : Bool) (cs : Controls) (v : ℕ) → asks (asking w b cs) v ≡ true → (v ≡ w → A) → (asks cs v ≡ true → A) → A
-unfolding asks asking
+pub asks-cases {ℓ} : {A : Type ℓ} (w : ℕ) (b : Bool) (cs : Controls) (v : ℕ) → asks (withControl w b cs) v ≡ true → (v ≡ w → A) → (asks cs v ≡ true → A) → A
+unfolding asks withControl
 asks-cases w true cs v h f g = or-cases (member v (insert w (cs .ones))) (member v (cs .zeros)) h
     (λ m. insert-cases w v (cs .ones) m f (λ i. g (or-left (member v (cs .ones)) (member v (cs .zeros)) i)))
     (λ m. g (or-right (member v (cs .ones)) (member v (cs .zeros)) m))
@@ -151,13 +151,13 @@ unfolding fires allOne allZero
 fires-none s = refl
 
 -- it fires where the wire holds the bit asked for and the others fire
-pub fires-hit : (w : ℕ) (b : Bool) (cs : Controls) (s : State) → s w ≡ b → fires (asking w b cs) s ≡ fires cs s
-unfolding fires asking
+pub fires-hit : (w : ℕ) (b : Bool) (cs : Controls) (s : State) → s w ≡ b → fires (withControl w b cs) s ≡ fires cs s
+unfolding fires withControl
 fires-hit w true cs s e = rw (allOne-insert w (cs .ones) s, e)
 fires-hit w false cs s e = rw (allZero-insert w (cs .zeros) s, e)
 
-pub fires-miss : (w : ℕ) (b : Bool) (cs : Controls) (s : State) → s w ≡ not b → fires (asking w b cs) s ≡ false
-unfolding fires asking
+pub fires-miss : (w : ℕ) (b : Bool) (cs : Controls) (s : State) → s w ≡ not b → fires (withControl w b cs) s ≡ false
+unfolding fires withControl
 fires-miss w true cs s e = rw (allOne-insert w (cs .ones) s, e)
 fires-miss w false cs s e = rw (allZero-insert w (cs .zeros) s, e) (last (allOne (cs .ones) s))
   where
@@ -166,15 +166,15 @@ fires-miss w false cs s e = rw (allZero-insert w (cs .zeros) s, e) (last (allOne
     last false = refl
 
 -- controls that do not fire do not with one more
-pub fires-fewer : (w : ℕ) (b : Bool) (cs : Controls) (s : State) → fires cs s ≡ false → fires (asking w b cs) s ≡ false
+pub fires-fewer : (w : ℕ) (b : Bool) (cs : Controls) (s : State) → fires cs s ≡ false → fires (withControl w b cs) s ≡ false
 fires-fewer w b cs s h = byBool (s w)
     (λ e. go b e)
     (λ e. back b e)
   where
-    go : (b : Bool) → s w ≡ true → fires (asking w b cs) s ≡ false
+    go : (b : Bool) → s w ≡ true → fires (withControl w b cs) s ≡ false
     go true e = fires-hit w true cs s e ∙ h
     go false e = fires-miss w false cs s e
-    back : (b : Bool) → s w ≡ false → fires (asking w b cs) s ≡ false
+    back : (b : Bool) → s w ≡ false → fires (withControl w b cs) s ≡ false
     back true e = fires-miss w true cs s e
     back false e = fires-hit w false cs s e ∙ h
 

@@ -7,7 +7,7 @@ use lib.Dec.{eqb, ltb}
 use Rattle.model.specs.Syntax.{Statement, skip, NOT, sequence, if, qcase, call, Program, count, body}
 use Rattle.model.specs.Lists.{qubits, remaining, touched, holds, member}
 use Rattle.model.specs.Reach.{recursive, width}
-use Rattle.model.specs.Gates.{Controls, noControls, asking, Gate, flip, swapOf, exchange}
+use Rattle.model.specs.Gates.{Controls, noControls, withControl, Gate, flip, swapOf, exchange}
 
 -- what happens, step by step: an ancilla is taken, a gate is placed, or all ancillas from a on are given back
 pub data Event : Type 0 where
@@ -35,7 +35,7 @@ whole chains (sequence s t) l cs next = whole chains s l cs next ++ whole chains
 -- "If: the chosen branch alone."
 whole chains (if c s t) l cs next = elim (holds c (length l)) [ true ↦ whole chains s l cs next | false ↦ whole chains t l cs next ]
 whole chains (qcase rs a s t) l cs next =
-    whole chains s l (asking (touched rs a l) false cs) next ++ whole chains t l (asking (touched rs a l) true cs) next
+    whole chains s l (withControl (touched rs a l) false cs) next ++ whole chains t l (withControl (touched rs a l) true cs) next
 whole chains (call rs f) l cs next = startChain chains f (remaining rs l) cs next
 
 -- one call into a chain that names a pair: the call that starts it, or a recursive one, with the ancilla that it took. "A recursive call met
@@ -85,8 +85,8 @@ left chains r (sequence s t) l cs next =
 left chains r (if c s t) l cs next = elim (holds c (length l)) [ true ↦ left chains r s l cs next | false ↦ left chains r t l cs next ]
 -- "Qcase: left zero then one"
 left chains r (qcase rs a s t) l cs next =
-    left chains r s l (asking (touched rs a l) false cs) next ++
-    left chains r t l (asking (touched rs a l) true cs) (next + length (invocations r s l next))
+    left chains r s l (withControl (touched rs a l) false cs) next ++
+    left chains r t l (withControl (touched rs a l) true cs) (next + length (invocations r s l next))
 left chains r (call rs f) l cs next =
     elim (r f) [ true ↦ invokes (remaining rs l) cs next | false ↦ startChain chains f (remaining rs l) cs next ]
 
@@ -99,13 +99,13 @@ right chains r (sequence s t) l cs next top =
 right chains r (if c s t) l cs next top = elim (holds c (length l)) [ true ↦ right chains r s l cs next top | false ↦ right chains r t l cs next top ]
 -- "right one then zero"
 right chains r (qcase rs a s t) l cs next top =
-    right chains r t l (asking (touched rs a l) true cs) (next + length (invocations r s l next)) top ++
-    right chains r s l (asking (touched rs a l) false cs) next top
+    right chains r t l (withControl (touched rs a l) true cs) (next + length (invocations r s l next)) top ++
+    right chains r s l (withControl (touched rs a l) false cs) next top
 right chains r (call rs f) l cs next top = elim (r f) [ true ↦ returns (remaining rs l) cs next | false ↦ [] ]
 
 -- the one control of a body, or of an entry: its ancilla is 1
 abbrev pub under : ℕ → Controls
-under a = asking a true noControls
+under a = withControl a true noControls
 
 -- "for k = 1 up to the length, swap, under the entry ancilla, the wire now holding the k-th qubit of the later list with the k-th wire of the first
 -- list, unless equal": `ks` are the first list's wires still to come, `ws` the wires that now hold the later list's qubits

@@ -19,9 +19,9 @@ insert w [] = w ∷ []
 insert w (x ∷ l) = elim (ltb w x) [ true ↦ w ∷ x ∷ l | false ↦ x ∷ insert w l ]
 
 -- one control more: wire w is asked for 1 (true) or 0 (false)
-unfoldable pub asking : ℕ → Bool → Controls → Controls
-asking w true cs = record { ones = insert w (cs .ones); zeros = cs .zeros }
-asking w false cs = record { ones = cs .ones; zeros = insert w (cs .zeros) }
+unfoldable pub withControl : ℕ → Bool → Controls → Controls
+withControl w true cs = record { ones = insert w (cs .ones); zeros = cs .zeros }
+withControl w false cs = record { ones = cs .ones; zeros = insert w (cs .zeros) }
 
 -- "Gates are NOT and swap, under controls"
 pub data Gate : Type 0 where

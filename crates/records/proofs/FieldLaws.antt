@@ -30,7 +30,7 @@ use Rattle.records.specs.Fields.{
   byteAt, writtenAt, andThenPlace, andThenNumber, andThenProcedure, based, numberAt, numbersAt, removalsAt, maybeRemovalsAt,
 }
 use Rattle.records.specs.Fields.{
-  placeOf, afterRemovals, plain, touching, comparing, calling, withNumber, withNumbers, withProcedure, fieldsAt, recordOf, recordAt,
+  placeOf, afterRemovals, plainRecord, touchRecord, comparisonRecord, callRecord, withNumber, withNumbers, withProcedure, fieldsAt, recordOf, recordAt,
 }
 
 -- a conjunction as the code takes it, test by test
@@ -201,11 +201,11 @@ place-lacks removes at e = rw e
 
 -- a record is made of its fields
 pub made-touching :
-    (k place at n : ℕ) (removes : Bool) (a : Number) (r : Record) → place ≡ placeOf removes at → r ≡ touching k place a →
-    answer.Record r n ≡ answer.Record (touching k (placeOf removes at) a) n
+    (k place at n : ℕ) (removes : Bool) (a : Number) (r : Record) → place ≡ placeOf removes at → r ≡ touchRecord k place a →
+    answer.Record r n ≡ answer.Record (touchRecord k (placeOf removes at) a) n
 made-touching k place at n removes a r p q = cc
 
-pub made-comparing : (k n : ℕ) (a b : Number) (r : Record) → r ≡ comparing k a b → answer.Record r n ≡ answer.Record (comparing k a b) n
+pub made-comparing : (k n : ℕ) (a b : Number) (r : Record) → r ≡ comparisonRecord k a b → answer.Record r n ≡ answer.Record (comparisonRecord k a b) n
 made-comparing k n a b r q = cc
 
 pub made-call :
@@ -224,11 +224,11 @@ unfolding afterRemovals
 after-lack removes bs at e = rw e
 
 -- a kind without fields
-pub plain-is : (k j : ℕ) (r : Record) → k ≡ j → r ≡ plain j → r ≡ plain k
+pub plain-is : (k j : ℕ) (r : Record) → k ≡ j → r ≡ plainRecord j → r ≡ plainRecord k
 plain-is k j r e q = rw e q
 
-pub plain-last : (k : ℕ) → (k ≡ 2 → ⊥) → (k ≡ 3 → ⊥) → (k ≡ 9 → ⊥) → (k ≡ 10 → ⊥) → (k ≡ 11 → ⊥) → kind.Skip ≡ plain k
-unfolding plain
+pub plain-last : (k : ℕ) → (k ≡ 2 → ⊥) → (k ≡ 3 → ⊥) → (k ≡ 9 → ⊥) → (k ≡ 10 → ⊥) → (k ≡ 11 → ⊥) → kind.Skip ≡ plainRecord k
+unfolding plainRecord
 plain-last k f2 f3 f9 f10 f11 = rw (ne-eqb k 2 f2, ne-eqb k 3 f3, ne-eqb k 9 f9, ne-eqb k 10 f10, ne-eqb k 11 f11)
 
 -- the bits that the map of a kind must have; a kind past 11 has none
@@ -240,11 +240,11 @@ required-none k i e l = rw (List·getD-eq-default permittedMaps 0 {n = k} (omega
 
 -- the fields go by these bits
 module _ (p k m : ℕ) (removes : Bool) (bs : List ℕ) (at : ℕ) (e : m ≡ requiredMap k) where
-  pub fields-number : (r : Answer) → m ≡ 2 → r ≡ withNumber (touching k) removes bs at → r ≡ fieldsAt p k removes bs at
+  pub fields-number : (r : Answer) → m ≡ 2 → r ≡ withNumber (touchRecord k) removes bs at → r ≡ fieldsAt p k removes bs at
   unfolding fieldsAt
   fields-number r q h = rw (← e, q) h
 
-  pub fields-numbers : (r : Answer) → m ≡ 6 → r ≡ withNumbers (comparing k) bs at → r ≡ fieldsAt p k removes bs at
+  pub fields-numbers : (r : Answer) → m ≡ 6 → r ≡ withNumbers (comparisonRecord k) bs at → r ≡ fieldsAt p k removes bs at
   unfolding fieldsAt
   fields-numbers r q h = rw (← e, q) h
 
@@ -253,7 +253,7 @@ module _ (p k m : ℕ) (removes : Bool) (bs : List ℕ) (at : ℕ) (e : m ≡ re
   fields-procedure r q h = rw (← e, q) h
 
   pub fields-none :
-      (r : Record) → (m ≡ 2 → ⊥) → (m ≡ 6 → ⊥) → (m ≡ 8 → ⊥) → r ≡ plain k → answer.Record r at ≡ fieldsAt p k removes bs at
+      (r : Record) → (m ≡ 2 → ⊥) → (m ≡ 6 → ⊥) → (m ≡ 8 → ⊥) → r ≡ plainRecord k → answer.Record r at ≡ fieldsAt p k removes bs at
   unfolding fieldsAt
   fields-none r f2 f6 f8 h = rw (← e, ne-eqb m 2 f2, ne-eqb m 6 f6, ne-eqb m 8 f8, h)
 
@@ -282,7 +282,7 @@ module _ (bs : List ℕ) (at low high : ℕ) (z : ℤ) (f : SFits w32 z)
 
 -- a record past the end is skip
 pub record-none : (p : ℕ) (bs : List ℕ) (at : ℕ) → length bs ≤ at → kind.Skip ≡ recordAt p bs at
-unfolding recordAt recordOf plain
+unfolding recordAt recordOf plainRecord
 record-none p bs at h = rw (← past-end bs (at + 1) (omega arith))
 
 -- any other goes by the bits that the map of its kind must have
@@ -290,22 +290,22 @@ module _ (p : ℕ) (bs : List ℕ) (at k m : ℕ) (removes : Bool)
     (s : removes ≡ stands 0 (getD bs at 0)) (b : k ≡ byteAt bs (at + 1)) (e : m ≡ requiredMap k) where
   pub record-number :
       (next q : ℕ) (a : Number) (r : Record) → next ≡ afterRemovals removes bs (at + 2) → m ≡ 2 → q ≡ placeOf removes (at + 2) →
-      a ≡ writtenAt bs next → r ≡ touching k q a → r ≡ recordAt p bs at
+      a ≡ writtenAt bs next → r ≡ touchRecord k q a → r ≡ recordAt p bs at
   unfolding recordAt recordOf
   record-number next q a r n t place number made = rw (← b, ← s, ← e, t, made, number, place, n)
 
   pub record-numbers :
-      (a c : Number) (r : Record) → m ≡ 6 → a ≡ writtenAt bs (at + 2) → c ≡ writtenAt bs (at + 2 + 3) → r ≡ comparing k a c → r ≡ recordAt p bs at
+      (a c : Number) (r : Record) → m ≡ 6 → a ≡ writtenAt bs (at + 2) → c ≡ writtenAt bs (at + 2 + 3) → r ≡ comparisonRecord k a c → r ≡ recordAt p bs at
   unfolding recordAt recordOf
   record-numbers a c r t first second made = rw (← b, ← s, ← e, t, made, first, second)
 
   pub record-procedure :
       (next q f : ℕ) (r : Record) → next ≡ afterRemovals removes bs (at + 2) → m ≡ 8 → q ≡ placeOf removes (at + 2) →
-      f ≡ byteAt bs next → r ≡ calling p q f → r ≡ recordAt p bs at
+      f ≡ byteAt bs next → r ≡ callRecord p q f → r ≡ recordAt p bs at
   unfolding recordAt recordOf
   record-procedure next q f r n t place called made = rw (← b, ← s, ← e, t, made, called, place, n)
 
-  pub record-plain : (r : Record) → (m ≡ 2 → ⊥) → (m ≡ 6 → ⊥) → (m ≡ 8 → ⊥) → r ≡ plain k → r ≡ recordAt p bs at
+  pub record-plain : (r : Record) → (m ≡ 2 → ⊥) → (m ≡ 6 → ⊥) → (m ≡ 8 → ⊥) → r ≡ plainRecord k → r ≡ recordAt p bs at
   unfolding recordAt recordOf
   record-plain r f2 f6 f8 made = rw (← b, ← s, ← e, ne-eqb m 2 f2, ne-eqb m 6 f6, ne-eqb m 8 f8, made)
 

@@ -22,7 +22,7 @@ use Rattle.records.specs.declared.Record.the-variants as kind
 use Rattle.records.specs.declared.Answer.{Answer}
 use Rattle.records.specs.declared.Answer.the-variants as answer
 use Rattle.records.specs.Fields.{byteAt, andThenPlace, andThenNumber, andThenProcedure, based, writtenAt, numberAt, numbersAt, removalsAt, procedureAt}
-use Rattle.records.specs.Fields.{maybeRemovalsAt, placeOf, afterRemovals, plain, touching, comparing, calling, withNumber, withNumbers, withProcedure}
+use Rattle.records.specs.Fields.{maybeRemovalsAt, placeOf, afterRemovals, plainRecord, touchRecord, comparisonRecord, callRecord, withNumber, withNumbers, withProcedure}
 use Rattle.records.specs.Fields.{
   fieldsAt, recordOf, recordAt, numberOf, numbersFrom, removalsOf, noFields, touchedFields, comparedFields, calledFields, fieldsOf,
   fieldsParsed, FieldsRead,
@@ -185,8 +185,8 @@ data RecordAgree (bs : List ℕ) (at k j : ℕ) (r : Record) : Parsed Fields →
   refuses : (m : ℕ) → RecordAgree bs at k j r (refused m) (answer.Refused m)
 
 -- a call of one of p procedures
-calling-is : (p at f : ℕ) → 0 < f → f ≤ p → calling p at f ≡ kind.Call at f
-unfolding calling
+calling-is : (p at f : ℕ) → 0 < f → f ≤ p → callRecord p at f ≡ kind.Call at f
+unfolding callRecord
 calling-is p at f z l = rw (ne-eqb f 0 (omega arith), le-ltb p f l)
 
 -- the map of a kind that has one map only
@@ -253,7 +253,7 @@ module _ (p : ℕ) (bs : List ℕ) (at k : ℕ) (h : at ≤ length bs) where
     -- removals, if any, then a procedure
     called-from :
         (removes : Bool) →
-        RecordAgree bs at k 5 (calling p (placeOf removes at) (byteAt bs (afterRemovals removes bs at)))
+        RecordAgree bs at k 5 (callRecord p (placeOf removes at) (byteAt bs (afterRemovals removes bs at)))
         (andThen (optional removes removals [] (inputAt bs at k)) (λ rs i. andThen (procedure p i) (λ f l. parsed (calledFields rs f) l)))
         (withProcedure p removes bs at)
     unfolding withProcedure fieldsOf kindOf
@@ -265,7 +265,7 @@ module _ (p : ℕ) (bs : List ℕ) (at k : ℕ) (h : at ≤ length bs) where
 
     called-agrees :
         (map : ℕ) → eqb map 8 || eqb map 9 ≡ true →
-        RecordAgree bs at k 5 (calling p (placeOf (stands 0 map) at) (byteAt bs (afterRemovals (stands 0 map) bs at)))
+        RecordAgree bs at k 5 (callRecord p (placeOf (stands 0 map) at) (byteAt bs (afterRemovals (stands 0 map) bs at)))
         (fields p map (inputAt bs at k)) (withProcedure p (stands 0 map) bs at)
     unfolding fields optional andThen
     called-agrees map t =
@@ -298,7 +298,7 @@ by-kinds C c0 c1 c2 c3 c4 c5 c6 c7 c8 c9 c10 c11 j l =
 module _ (p j map : ℕ) (bs : List ℕ) (at k : ℕ) (z : 0 < at) (s : at < placeCount) (h : at ≤ length bs) (l : j < kindCount) (t : permitted j map ≡ true) where
   -- the fields of a record are read at a place as the model reads them from the bytes from there on, where the map is permitted
   fields-agree : RecordAgree bs at k j (recordOf p j (stands 0 map) bs at) (fields p map (inputAt bs at k)) (fieldsAt p j (stands 0 map) bs at)
-  unfolding fieldsAt recordOf plain touching comparing fieldsOf kindOf
+  unfolding fieldsAt recordOf plainRecord touchRecord comparisonRecord fieldsOf kindOf
   fields-agree =
       by-kinds (λ (i : ℕ). permitted i map ≡ true →
       RecordAgree bs at k i (recordOf p i (stands 0 map) bs at) (fields p map (inputAt bs at k)) (fieldsAt p i (stands 0 map) bs at))

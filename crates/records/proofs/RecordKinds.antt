@@ -9,7 +9,7 @@ use Rattle.model.specs.Reading.{requiredMap}
 use Rattle.model.proofs.BooleanLaws.{byEq, byLt}
 use Rattle.records.specs.declared.Record.{Record}
 use Rattle.records.specs.declared.Record.the-variants as kind
-use Rattle.records.specs.Fields.{byteAt, writtenAt, plain, touching, comparing, calling, recordOf, recordAt}
+use Rattle.records.specs.Fields.{byteAt, writtenAt, plainRecord, touchRecord, comparisonRecord, callRecord, recordOf, recordAt}
 
 module _
     (p : ℕ) (bs : List ℕ) (C : Record → Type 0)
@@ -29,8 +29,8 @@ module _
   either true x y c d = c
   either false x y c d = d
 
-  plain-case : (k : ℕ) → C (plain k)
-  unfolding plain
+  plain-case : (k : ℕ) → C (plainRecord k)
+  unfolding plainRecord
   plain-case k =
       either (eqb k 2) _ _ sequence
       (either (eqb k 3) _ _ if
@@ -38,16 +38,16 @@ module _
       (either (eqb k 10) _ _ or
       (either (eqb k 11) kind.Negation kind.Skip negation skip))))
 
-  touching-case : (k q a : ℕ) → C (touching k q (writtenAt bs a))
-  unfolding touching
+  touching-case : (k q a : ℕ) → C (touchRecord k q (writtenAt bs a))
+  unfolding touchRecord
   touching-case k q a = either (eqb k 1) _ _ (not q a) (qcase q a)
 
-  comparing-case : (k a b : ℕ) → C (comparing k (writtenAt bs a) (writtenAt bs b))
-  unfolding comparing
+  comparing-case : (k a b : ℕ) → C (comparisonRecord k (writtenAt bs a) (writtenAt bs b))
+  unfolding comparisonRecord
   comparing-case k a b = either (eqb k 6) _ _ (greater a b) (either (eqb k 7) _ _ (at-least a b) (equal a b))
 
-  calling-case : (q f : ℕ) → C (calling p q f)
-  unfolding calling
+  calling-case : (q f : ℕ) → C (callRecord p q f)
+  unfolding callRecord
   calling-case q f =
       byEq f 0 (λ e. rw (eq-eqb f 0 e) skip) λ n.
       byLt p f (λ l. rw (ne-eqb f 0 n, lt-ltb p f l) skip) λ l.

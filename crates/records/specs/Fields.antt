@@ -102,8 +102,8 @@ afterRemovals true bs at = at + 1 + 3 * byteAt bs at
 afterRemovals false bs at = at
 
 -- a kind without fields; what is no kind counts as skip
-unfoldable pub plain : ℕ → Record
-plain k =
+unfoldable pub plainRecord : ℕ → Record
+plainRecord k =
     cond (eqb k 2) kind.Sequence
     (cond (eqb k 3) kind.If
     (cond (eqb k 9) kind.And
@@ -111,16 +111,16 @@ plain k =
     (cond (eqb k 11) kind.Negation kind.Skip))))
 
 -- NOT, kind 1, or qcase, kind 4
-unfoldable pub touching : ℕ → ℕ → Number → Record
-touching k at a = cond (eqb k 1) (kind.Not at a) (kind.Qcase at a)
+unfoldable pub touchRecord : ℕ → ℕ → Number → Record
+touchRecord k at a = cond (eqb k 1) (kind.Not at a) (kind.Qcase at a)
 
 -- a comparison, kind 6, 7 or 8
-unfoldable pub comparing : ℕ → Number → Number → Record
-comparing k a b = cond (eqb k 6) (kind.Greater a b) (cond (eqb k 7) (kind.AtLeast a b) (kind.Equal a b))
+unfoldable pub comparisonRecord : ℕ → Number → Number → Record
+comparisonRecord k a b = cond (eqb k 6) (kind.Greater a b) (cond (eqb k 7) (kind.AtLeast a b) (kind.Equal a b))
 
 -- a call of procedure 1 to p; any other counts as skip
-unfoldable pub calling : ℕ → ℕ → ℕ → Record
-calling p at f = cond (eqb f 0) kind.Skip (cond (ltb p f) kind.Skip (kind.Call at f))
+unfoldable pub callRecord : ℕ → ℕ → ℕ → Record
+callRecord p at f = cond (eqb f 0) kind.Skip (cond (ltb p f) kind.Skip (kind.Call at f))
 
 -- by the bits that the map of a kind must have: number a, numbers a and b, a procedure, or none of these
 abbrev pub byFields : {A : Type 0} → ℕ → A → A → A → A → A
@@ -150,19 +150,19 @@ withProcedure p removes bs at =
 unfoldable pub fieldsAt : ℕ → ℕ → Bool → List ℕ → ℕ → Answer
 fieldsAt p k removes bs at =
     byFields k
-    (withNumber (touching k) removes bs at)
-    (withNumbers (comparing k) bs at)
+    (withNumber (touchRecord k) removes bs at)
+    (withNumbers (comparisonRecord k) bs at)
     (withProcedure p removes bs at)
-    (answer.Record (plain k) at)
+    (answer.Record (plainRecord k) at)
 
 -- the record of this kind as it is written, its fields at a place: where the reader gives a record, a law says that it is this one
 unfoldable pub recordOf : ℕ → ℕ → Bool → List ℕ → ℕ → Record
 recordOf p k removes bs at =
     byFields k
-    (touching k (placeOf removes at) (writtenAt bs (afterRemovals removes bs at)))
-    (comparing k (writtenAt bs at) (writtenAt bs (at + 3)))
-    (calling p (placeOf removes at) (byteAt bs (afterRemovals removes bs at)))
-    (plain k)
+    (touchRecord k (placeOf removes at) (writtenAt bs (afterRemovals removes bs at)))
+    (comparisonRecord k (writtenAt bs at) (writtenAt bs (at + 3)))
+    (callRecord p (placeOf removes at) (byteAt bs (afterRemovals removes bs at)))
+    (plainRecord k)
 
 -- the record whose map and kind stand at a place
 unfoldable pub recordAt : ℕ → List ℕ → ℕ → Record

@@ -5,7 +5,7 @@ ghost use lib.ListN.{length};
 ghost use Rattle.model.specs.Reading.{signed16, requiredMap, stands};
 ghost use Rattle.model.specs.Reading as model;
 ghost use Rattle.records.specs.Fields.{byteAt, writtenAt, numberAt, numbersAt, removalsAt, maybeRemovalsAt, placeOf, afterRemovals, procedureAt};
-ghost use Rattle.records.specs.Fields.{plain, touching, comparing, calling, withNumber, withNumbers, withProcedure, fieldsAt, recordAt, FieldsRead};
+ghost use Rattle.records.specs.Fields.{plainRecord, touchRecord, comparisonRecord, callRecord, withNumber, withNumbers, withProcedure, fieldsAt, recordAt, FieldsRead};
 use limits::{KIND_COUNT, MOST_REMOVALS, PLACE_COUNT, TABLE_STOPS, WRONG_FIELD};
 
 // "The permitted map of each kind stands in one table of twelve entries": the bits that must stand, and 16 times the bit that may.
@@ -162,8 +162,8 @@ fn place(removes: bool, at: usize) -> u16
 }
 
 // A record without fields, of this kind: skip, sequence, if, and, or, not.
-fn plain(kind: u8) -> Record
-    ensures { λ r. ⌜ r ≡ plain kind ⌝ }
+fn plain_record(kind: u8) -> Record
+    ensures { λ r. ⌜ r ≡ plainRecord kind ⌝ }
 {
     match kind {
         2 => Record::Sequence,
@@ -176,8 +176,8 @@ fn plain(kind: u8) -> Record
 }
 
 // NOT, kind 1, or qcase, kind 4, of these fields.
-fn touching(kind: u8, place: u16, a: Number) -> Record
-    ensures { λ r. ⌜ r ≡ touching kind place a ⌝ }
+fn touch_record(kind: u8, place: u16, a: Number) -> Record
+    ensures { λ r. ⌜ r ≡ touchRecord kind place a ⌝ }
 {
     if kind == 1 {
         Record::Not(place, a)
@@ -187,8 +187,8 @@ fn touching(kind: u8, place: u16, a: Number) -> Record
 }
 
 // A comparison, kind 6, 7 or 8, of these numbers.
-fn comparing(kind: u8, a: Number, b: Number) -> Record
-    ensures { λ r. ⌜ r ≡ comparing kind a b ⌝ }
+fn comparison_record(kind: u8, a: Number, b: Number) -> Record
+    ensures { λ r. ⌜ r ≡ comparisonRecord kind a b ⌝ }
 {
     if kind == 6 {
         Record::Greater(a, b)
@@ -200,8 +200,8 @@ fn comparing(kind: u8, a: Number, b: Number) -> Record
 }
 
 // The call of a procedure, 1 to p. Any other counts as skip: no table that has been read has one.
-fn calling(place: u16, called: u8, p: u8) -> Record
-    ensures { λ r. ⌜ r ≡ calling p place called ⌝ }
+fn call_record(place: u16, called: u8, p: u8) -> Record
+    ensures { λ r. ⌜ r ≡ callRecord p place called ⌝ }
 {
     if called == 0 {
         return Record::Skip;
@@ -214,7 +214,7 @@ fn calling(place: u16, called: u8, p: u8) -> Record
 
 // Removals, if any, then number a: NOT and qcase.
 fn with_number(table: &[u8], at: usize, kind: u8, removes: bool) -> Answer
-    ensures { λ r. ⌜ r ≡ withNumber (touching kind) removes (now (table .entry)) at ⌝ }
+    ensures { λ r. ⌜ r ≡ withNumber (touchRecord kind) removes (now (table .entry)) at ⌝ }
 {
     let answer = maybe_removals(table, at, removes);
     let Answer::Place(next) = answer else {
@@ -224,12 +224,12 @@ fn with_number(table: &[u8], at: usize, kind: u8, removes: bool) -> Answer
     let Answer::Number(a, end) = answer else {
         return answer;
     };
-    Answer::Record(touching(kind, place(removes, at), a), end)
+    Answer::Record(touch_record(kind, place(removes, at), a), end)
 }
 
 // Numbers a and b: the comparisons.
 fn with_numbers(table: &[u8], at: usize, kind: u8) -> Answer
-    ensures { λ r. ⌜ r ≡ withNumbers (comparing kind) (now (table .entry)) at ⌝ }
+    ensures { λ r. ⌜ r ≡ withNumbers (comparisonRecord kind) (now (table .entry)) at ⌝ }
 {
     let answer = read_number(table, at);
     let Answer::Number(a, next) = answer else {
@@ -239,7 +239,7 @@ fn with_numbers(table: &[u8], at: usize, kind: u8) -> Answer
     let Answer::Number(b, end) = answer else {
         return answer;
     };
-    Answer::Record(comparing(kind, a, b), end)
+    Answer::Record(comparison_record(kind, a, b), end)
 }
 
 // Removals, if any, then a procedure: a call.
@@ -274,7 +274,7 @@ pub fn read_fields(table: &[u8], at: usize, kind: u8, removes: bool, p: u8) -> A
         2 => with_number(table, at, kind, removes),
         6 => with_numbers(table, at, kind),
         8 => with_procedure(table, at, removes, p),
-        _ => Answer::Record(plain(kind), at),
+        _ => Answer::Record(plain_record(kind), at),
     }
 }
 
@@ -320,9 +320,9 @@ pub fn record_at(table: &[u8], at: usize, p: u8) -> Record
     let fields = at + 2;
     let next = after_removals(table, fields, removing);
     match required(kind) {
-        2 => touching(kind, place(removing, fields), written_at(table, next)),
-        6 => comparing(kind, written_at(table, fields), written_at(table, fields + 3)),
-        8 => calling(place(removing, fields), byte(table, next), p),
-        _ => plain(kind),
+        2 => touch_record(kind, place(removing, fields), written_at(table, next)),
+        6 => comparison_record(kind, written_at(table, fields), written_at(table, fields + 3)),
+        8 => call_record(place(removing, fields), byte(table, next), p),
+        _ => plain_record(kind),
     }
 }

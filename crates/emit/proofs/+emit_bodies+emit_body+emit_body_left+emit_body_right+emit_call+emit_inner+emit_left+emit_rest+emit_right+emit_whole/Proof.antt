@@ -38,7 +38,7 @@ use Rattle.emit.proofs.+emit_bodies+emit_body+emit_body_left+emit_body_
 use Rattle.emit.proofs.emit_whole.Reads as emit-whole
 use Rattle.emit.proofs.emit_whole.Kinds as emit-whole-kinds
 use Rattle.emit.proofs.+emit_bodies+emit_body+emit_body_left+emit_body_right+emit_call+emit_inner+emit_left+emit_rest+emit_right+emit_whole.Lts-emit_whole as emit-whole-lts
-use Rattle.circuit.proofs.write.asking.Reads as asking-reads
+use Rattle.circuit.proofs.write.with_control.Reads as with-control-reads
 use Rattle.emit.proofs.body_depth.Reads as body-depth-reads
 use Rattle.emit.proofs.count_calls.Reads as count-calls-reads
 use Rattle.events.proofs.emit_entries.Reads as emit-entries-reads
@@ -287,13 +287,13 @@ emit-inner-meets t = emit-inner-lts.spec (
 
 emit-left-meets : {M : Type 1} (t : ℕ) → emit-left-lts.Closed (
     step-at-reads.Asked, step-at-reads.Learnt, emit-flip-reads.Asked, emit-flip-reads.Learnt, width-reads.Asked, width-reads.Learnt,
-    emit-left-below t, emit-left.Post, emit-whole-below t, emit-whole.Post, chosen-reads.Asked, chosen-reads.Learnt, asking-reads.Asked,
-    asking-reads.Learnt, remaining-reads.Asked, remaining-reads.Learnt, recursive-reads.Asked, recursive-reads.Learnt, invoke-reads.Asked,
+    emit-left-below t, emit-left.Post, emit-whole-below t, emit-whole.Post, chosen-reads.Asked, chosen-reads.Learnt, with-control-reads.Asked,
+    with-control-reads.Learnt, remaining-reads.Asked, remaining-reads.Learnt, recursive-reads.Asked, recursive-reads.Learnt, invoke-reads.Asked,
     invoke-reads.Learnt, emit-call-below t, emit-call.Post) (emit-left-at t) emit-left.Post M
 emit-left-meets t = emit-left-lts.spec (
     step-at-reads.Asked, step-at-reads.Learnt, emit-flip-reads.Asked, emit-flip-reads.Learnt, width-reads.Asked, width-reads.Learnt,
-    emit-left-below t, emit-left.Post, emit-whole-below t, emit-whole.Post, chosen-reads.Asked, chosen-reads.Learnt, asking-reads.Asked,
-    asking-reads.Learnt, remaining-reads.Asked, remaining-reads.Learnt, recursive-reads.Asked, recursive-reads.Learnt, invoke-reads.Asked,
+    emit-left-below t, emit-left.Post, emit-whole-below t, emit-whole.Post, chosen-reads.Asked, chosen-reads.Learnt, with-control-reads.Asked,
+    with-control-reads.Learnt, remaining-reads.Asked, remaining-reads.Learnt, recursive-reads.Asked, recursive-reads.Learnt, invoke-reads.Asked,
     invoke-reads.Learnt, emit-call-below t, emit-call.Post) (emit-left-at t) emit-left.Post
     (λ c. search lefts)
     (λ c. search lefts)
@@ -373,9 +373,9 @@ emit-left-meets t = emit-left-lts.spec (
         b .if2 .left,
         d .before .before .before .before .before .before .before .before .before .step-at .ensures,
         d .before .before .before .before .before .before .before .found4 .given,
-        d .before .before .before .before .before .asking .ensures,
+        d .before .before .before .before .before .with-control .ensures,
         d .before .before .emit-left4 .ensures,
-        c .before .before .before .before .before .before .before .asking2 .ensures,
+        c .before .before .before .before .before .before .before .with-control2 .ensures,
         c .before .before .before .before .emit-left5 .ensures))
     (λ c. search needs)
     (λ c. search needs)
@@ -400,12 +400,12 @@ emit-rest-meets t = emit-rest-lts.spec (
 emit-right-meets : {M : Type 1} (t : ℕ) → emit-right-lts.Closed (
     step-at-reads.Asked, step-at-reads.Learnt, width-reads.Asked, width-reads.Learnt, emit-right-below t, emit-right.Post, emit-whole-below t,
     emit-whole.Post, chosen-reads.Asked, chosen-reads.Learnt, count-calls-reads.Asked, count-calls-reads.Learnt, sum-reads.Asked,
-    sum-reads.Learnt, asking-reads.Asked, asking-reads.Learnt, recursive-reads.Asked, recursive-reads.Learnt, remaining-reads.Asked,
+    sum-reads.Learnt, with-control-reads.Asked, with-control-reads.Learnt, recursive-reads.Asked, recursive-reads.Learnt, remaining-reads.Asked,
     remaining-reads.Learnt, flip-again-reads.Asked, flip-again-reads.Learnt) (emit-right-at t) emit-right.Post M
 emit-right-meets t = emit-right-lts.spec (
     step-at-reads.Asked, step-at-reads.Learnt, width-reads.Asked, width-reads.Learnt, emit-right-below t, emit-right.Post, emit-whole-below t,
     emit-whole.Post, chosen-reads.Asked, chosen-reads.Learnt, count-calls-reads.Asked, count-calls-reads.Learnt, sum-reads.Asked,
-    sum-reads.Learnt, asking-reads.Asked, asking-reads.Learnt, recursive-reads.Asked, recursive-reads.Learnt, remaining-reads.Asked,
+    sum-reads.Learnt, with-control-reads.Asked, with-control-reads.Learnt, recursive-reads.Asked, recursive-reads.Learnt, remaining-reads.Asked,
     remaining-reads.Learnt, flip-again-reads.Asked, flip-again-reads.Learnt) (emit-right-at t) emit-right.Post
     (λ c. search rights)
     (λ c. search rights)
@@ -490,9 +490,9 @@ emit-right-meets t = emit-right-lts.spec (
         d .before .before .before .before .before .before .before .before .before .found3 .given,
         d .before .before .before .before .before .before .before .count-calls .ensures,
         d .before .before .before .before .before .before .sum .ensures,
-        d .before .before .before .before .before .asking .ensures,
+        d .before .before .before .before .before .with-control .ensures,
         d .before .before .emit-right4 .ensures,
-        c .before .before .before .before .before .before .before .asking2 .ensures,
+        c .before .before .before .before .before .before .before .with-control2 .ensures,
         c .before .before .before .before .emit-right5 .ensures))
     (λ c. search rights)
     (λ c. search rights)
@@ -502,11 +502,11 @@ emit-right-meets t = emit-right-lts.spec (
 
 emit-whole-meets : {M : Type 1} (t : ℕ) → emit-whole-lts.Closed (
     step-at-reads.Asked, step-at-reads.Learnt, emit-flip-reads.Asked, emit-flip-reads.Learnt, emit-whole-below t, emit-whole.Post,
-    chosen-reads.Asked, chosen-reads.Learnt, asking-reads.Asked, asking-reads.Learnt, remaining-reads.Asked, remaining-reads.Learnt,
+    chosen-reads.Asked, chosen-reads.Learnt, with-control-reads.Asked, with-control-reads.Learnt, remaining-reads.Asked, remaining-reads.Learnt,
     emit-call-below t, emit-call.Post) (emit-whole-at t) emit-whole.Post M
 emit-whole-meets t = emit-whole-lts.spec (
     step-at-reads.Asked, step-at-reads.Learnt, emit-flip-reads.Asked, emit-flip-reads.Learnt, emit-whole-below t, emit-whole.Post,
-    chosen-reads.Asked, chosen-reads.Learnt, asking-reads.Asked, asking-reads.Learnt, remaining-reads.Asked, remaining-reads.Learnt,
+    chosen-reads.Asked, chosen-reads.Learnt, with-control-reads.Asked, with-control-reads.Learnt, remaining-reads.Asked, remaining-reads.Learnt,
     emit-call-below t, emit-call.Post) (emit-whole-at t) emit-whole.Post
     (λ c. search wholes)
     (λ c. search wholes)
@@ -560,9 +560,9 @@ emit-whole-meets t = emit-whole-lts.spec (
         b .if2 .left,
         d .before .before .before .before .before .before .before .before .before .step-at .ensures,
         d .before .before .before .before .before .before .before .found4 .given,
-        d .before .before .before .before .before .asking .ensures,
+        d .before .before .before .before .before .with-control .ensures,
         d .before .before .emit-whole4 .ensures,
-        c .before .before .before .before .before .before .before .asking2 .ensures,
+        c .before .before .before .before .before .before .before .with-control2 .ensures,
         c .before .before .before .before .emit-whole5 .ensures))
     (λ c. search needs)
     (λ c. search needs)
