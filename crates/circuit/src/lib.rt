@@ -1,4 +1,4 @@
-// "The circuit": a circuit's bytes are read, and judged (refusal 14).
+// "The circuit": a circuit's bytes are read and checked (refusal 14).
 ghost use mathlib.Core.Path.{_≡_};
 ghost use mathlib.Core.List.{[]};
 ghost use Prim.Native.Nat.{_+_, _*_};

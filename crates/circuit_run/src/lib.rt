@@ -64,7 +64,7 @@ fn act(bytes: &[u8], gate: GateAt, wires: Wires) -> Wires
     wires::flip(wires, gate.target)
 }
 
-// Each gate is read, judged and let act, then the next: the run ends where the gates fill the bytes.
+// Each gate is read, checked and let act, then the next: the run ends where the gates fill the bytes.
 fn run_gates(bytes: &[u8], from: usize, most: u8, count: u32, wires: Wires) -> Ran
     ensures { λ r. ⌜ wiresAtEnd r ≡ ranOf wires (readGates most count (inputAt (now (bytes .entry)) from)) ⌝ }
 {

@@ -1,4 +1,4 @@
--- The ways out of `compile_checked` and `compile`: what each has learnt, and that the answer is document 01's.
+-- The ways out of `compile_checked` and `translate`: what each has learnt, and that the answer is document 01's.
 use mathlib.Core.Path.{_≡_, refl, ap, subst}
 use mathlib.Core.List.{List}
 use Prim.Native.Nat.{ℕ, _≤_, _<_}

@@ -75,7 +75,7 @@ fn compile_emission(
     write_circuit(table, index, p, matrix, n, measured, room, ws)
 }
 
-// The circuit of a table that was judged, by its index.
+// The circuit of a table that was checked and accepted, by its index.
 fn compile_checked(table: &[u8], index: &[u16; INDEX_LENGTH], p: u8, n: u8, room: &mut [u8], workspace: &mut [u8]) -> Compiled
     ensures { λ r. ⌜ Compiles (now (table .entry)) (now (index .entry)) (reachAt p (now (table .entry)) (now (index .entry))) p n
         (now (room .entry)) (now (workspace .entry)) r (now (room .exit)) (now (workspace .exit)) ⌝ }
@@ -100,7 +100,7 @@ fn translate(table: &[u8], n: u32, room: &mut [u8], workspace: &mut [u8]) -> Com
     if workspace.len() < LEAST_WORKSPACE {
         return Compiled { number: SHORT_WORKSPACE, length: 0 };
     }
-    // An accepted table has at most 32 qubits: this way is never taken, and lets n be a byte.
+    // An accepted table has no more qubits than the limit: this way is never taken, and lets n be a byte.
     if MOST_N < n {
         return Compiled { number: WRONG_QUBITS, length: 0 };
     }

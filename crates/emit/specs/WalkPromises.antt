@@ -22,7 +22,7 @@ use Rattle.events.specs.Scan.{progress, scan, begun, slotOf, heldIn}
 use Rattle.events.specs.Slots.{appears}
 use Rattle.events.specs.FollowedEvents.{Follows, Opens}
 
--- a table of at most 16 procedures with its matrix, wires that are one byte, and a workspace that is long enough
+-- a table of no more procedures than there may be with its matrix, wires within their limit, and a workspace that is long enough
 pub record Ready (bs ix m : List ℕ) (p : ℕ) (st : Emit) (ws : List ℕ) : Type 0 where
   pub few : p ≤ mostProcedures
   pub reach : m ≡ reachAt p bs ix

@@ -71,7 +71,7 @@ unfoldable pub bytesFrom : List ℕ → ℕ → ℕ → List ℕ
 bytesFrom bs at zero = []
 bytesFrom bs at (suc n) = getD bs at 0 ∷ bytesFrom bs (at + 1) n
 
--- an ancilla's slot of the workspace holds the invocation that took it: procedure, length, 32 entries
+-- an ancilla's slot of the workspace holds the invocation that took it: procedure, length, entries
 abbrev pub slotAt : ℕ → ℕ
 slotAt a = slotLength * a
 
@@ -84,7 +84,7 @@ slotProcedure ws a = getD ws (slotAt a) 0
 abbrev pub slotList : List ℕ → ℕ → List ℕ
 slotList ws a = bytesFrom ws (slotAt a + 2) (slotListLength ws a)
 
--- the wire of an ancilla. None is above 255: for such the code has 0.
+-- the wire of an ancilla. None is above the limit: for such the code has 0.
 abbrev pub wireOf : ℕ → ℕ
 wireOf a = cond (ltb mostWires a) 0 a
 

@@ -24,11 +24,11 @@ use Rattle.faults.specs.Rows.{rowOf, marked, closedRow, knownTouches}
 use Rattle.faults.proofs.FaultsByPosition.{touches-yes, touches-no, touches-inside}
 use Rattle.faults.proofs.RowLaws.{none-row, one-row, joined-row, closed-row}
 
--- the least of a number and 32 is at most 32
+-- no list is longer than the longest
 short : (m : ℕ) → min m mostQubits ≤ mostQubits
 short m = omega arith
 
--- a position past 63 is touched by no statement on a list of 32 entries or less
+-- a position past 63 is touched by no statement on a list that is no longer than the longest
 module _ (o : CallTouches) (s u : Statement) (m : ℕ) where
   closes-rows : (q : ℕ) → closedRow q (rowOf (joined (touches o s (min m mostQubits)) (touches o u (min m mostQubits))))
       ≡ rowOf (closes q (joined (touches o s (min m mostQubits)) (touches o u (min m mostQubits))))
@@ -37,7 +37,7 @@ module _ (o : CallTouches) (s u : Statement) (m : ℕ) where
       or-false (touches o s (min m mostQubits) q) (touches o u (min m mostQubits) q) (touches-inside o s (min m mostQubits) q far)
         (touches-inside o u (min m mostQubits) q far))
 
--- the row of what the statement at record i touches of a list of m entries, of 32 at most
+-- the row of what the statement at record i touches of a list of m entries, of as many as a list can have
 abbrev rowAt : List ℕ → ℕ → List ℕ → List ℕ → ℕ → ℕ → ℕ → ℕ
 rowAt known p bs ix m depth i = rowOf (touches (knownTouches known) (statementAt p bs ix depth i) (min m mostQubits))
 

@@ -26,7 +26,7 @@ rankBelow matrix f (suc x) = rankBelow matrix f x + digit (fromIn matrix f x)
 abbrev pub rankIn : List ℕ → ℕ → ℕ → ℕ
 rankIn matrix f p = rankBelow matrix f (suc p)
 
--- 17 ranks, of which those below n are there
+-- a rank for each body, of which those below n are there
 unfoldable pub ranksBelow : List ℕ → ℕ → ℕ → List ℕ
 ranksBelow matrix p zero = replicate bodyCount 0
 ranksBelow matrix p (suc f) = set (ranksBelow matrix p f) f (rankIn matrix f p)
@@ -35,7 +35,7 @@ ranksBelow matrix p (suc f) = set (ranksBelow matrix p f) f (rankIn matrix f p)
 abbrev pub ranksIn : List ℕ → ℕ → List ℕ
 ranksIn matrix p = ranksBelow matrix p bodyCount
 
--- the rank of f among them; 0, which none has, past 16
+-- the rank of f among them; 0, which none has, past the last body
 abbrev pub rankAt : List ℕ → ℕ → ℕ
 rankAt ranks f = cond (ltb f bodyCount) (getD ranks f 0) 0
 

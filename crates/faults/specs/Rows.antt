@@ -26,7 +26,7 @@ marked row q = cond (ltb q 64) (bitOr row (2 ^ q)) row
 unfoldable pub closedRow : ℕ → ℕ → ℕ
 closedRow q row = cond (rowIs row q) (marked (marked row q) 0) (marked row q)
 
--- one table has the rows of procedures 0 to 16 on lists of lengths 0 to 32: where each stands
+-- one table has the rows of all bodies on lists of all lengths: where each stands
 abbrev pub place : ℕ → ℕ → ℕ
 place f m = f * lengthCount + m
 

@@ -84,7 +84,7 @@ fn called(known: &[u64; ROW_COUNT], f: u8, list: Qubits) -> u64
     row
 }
 
-// What the statement at record i touches of a list of m entries, of 32 at most, by their positions: both branches of a qcase, the chosen branch of an if.
+// What the statement at record i touches of a list of m entries, of as many as a list can have, by their positions: both branches of a qcase, the chosen branch of an if.
 fn touches(table: &[u8], index: &[u16], p: u8, i: usize, depth: u8, m: u8, known: &[u64; ROW_COUNT]) -> u64
     ensures {
         λ r. ⌜ r ≡ rowOf (touches (knownTouches (now (known .entry))) (statementAt p (now (table .entry)) (now (index .entry)) depth i) (min m mostQubits)) ⌝
@@ -149,7 +149,7 @@ fn all_counts(table: &[u8], index: &[u16], p: u8) -> u64
     all
 }
 
-// 0, and the sums of numbers of a set: all of them up to 32.
+// 0, and the sums of numbers of a set: all of them up to the longest list.
 fn sums_of(counts: u64) -> u64
     ensures { λ r. ⌜ r ≡ sumsBelow counts mostQubits ⌝ }
 {
@@ -183,7 +183,7 @@ fn rank(matrix: &[u8; MATRIX_LENGTH], f: u8, p: u8) -> usize
     n
 }
 
-// The ranks of procedures 0 to 16.
+// The ranks of all bodies.
 fn all_ranks(matrix: &[u8; MATRIX_LENGTH], p: u8) -> [usize; BODY_COUNT]
     ensures { λ r. ⌜ r ≡ ranksIn (now (matrix .entry)) p ⌝ }
 {
@@ -194,7 +194,7 @@ fn all_ranks(matrix: &[u8; MATRIX_LENGTH], p: u8) -> [usize; BODY_COUNT]
     all
 }
 
-// The rank of procedure f; 0, which none has, past 16.
+// The rank of procedure f; 0, which none has, past the last body.
 fn rank_at(ranks: &[usize; BODY_COUNT], f: u8) -> usize
     ensures { λ r. ⌜ r ≡ rankAt (now (ranks .entry)) f ⌝ }
 {

@@ -1,4 +1,4 @@
--- The listing of an input is that of its first 7,655 bytes: the program needs to read no more.
+-- The listing of an input is that of its first bytes, n and as much of a table as is ever looked at: the program needs to read no more.
 use mathlib.Core.Path.{_≡_, refl, sym, ap, _∙_}
 use mathlib.Core.List.{List, [], _∷_}
 use Prim.Native.Nat.{ℕ, zero, suc, _≤_}

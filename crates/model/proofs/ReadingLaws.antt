@@ -254,7 +254,7 @@ reads-trees p i = reads-then (StatementRead p) (TreesRead p) Low (statement p mo
     reads-provided (TreesRead p) Low (eqb (length (k .bytes)) 0) bytesLeft _ (omega arith) (λ e.
     (r .0, (λ f. rw (r .0) (cons-named p s ss q (r .1) f)), no-bytes (k .bytes) (eqb-true (length (k .bytes)) 0 e)))))
 
--- of a table that is read: at most 16 procedures, every call goes to one of them, no byte is left
+-- of a table that is read: no more procedures than there may be, every call goes to one of them, no byte is left
 abbrev pub TableRead : Program → Input → Type 0
 TableRead P i = (count P ≤ mostProcedures) × Named P × (i .bytes ≡ [])
 
@@ -273,7 +273,7 @@ reads-table (edition ∷ p ∷ rest) =
 pub read-named : (bs : List ℕ) {P : Program} {i : Input} → readTable bs ≡ parsed P i → Named P
 read-named bs e = (rw e at (reads-table bs)) .1
 
--- it has at most 16 procedures
+-- it has no more procedures than there may be
 pub read-count : (bs : List ℕ) {P : Program} {i : Input} → readTable bs ≡ parsed P i → count P ≤ mostProcedures
 read-count bs e = (rw e at (reads-table bs)) .0
 
@@ -550,7 +550,7 @@ module _ (more : List ℕ) where
   refused-alike (parsed a i) y h = absurd (h .holds)
   refused-alike (refused k) y h = (k, refl, h .same)
 
--- A table of 7,654 bytes or more is refused, with the same number whatever follows those bytes.
+-- A table as long as what is ever looked at, or longer, is refused, with the same number whatever follows those bytes.
 pub read-long : (bs more : List ℕ) → lookedAt ≤ length bs →
     (k : ℕ) × (readTable bs ≡ refused k) × (readTable (bs ++ more) ≡ refused k)
 unfolding readTable

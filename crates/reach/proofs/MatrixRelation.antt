@@ -1,4 +1,4 @@
--- What a matrix shows: a relation between procedures 0 to 16. Each step on matrices shows what it should: marks, rows joined, rows going
+-- What a matrix shows: a relation between bodies, main at 0. Each step on matrices shows what it should: marks, rows joined, rows going
 -- through one procedure, and through all of them one after the other, which is reach.
 use mathlib.Core.Path.{_≡_, refl, sym, ap, _∙_}
 use mathlib.Core.Logic.{_≢_}
@@ -22,12 +22,12 @@ use Rattle.model.proofs.WordBits.{digit-mark}
 use Rattle.model.proofs.ListLaws.{range-length, tabulated}
 use Rattle.reach.specs.Matrix.{cell, markAt, mark, carried, joined, extended, through, closed, digitsOf, noMarks}
 
--- the matrix has 289 bytes, and its byte of row f and column g is the digit of R f g
+-- the matrix is whole, and its byte of row f and column g is the digit of R f g
 pub record Shows (m : List ℕ) (R : ℕ → ℕ → Bool) : Type 0 where
   pub whole : length m ≡ matrixLength
   pub cells : (f g : ℕ) → f ≤ mostProcedures → g ≤ mostProcedures → getD m (cell f g) 0 ≡ digit (R f g)
 
--- it shows any relation that is the same on procedures 0 to 16
+-- it shows any relation that is the same on the bodies that a table can have
 pub shows-as : (m : List ℕ) (R S : ℕ → ℕ → Bool) → ((f g : ℕ) → f ≤ mostProcedures → g ≤ mostProcedures → R f g ≡ S f g) → Shows m R → Shows m S
 shows-as m R S e h = record { whole = h .whole; cells = λ f g lf lg. h .cells f g lf lg ∙ ap digit (e f g lf lg) }
 
@@ -69,7 +69,7 @@ module _ (m : List ℕ) (R : ℕ → ℕ → Bool) (h : Shows m R) (f g : ℕ) (
           (λ ne. other x y lx ly (λ c. ne (sym (cell-column f g x y lg ly c))) (rw (ne-eqb g y ne, and-false (eqb f x)))))
         (λ ne. other x y lx ly (λ c. ne (sym (cell-row f g x y lg ly c))) (rw (ne-eqb f x ne)))
 
--- a mark at row f, column g: a matrix has none outside 0 to 16
+-- a mark at row f, column g: a matrix has none outside its rows and columns
 pub shows-mark : (m : List ℕ) (R : ℕ → ℕ → Bool) (f g : ℕ) → Shows m R → Shows (mark f g m) (λ x y. R x y || (eqb f x && eqb g y))
 unfolding mark
 shows-mark m R f g h = byLt mostProcedures f

@@ -45,7 +45,7 @@ unfoldable pub markedBelow : (ℕ → Statement) → ℕ → List ℕ → List �
 markedBelow part zero m = m
 markedBelow part (suc f) m = marked f (part f) (markedBelow part f m)
 
--- the matrix of the program that a table's bytes and index have; no mark where there would be more than 16 procedures
+-- the matrix of the program that a table's bytes and index have; no mark where there would be more procedures than a table can have
 unfoldable pub reachAt : ℕ → List ℕ → List ℕ → List ℕ
 reachAt p bs ix = cond (ltb mostProcedures p) noMarks (reachTable (programAt p bs ix))
 

@@ -1,4 +1,4 @@
--- Which procedure reaches which, as 17 rows of 17 bytes, main at 0: the byte at 17 * f + g is 1 where f reaches g.
+-- Which procedure reaches which, as a row of bytes for each body, main at 0: the byte at row f, column g is 1 where f reaches g.
 use Prim.Native.Nat.{ℕ, zero, suc, _+_, _*_, _/_, _%_}
 use mathlib.Core.Bool.{Bool, false, cond}
 use mathlib.Core.List.{List, map}
@@ -19,7 +19,7 @@ cell f g = bodyCount * f + g
 unfoldable pub markAt : List ℕ → ℕ → Bool
 markAt m at = cond (ltb at matrixLength) (eqb (getD m at 0) 1) false
 
--- does f reach g, by the matrix? It has rows and columns 0 to 16.
+-- does f reach g, by the matrix? It has a row and a column for each body that a table can have.
 unfoldable pub entry : List ℕ → ℕ → ℕ → Bool
 entry m f g = cond (ltb mostProcedures f) false (cond (ltb mostProcedures g) false (markAt m (cell f g)))
 
@@ -54,11 +54,11 @@ unfoldable pub closed : ℕ → List ℕ → List ℕ
 closed zero m = m
 closed (suc v) m = through bodyCount v (closed v m)
 
--- the 289 digits of a relation
+-- the digits of a relation, row by row
 abbrev pub digitsOf : (ℕ → ℕ → Bool) → List ℕ
 digitsOf R = map (λ k. digit (R (k / bodyCount) (k % bodyCount))) (range matrixLength 0)
 
--- the 289 digits of a program's reach: at 17 * f + g the digit of `reaches P f g`
+-- the digits of a program's reach: at row f, column g the digit of `reaches P f g`
 unfoldable pub reachTable : Program → List ℕ
 reachTable P = digitsOf (reaches P)
 

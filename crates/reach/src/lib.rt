@@ -195,7 +195,7 @@ fn mark_bodies(table: &[u8], index: &[u16], p: u8, matrix: &mut [u8; MATRIX_LENG
     }
 }
 
-// Which procedure reaches which, in the program of a table with p procedures. It has at most 16; of more, nothing is marked.
+// Which procedure reaches which, in the program of a table with p procedures. Of more than a table can have, nothing is marked.
 pub fn fill_reach(table: &[u8], index: &[u16], p: u8, matrix: &mut [u8; MATRIX_LENGTH])
     ensures { λ r. ⌜ now (matrix .exit) ≡ reachAt p (now (table .entry)) (now (index .entry)) ⌝ }
 {

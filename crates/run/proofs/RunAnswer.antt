@@ -35,7 +35,7 @@ module _ (bs ix : List ℕ) (n word space : ℕ) (j : Checked) (is : checkedOutc
     range : Accepted n P
     range = accepted-is bs n P checked
 
-    -- an accepted table has at most 32 qubits
+    -- an accepted table has no more qubits than the limit
     pub run-many : mostQubits < n → record { number = wrongQubits; value = 0 } ≡ answerOf (run bs n word space)
     run-many h = let few = range .few in absurd (beyond few h)
       where

@@ -22,7 +22,7 @@ use Rattle.table.specs.Index.{rootOf, testAt, statementAt, programAt}
 use Rattle.step.specs.declared.Step.{Step}
 use Rattle.step.specs.declared.Step.the-variants as step
 use Rattle.step.specs.Steps.{stepAt}
-use Rattle.step.proofs.PlacesPastTheEnd.{less-one}
+use native.Mathlib.Numerals.{sub-one}
 use Rattle.step.proofs.StatementAtARecord.{Idle, at-step, idle-skip, spent-skip}
 use Rattle.step.proofs.ChosenBranch.{chosen-means}
 use Rattle.run.specs.RunOnWords.{bitFlipped, flippedWord, bitOf, callWords, wordDoes, callWordsWithin, ranWord, walked, called}
@@ -41,7 +41,7 @@ pub bit-none : (q word : ℕ) → q ≡ 0 → false ≡ bitOf q word
 unfolding stateOf
 bit-none q word e = rw e
 
--- nor is one past 32
+-- nor is one past the last
 pub flip-past : (q word : ℕ) → mostQubits < q → word ≡ flippedWord q word
 unfolding bitFlipped
 flip-past q word h = rw (lt-ltb mostQubits q h)
@@ -54,12 +54,12 @@ bit-past q word h = rw (lt-ltb mostQubits q h)
 pub flip-bit : (q word : ℕ) → (q ≡ 0 → ⊥) → q ≤ mostQubits → bitXor word ((1 * 2 ^ (q - 1)) % 2 ^ 64) ≡ flippedWord q word
 unfolding bitFlipped
 flip-bit zero word some h = absurd (some refl)
-flip-bit (suc k) word some h = rw (qubit-is (suc k) h, less-one k, shifted 64 k (omega arith))
+flip-bit (suc k) word some h = rw (qubit-is (suc k) h, sub-one, shifted 64 k (omega arith))
 
 pub bit-bit : (q word : ℕ) → (q ≡ 0 → ⊥) → q ≤ mostQubits → eqb (bitAnd (word / 2 ^ (q - 1)) 1) 1 ≡ bitOf q word
 unfolding stateOf
 bit-bit zero word some h = absurd (some refl)
-bit-bit (suc k) word some h = rw (qubit-is (suc k) h, less-one k) (tested word k)
+bit-bit (suc k) word some h = rw (qubit-is (suc k) h, sub-one) (tested word k)
 
 -- ---- walk
 
@@ -151,7 +151,7 @@ module _ (p : ℕ) (bs ix : List ℕ) where
     call-body [] fuel word n i r len some left named root h = absurd (some len)
     call-body (q ∷ l) zero word n i r len some left named root h = absurd (left refl)
     call-body (q ∷ l) (suc fuel) word n i r len some left named root h =
-      rw (body-at p bs ix f named) (rw (root, less-one fuel) at h)
+      rw (body-at p bs ix f named) (rw (root, sub-one) at h)
 
   -- main, on n qubits: calls go at most p + n deep
   pub main-ran : (m n i word r : ℕ) (l : List ℕ) → l ≡ qubits m → n ≡ length l → i ≡ rootOf ix 0 →

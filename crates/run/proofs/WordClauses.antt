@@ -32,6 +32,6 @@ module _ (o : CallWords) (rs : List Number) (a : Number) (t u : Statement) (l : 
   unfolding wordDoes
   word-one e = rw (e, wordDoes)
 
--- a number up to 32 stands for itself
+-- a qubit's number stands for itself
 pub qubit-is : (q : ℕ) → q ≤ mostQubits → qubitOf q ≡ q
 qubit-is q h = rw (le-ltb mostQubits q h)

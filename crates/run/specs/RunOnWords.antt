@@ -12,7 +12,7 @@ use Rattle.model.specs.Faults.{enough}
 use Rattle.model.specs.Meaning.{stateOf}
 use Rattle.table.specs.Index.{statementAt, programAt}
 
--- qubits have the numbers 1 to 32. Any other number stands for none, as 0 does.
+-- qubits have the numbers 1 to the most there can be. Any other number stands for none, as 0 does.
 abbrev pub qubitOf : ℕ → ℕ
 qubitOf q = cond (ltb mostQubits q) 0 q
 

@@ -95,7 +95,7 @@ fn call(table: &[u8], index: &[u16], p: u8, f: u8, list: Qubits, fuel: u16, word
     walk(table, index, p, root(index, f), MOST_DEPTH, list, fuel - 1, word)
 }
 
-// What main makes of a word on n qubits; past 32 there are no more.
+// What main makes of a word on n qubits; past the limit there are no more.
 fn end_word(table: &[u8], index: &[u16; INDEX_LENGTH], p: u8, n: u8, word: u64) -> u64
     ensures { λ r. ⌜ r ≡ ranWord (programAt p (now (table .entry)) (now (index .entry))) (min n mostQubits) word ⌝ }
 {
@@ -113,7 +113,7 @@ pub fn run(table: &[u8], n: u32, word: u64, space: usize) -> Answer
     if number != 0 {
         return Answer { number, value: 0 };
     }
-    // An accepted table has at most 32 qubits: this way is never taken, and lets n be a byte.
+    // An accepted table has no more qubits than the limit: this way is never taken, and lets n be a byte.
     if MOST_N < n {
         return Answer { number: WRONG_QUBITS as u32, value: 0 };
     }

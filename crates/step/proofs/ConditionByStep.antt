@@ -13,7 +13,7 @@ use Rattle.table.specs.Index.{startOf, testOf, testAt}
 use Rattle.step.specs.declared.Step.{Step}
 use Rattle.step.specs.declared.Step.the-variants as step
 use Rattle.step.specs.Steps.{stepOf, stepAt}
-use Rattle.step.proofs.PlacesPastTheEnd.{less-one}
+use native.Mathlib.Numerals.{sub-one}
 use Rattle.step.proofs.RecordsPastTheEnd.{test-next, end-next}
 
 -- whether a condition holds, by its step, where `part` says it of the parts. A statement's step holds, as `noTest` does.
@@ -66,7 +66,7 @@ module _ (p : ℕ) (bs ix : List ℕ) (depth i : ℕ) (l : List ℕ) (st : Step)
       deeper : (depth : ℕ) → (depth ≡ 0 → ⊥)
         → holds (testAt p bs ix depth i) (length l) ≡ holdsBy (λ j. holds (testAt p bs ix (depth - 1) j) (length l)) (stepAt p bs ix i l)
       deeper zero h = absurd (h refl)
-      deeper (suc d) h = rw (less-one d) (test-step p bs ix d i l)
+      deeper (suc d) h = rw (sub-one) (test-step p bs ix d i l)
 
   -- a comparison was decided by its step
   pub held-comparison : (b : Bool) → st ≡ step.Holds b → b ≡ holds (testAt p bs ix depth i) (length l)

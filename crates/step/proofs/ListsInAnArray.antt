@@ -1,7 +1,7 @@
 -- Lists in an array: their size, entries and removals.
 use Prim.Native.Nat.{ℕ, zero, suc, _+_, _-_, _≤_, _<_, min, zero-le}
 use native.Mathlib.Nat.{not-suc-le-zero, le-of-suc-le-suc}
-use native.Mathlib.Numerals.{add-one}
+use native.Mathlib.Numerals.{add-one, sub-one}
 use native.Mathlib.Omega.{arith}
 use mathlib.Core.Path.{_≡_, refl, sym, ap, _∙_}
 use mathlib.Core.List.{List, [], _∷_, _++_, append-nil}
@@ -17,7 +17,6 @@ use Rattle.model.specs.Lists.{range, qubits, position, entry, delete, remove}
 use Rattle.model.proofs.BooleanLaws.{byLt}
 use Rattle.model.proofs.ListLaws.{remove-in, remove-out, take-again}
 use Rattle.step.specs.Steps.{within}
-use Rattle.step.proofs.PlacesPastTheEnd.{less-one}
 
 -- what is taken is no longer than asked for, and than what it is taken from
 take-short : (n : ℕ) (l : List ℕ) → length (take n l) ≤ n
@@ -63,7 +62,7 @@ entry-within l z = byLt (length l) (position z)
 
 entry-at : (m : ℕ) (l : List ℕ) (i : ℕ) → i ≤ length (take m l) → (i ≡ 0 → ⊥) → getD l (i - 1) 0 ≡ entry (take m l) i
 entry-at m l zero h n = absurd (n refl)
-entry-at m l (suc j) h n = rw (less-one j) (sym (getD-take m l j 0 (omega (arith, take-short m l))))
+entry-at m l (suc j) h n = rw (sub-one) (sym (getD-take m l j 0 (omega (arith, take-short m l))))
 
 -- a removal past the end empties the list
 remove-past : (k : ℕ) (l : List ℕ) → length l < k → remove k l ≡ []
@@ -78,7 +77,7 @@ remove-within l z = byLt (length l) (position z)
 
 remove-inside : (i : ℕ) (l : List ℕ) → i ≤ length l → (i ≡ 0 → ⊥) → remove i l ≡ delete (i - 1) l
 remove-inside zero l h z = absurd (z refl)
-remove-inside (suc i) l h z = rw (less-one i) (remove-in i l (lt-ltb i (length l) h))
+remove-inside (suc i) l h z = rw (sub-one) (remove-in i l (lt-ltb i (length l) h))
 
 -- a removal is a shift of what stands behind it
 delete-split : (i : ℕ) (l : List ℕ) → delete i l ≡ take i l ++ drop (suc i) l
@@ -95,7 +94,7 @@ shifted n i l = take (i - 1) l ++ drop i (take n l)
 -- before the first turn it is the list without its entry
 pub shift-starts : (n i : ℕ) (l : List ℕ) → 0 < i → i ≤ n → shifted n i l ≡ delete (i - 1) (take n l)
 shift-starts n zero l p h = absurd (not-suc-le-zero p)
-shift-starts n (suc i) l p h = rw (less-one i, delete-split i (take n l))
+shift-starts n (suc i) l p h = rw (sub-one, delete-split i (take n l))
     (ap (λ (t : List ℕ). t ++ drop (suc i) (take n l)) (sym (take-take i n l (omega arith))))
 
 -- a turn of the loop moves entry i to i − 1, and changes nothing of that list
@@ -110,7 +109,7 @@ shift-more n (suc i) l p h m =
           ap (drop (suc (suc i))) (take-set-lt n l i v (omega arith)) ∙ drop-set-lt (suc (suc i)) (take n l) i v (omega arith) in
     let next : v ∷ drop (suc (suc i)) (take n l) ≡ drop (suc i) (take n l) =
           sym (drop-cons (take n l) (suc i) 0 inside ∙ ap (λ (x : ℕ). x ∷ drop (suc (suc i)) (take n l)) (getD-take n l (suc i) 0 h)) in
-    rw (add-one (suc i), less-one (suc i), less-one i, front, back, append-snoc) (ap (λ (t : List ℕ). take i l ++ t) next)
+    rw (add-one (suc i), sub-one, sub-one, front, back, append-snoc) (ap (λ (t : List ℕ). take i l ++ t) next)
 
 -- after the last turn it is what the array holds
 pub shift-ends : (n i : ℕ) (l : List ℕ) → n ≤ i → i ≤ n → shifted n i l ≡ take (n - 1) l

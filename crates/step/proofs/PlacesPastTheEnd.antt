@@ -1,5 +1,5 @@
 -- Places: what stands past the end is 0, further on too.
-use Prim.Native.Nat.{ℕ, suc, _+_, _-_, _≤_}
+use Prim.Native.Nat.{ℕ, _+_, _≤_}
 use native.Mathlib.Omega.{arith}
 use mathlib.Core.Path.{_≡_}
 use mathlib.Core.List.{List}
@@ -9,7 +9,3 @@ use Rattle.records.proofs.FieldLaws.{past-end}
 -- past the end, and so further on, all is 0
 pub far-past-end : (l : List ℕ) (k i : ℕ) → length l ≤ i → 0 ≡ getD l (k + i) 0
 far-past-end l k i h = past-end l (k + i) (omega arith)
-
--- one less than the next number
-pub less-one : (n : ℕ) → suc n - 1 ≡ n
-less-one n = omega arith

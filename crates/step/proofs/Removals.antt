@@ -1,7 +1,7 @@
 -- Removals of a record, taken one after the other, and the qubit that is touched in what they leave.
 use Prim.Native.Nat.{ℕ, zero, suc, _+_, _-_, _≤_, _<_}
 use native.Mathlib.Nat.{not-suc-le-zero}
-use native.Mathlib.Numerals.{add-one}
+use native.Mathlib.Numerals.{add-one, sub-one}
 use native.Mathlib.Omega.{arith}
 use mathlib.Core.Path.{_≡_, refl, ap, _∙_}
 use mathlib.Core.List.{List, _∷_}
@@ -21,7 +21,6 @@ use Rattle.records.specs.Fields.{byteAt, writtenAt, numberOf, numbersFrom, remo
 use Rattle.step.specs.declared.Qubits.{Qubits}
 use Rattle.step.specs.Steps.{qubitsOf, valueOf, touchedBy}
 use Rattle.records.proofs.FieldLaws.{past-end}
-use Rattle.step.proofs.PlacesPastTheEnd.{less-one}
 use Rattle.step.proofs.ListsInAnArray.{take-shorter}
 use Rattle.step.proofs.ConstantRange.{written-fair}
 
@@ -52,7 +51,7 @@ removals-more : (bs : List ℕ) (place left n : ℕ) (l : List ℕ) → 0 < left
       ≡ removeAll n (numbersFrom left bs place) l
 unfolding numbersFrom removeAll
 removals-more bs place zero n l h = absurd (not-suc-le-zero h)
-removals-more bs place (suc left) n l h = rw (less-one left)
+removals-more bs place (suc left) n l h = rw (sub-one)
 
 -- a number, as the code reads, values and removes it, and then those behind it are all from here on
 pub remaining-more : (bs : List ℕ) (place left n : ℕ) (a : Number) (z : ℤ) (l r : List ℕ) → a ≡ writtenAt bs place → SFits w32 z → z ≡ valueOf a n

@@ -7,14 +7,14 @@ use Rattle.table.specs.Index.{testAt, statementAt}
 use Rattle.step.specs.declared.Step.{Step}
 use Rattle.step.specs.declared.Step.the-variants as step
 use Rattle.step.specs.Steps.{stepAt}
-use Rattle.step.proofs.PlacesPastTheEnd.{less-one}
+use native.Mathlib.Numerals.{sub-one}
 use Rattle.step.proofs.StatementByStep.{IsStepOf, statement-step}
 
 -- what the step says of the statement; its parts are one less deep
 says : (p : ℕ) (bs ix : List ℕ) (depth i : ℕ) (l : List ℕ) (st : Step) → (depth ≡ 0 → ⊥) → st ≡ stepAt p bs ix i l →
     IsStepOf (testAt p bs ix (depth - 1)) (statementAt p bs ix (depth - 1)) bs l st (statementAt p bs ix depth i)
 says p bs ix zero i l st deep e = absurd (deep refl)
-says p bs ix (suc d) i l st deep e = rw (less-one d, e) (statement-step p bs ix d i l)
+says p bs ix (suc d) i l st deep e = rw (sub-one, e) (statement-step p bs ix d i l)
 
 -- the same, of the step that was found to be x
 pub at-step : (p : ℕ) (bs ix : List ℕ) (depth i : ℕ) (l : List ℕ) {st : Step} → (depth ≡ 0 → ⊥) → st ≡ stepAt p bs ix i l → {x : Step} → st ≡ x →

@@ -11,7 +11,7 @@ ghost use Rattle.step.specs.Steps.{qubitsOf, valueOf, within, touchedBy,
 use limits::{ENDS_AT, LIST_LENGTH, MOST_CONSTANT, MOST_QUBITS};
 use records::{Number, Record, record_at, written_at};
 
-// Qubits 1 to 32.
+// All qubits there can be.
 const QUBITS: [u8; LIST_LENGTH] = [
     1, 2, 3, 4, 5, 6, 7, 8, 9, 10, 11, 12, 13, 14, 15, 16, 17, 18, 19, 20, 21, 22, 23, 24, 25, 26, 27, 28, 29, 30, 31, 32,
 ];
@@ -46,7 +46,7 @@ pub enum Step {
     Negates(usize),
 }
 
-// A list has at most 32 entries.
+// A list is no longer than the longest.
 fn capped(n: u8) -> u8
     ensures { λ r. ⌜ r ≡ min n mostQubits ⌝ }
 {

@@ -157,7 +157,7 @@ module _ (bs : List ℕ) (jx : List ℕ) where
     outcome-edition f = rw (header bs h, ne-eqb (getD bs 0 0) 1 f)
 
     module _ (e : getD bs 0 0 ≡ 1) where
-      -- 3 where there are more than 16 procedures
+      -- 3 where there are too many procedures
       pub outcome-many : mostProcedures < getD bs 1 0 → outcomeRead (answer.Refused manyProcedures) bs jx ≡ outcome (readTable bs)
       unfolding outcomeRead outcome provided
       outcome-many m = rw (header bs h, eq-eqb (getD bs 0 0) 1 e, lt-leb (getD bs 1 0) mostProcedures m)

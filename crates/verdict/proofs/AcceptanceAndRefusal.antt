@@ -1,4 +1,4 @@
--- The ways out of `check_program` and `check-table`: what each has learnt from the functions that it called, and what it then answers.
+-- The ways out of `check_program`, `check_table` and `verdict`: what each has learnt from the functions that it called, and what it then answers.
 use mathlib.Core.Path.{_≡_, refl, sym}
 use mathlib.Core.Bool.{Bool, true, false}
 use mathlib.Core.List.{List}
@@ -40,7 +40,7 @@ module _ (p n : ℕ) (bs ix m : List ℕ) (is : m ≡ reachAt p bs ix) (lacks : 
 
 pub ruleset checks = (needs, checked-ten, checked-eleven, checked-twelve, checked-none)
 
--- the table was refused, or read and judged
+-- the table was refused, or read and checked
 module _ (bs ix : List ℕ) (n : ℕ) (z : n ≡ 0 → ⊥) (h : n ≤ mostQubits) (a : Table) (s : outcomeRead a bs ix ≡ outcome (readTable bs)) where
   pub check-refused : (k f : ℕ) → a ≡ answer.Refused k → outcomeOf k (programAt f bs ix) ≡ accepted bs n
   unfolding outcomeRead
@@ -63,7 +63,7 @@ unfolding outcomeOf
 given-is m P x e none = sym (rw none at e)
 
 module _ (bs ix : List ℕ) (n space : ℕ) (j : Checked) (is : checkedOutcome j bs ix ≡ accepted bs n) where
-  -- a judged table is refused
+  -- a checked table is refused
   pub refused-checked : (j .number ≡ 0 → ⊥) → accepted bs n ≡ refuses (j .number)
   refused-checked some = refused-is (j .number) (programAt (j .procedures) bs ix) (accepted bs n) is some
 

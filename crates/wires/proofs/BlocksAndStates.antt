@@ -18,9 +18,8 @@ use Rattle.model.proofs.AscendingWires.{within-head, within-tail}
 use Rattle.model.proofs.GateLaws.{flipped-other, exchange-other, renamed-at}
 use Rattle.wires.specs.StateOfABlock.{stateIn}
 use Rattle.model.proofs.WordBits.{zero-bit, past-bit, word-bit, word-below, word-is}
-use Rattle.wires.proofs.ByteBits.{}
 
--- what the type [u8; 32] says of a list
+-- what the type of an array of bytes as long as a block says of a list
 pub record IsBlock (bytes : List ℕ) : Type 0 where
   pub long : length bytes ≡ blockLength
   pub byte : (i : ℕ) → getD bytes i 0 < 256
@@ -57,13 +56,13 @@ block-byte zero a s i h = absurd (not-suc-le-zero h)
 block-byte (suc n) a s zero h = ap (λ (b : ℕ). wordFrom 8 b s) (omega arith)
 block-byte (suc n) a s (suc i) h = block-byte n (a + 8) s i (omega arith) ∙ ap (λ (b : ℕ). wordFrom 8 b s) (omega arith)
 
--- the block of a state has 32 bytes
+-- the block of a state has its length
 pub block-bytes : (s : State) → IsBlock (blockOf s)
 block-bytes s = record { long = block-length blockLength 1 s; byte = λ i. byLt i blockLength
     (λ l. rw (block-byte blockLength 1 s i l) (word-below 8 (1 + 8 * i) s))
     (λ g. rw (List·getD-eq-default (blockOf s) 0 {n = i} (rw (block-length blockLength 1 s) g)) (lit< tt)) }
 
--- a block holds what wires 1 to 256 of its state hold
+-- a block holds what the wires of its state hold whose bits stand in it
 pub block-wire : (s : State) (w : ℕ) → 1 ≤ w → w ≤ blockBits → stateIn (blockOf s) w ≡ s w
 block-wire s zero h l = absurd (omega arith)
 block-wire s (suc k) h l =
@@ -72,7 +71,7 @@ block-wire s (suc k) h l =
     ∙ word-bit 8 (1 + 8 * (k / 8)) s (k % 8) (omega arith)
     ∙ ap s (omega arith)
 
--- 32 bytes are the block of each state that has their bits on wires 1 to 256
+-- bytes are the block of each state that has their bits on its wires
 pub block-is : (bytes : List ℕ) → IsBlock bytes → (s : State) → ((w : ℕ) → 1 ≤ w → w ≤ blockBits → s w ≡ stateIn bytes w) → blockOf s ≡ bytes
 block-is bytes h s e = ext-getD 0 (blockOf s) bytes (block-length blockLength 1 s ∙ sym (h .long)) (λ i l.
     let low : i < blockLength = subst (λ (n : ℕ). i < n) (block-length blockLength 1 s) l in
@@ -84,17 +83,17 @@ block-is bytes h s e = ext-getD 0 (blockOf s) bytes (block-length blockLength 1 
       ∙ ap (λ (j : ℕ). bit (getD bytes j 0) ((8 * i + k) % 8)) (omega arith)
       ∙ ap (bit (getD bytes i 0)) (omega arith)))
 
--- 32 bytes are the block of the state in them: equal states have equal blocks
+-- bytes are the block of the state in them: equal states have equal blocks
 pub block-of-state : (bytes : List ℕ) → IsBlock bytes → blockOf (stateIn bytes) ≡ bytes
 block-of-state bytes h = block-is bytes h (stateIn bytes) (λ w l m. refl)
 
--- states that agree on wires 1 to 256 have the same block
+-- states that agree on the wires of a block have the same block
 pub same-block : (s t : State) → ((w : ℕ) → 1 ≤ w → w ≤ blockBits → s w ≡ t w) → blockOf s ≡ blockOf t
 same-block s t h = block-is (blockOf t) (block-bytes t) s (λ w l m. h w l m ∙ sym (block-wire t w l m))
 
 -- ---- states that stand in a block whole
 
--- only wires 1 to 256 may hold 1
+-- only wires whose bits stand in a block may hold 1
 pub record InBlock (s : State) : Type 0 where
   pub none : s 0 ≡ false
   pub past : (w : ℕ) → blockBits < w → s w ≡ false

@@ -26,7 +26,7 @@ use Rattle.model.proofs.WordBits.{zero-bit, past-bit, tested, flip-same, flip-o
 use Rattle.wires.proofs.ByteBits.{flip-byte, byte-bit}
 use Rattle.wires.proofs.BlocksAndStates.{IsBlock, state-at, state-zero, block-wire, block-is, block-of-state, same-block}
 
--- what is known of a field of type [u8; 32], from its type
+-- what is known of a field that is an array of bytes as long as a block, from its type
 pub is-block : (bytes : List ℕ) → length (map (λ (b : ℕ). b) bytes) ≡ blockLength → ((i : ℕ) → Fits w8 (getD bytes i 0)) → IsBlock bytes
 is-block bytes long byte = record { long = length-unmapped ℕ bytes blockLength long; byte = λ i. byte i .fits }
 

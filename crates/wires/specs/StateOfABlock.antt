@@ -1,4 +1,4 @@
--- The block of 32 bytes that the wires of a running circuit are, read as a state.
+-- The block of bytes that the wires of a running circuit are, read as a state.
 use Prim.Native.Nat.{ℕ, zero, suc, _/_, _%_}
 use mathlib.Core.Bool.{false}
 use mathlib.Core.List.{List}

@@ -1,4 +1,4 @@
--- `controls_well_formed` meets its contract. The loop keeps: both lists are tidy from the start exactly where what is left of them is tidy above the last wire.
+-- `controls_well_formed` meets its contract. The loop keeps: both lists are well formed from the start exactly where what is left of them is, above the last wire.
 use Prim.Native.Nat.{_+_}
 use mathlib.Core.Path.{_≡_}
 use Rattle.circuit.specs.GateChecks.{controlsWellFormed}

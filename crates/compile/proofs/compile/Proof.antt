@@ -8,7 +8,7 @@ use Rattle.model.specs.Answers.{workspaceAfter}
 use Rattle.compile.proofs.compile.Statement.{statement}
 use Rattle.compile.proofs.compile.Tie as tie
 
--- a workspace of the same length, wiped
+-- a workspace of the same length, cleared
 cleared : (workspace left zeros : List ℕ) → length left ≡ length workspace → zeros ≡ workspaceAfter left → zeros ≡ workspaceAfter workspace
 cleared workspace left zeros same is = rw (is, same)
 

@@ -1,4 +1,4 @@
--- `faults::rank_at` meets its contract: there is no rank past 16.
+-- `faults::rank_at` meets its contract: there is no rank past the last body.
 use Rattle.faults.proofs.RowTableFill.{ranking}
 use Rattle.faults.proofs.rank_at.Statement.{statement}
 use Rattle.faults.proofs.rank_at.Tie as tie

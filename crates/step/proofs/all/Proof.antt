@@ -1,4 +1,4 @@
--- `step::all` meets its contract: its array is the qubits 1 to 32.
+-- `step::all` meets its contract: its array is all qubits there can be.
 use borrow.Author.Needs.{needs}
 use Rattle.model.specs.Lists.{range}
 use Rattle.step.proofs.ListsInAnArray.{qubits-first}

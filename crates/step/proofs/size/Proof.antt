@@ -1,4 +1,4 @@
--- `step::size` meets its contract: its array's length is 32, so the list is as long as it says, or 32.
+-- `step::size` meets its contract: its array has room for the longest list, so the list is as long as it says, or as that.
 use borrow.Author.Needs.{needs}
 use Rattle.step.proofs.ListsInAnArray.{size-of}
 use Rattle.step.proofs.size.Statement.{statement}
