@@ -34,7 +34,7 @@ module _ (n : ℕ) where
   Stacked a (frees c ∷ es) b = (n < c) × (c ≤ a) × Stacked c es b
 
   -- events one after the other
-  pub stacked-append : (a b c : ℕ) (xs ys : List Event) → Stacked a xs b → Stacked b ys c → Stacked a (xs ++ ys) c
+  stacked-append : (a b c : ℕ) (xs ys : List Event) → Stacked a xs b → Stacked b ys c → Stacked a (xs ++ ys) c
   stacked-append a b c [] ys x y = subst (λ (v : ℕ). Stacked v ys c) (sym x) y
   stacked-append a b c (takes w ∷ xs) ys x y = (x .0, stacked-append (suc a) b c xs ys (x .1) y)
   stacked-append a b c (places g ∷ xs) ys x y = stacked-append a b c xs ys x y
@@ -303,7 +303,7 @@ usedAfter [] used = used
 usedAfter (e ∷ es) used = usedAfter es (inUse e used)
 
 -- the ancillas in use are always those from n + 1 to below the next wire
-pub stacked-used : (n k b : ℕ) (es : List Event) → Stacked n (suc (n + k)) es b → usedAfter es (ancillasFrom n k) ≡ ancillasFrom n (b - suc n)
+stacked-used : (n k b : ℕ) (es : List Event) → Stacked n (suc (n + k)) es b → usedAfter es (ancillasFrom n k) ≡ ancillasFrom n (b - suc n)
 unfolding usedAfter inUse
 stacked-used n k b [] x = let e : k ≡ b - suc n = omega arith in ap (ancillasFrom n) e
 stacked-used n k b (takes w ∷ es) x = rw (takes-used n k w (x .0)) (stacked-used n (suc k) b es (takes-next n k b es (x .1)))
@@ -319,7 +319,7 @@ emission-returns P n =
     stacked-used n 0 (suc n) (emission P n) (emission-from P n) ∙ ap (ancillasFrom n) z
 
 -- with k ancillas in use: n plus the most in use from here on is the highest wire in use or taken
-pub stacked-peak : (n k b : ℕ) (es : List Event) → Stacked n (suc (n + k)) es b → n + peak (ancillasFrom n k) es ≡ max (n + k) (highest n es)
+stacked-peak : (n k b : ℕ) (es : List Event) → Stacked n (suc (n + k)) es b → n + peak (ancillasFrom n k) es ≡ max (n + k) (highest n es)
 unfolding peak inUse highest
 stacked-peak n k b [] x = rw (ancillas-length n k) (omega arith)
 stacked-peak n k b (takes w ∷ es) x =

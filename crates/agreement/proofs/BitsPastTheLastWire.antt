@@ -50,13 +50,13 @@ module _ (m w : ℕ) (past : m < w) where
       (member-skip w v [] (past-differs v (u ∷ v ∷ asked) h (member-tail v u (v ∷ asked) (member-head v asked))) (member-nil w))
 
   -- gates over wires 1 to m leave it as it was
-  pub past-same : (gs : List Gate) → AllWellFormed m gs → (s : State) → acts gs s w ≡ s w
+  past-same : (gs : List Gate) → AllWellFormed m gs → (s : State) → acts gs s w ≡ s w
   unfolding acts
   past-same [] ok s = refl
   past-same (g ∷ gs) ok s = past-same gs (ok .1) (act g s) ∙ act-frame g s w (past-targets g (formed m g (ok .0) .inside))
 
 -- a run of a well-formed circuit, from a word of its data wires, leaves every wire past its last at zero
-pub past-wires : (c : Circuit) → WellFormed c → (word : ℕ) → word < 2 ^ (c .dataWires) →
+past-wires : (c : Circuit) → WellFormed c → (word : ℕ) → word < 2 ^ (c .dataWires) →
     Zero (suc (c .dataWires + c .ancillas)) (acts (c .gates) (stateOf word))
 past-wires c f word low w past =
     past-same (c .dataWires + c .ancillas) w past (c .gates) (f .all-gates) (stateOf word) ∙ word-zero (c .dataWires) word low w (omega arith)
@@ -66,17 +66,17 @@ abbrev pub ZeroPast : ℕ → List ℕ → Type 0
 ZeroPast m block = (j k : ℕ) → j < blockLength → k < 8 → m ≤ 8 * j + k → bit (getD block j 0) k ≡ false
 
 -- so they are in the block of a word below 2 ^ m
-pub word-past : (m word : ℕ) → word < 2 ^ m → ZeroPast m (blockOf (stateOf word))
+word-past : (m word : ℕ) → word < 2 ^ m → ZeroPast m (blockOf (stateOf word))
 word-past m word low j k hj hk past = block-bit word j k hj hk ∙ past-bit m word (8 * j + k) low past
 
 -- and in the block of a state that is zero past wire m
-pub state-past : (m : ℕ) (s : State) → Zero (suc m) s → ZeroPast m (blockOf s)
+state-past : (m : ℕ) (s : State) → Zero (suc m) s → ZeroPast m (blockOf s)
 state-past m s zeros = subst (ZeroPast m)
     (same-block blockLength 1 (stateOf (wordOf m s)) s (word-wire m s zeros))
     (word-past m (wordOf m s) (word-below m 1 s))
 
 -- "bits past the last wire are zero": in the block of every well-formed circuit, from every word of its data wires
-pub circuit-past : (c : Circuit) → WellFormed c → (word : ℕ) → word < 2 ^ (c .dataWires) →
+circuit-past : (c : Circuit) → WellFormed c → (word : ℕ) → word < 2 ^ (c .dataWires) →
     ZeroPast (c .dataWires + c .ancillas) (circuitBlock c word)
 unfolding circuitBlock
 circuit-past c f word low = state-past (c .dataWires + c .ancillas) (acts (c .gates) (stateOf word)) (past-wires c f word low)
@@ -100,7 +100,7 @@ run-past bytes word {b} = go (circuitRead bytes) refl
     go (refuses k) r e = not-both e
 
 -- an end word has no bit but those of its qubits
-pub end-below : (P : Program) (n word : ℕ) → endWord P n word < 2 ^ n
+end-below : (P : Program) (n word : ℕ) → endWord P n word < 2 ^ n
 unfolding endWord
 end-below P n word = word-below n 1 (endState P n (stateOf word))
 

@@ -207,7 +207,7 @@ module _ (P : Program) (N : Named P) (passes11 : anyTooWide P ≡ false) where
   rank-not-zero f h z = let p = rank-positive P f h in omega arith
 
   -- all depths from a procedure's rank on emit the same chain
-  pub depth-same : (a b f : ℕ) (l : List ℕ) (w : ℕ) → f ≤ count P → rank P f ≤ a → rank P f ≤ b → chainsWithin P a f l w ≡ chainsWithin P b f l w
+  depth-same : (a b f : ℕ) (l : List ℕ) (w : ℕ) → f ≤ count P → rank P f ≤ a → rank P f ≤ b → chainsWithin P a f l w ≡ chainsWithin P b f l w
   unfolding chainsWithin
   depth-same zero b f l w h ha hb = absurd (rank-not-zero f h ha)
   depth-same (suc a) zero f l w h ha hb = absurd (rank-not-zero f h hb)

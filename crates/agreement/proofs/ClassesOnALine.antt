@@ -135,7 +135,7 @@ module _ (P : Program) (N : Named P) where
     let in-it = largest-in (fallsTo P f) (classesWithin P fuel) (suc (count P)) g (suc-le-suc (falls-named f g c)) c in omega arith
 
   -- no line from f on has more classes than are counted
-  pub line-most : {f k : ℕ} → f ≤ count P → Line P f k → k ≤ classes P f
+  line-most : {f k : ℕ} → f ≤ count P → Line P f k → k ≤ classes P f
   line-most {f} {k} lf l = let h = line-rank lf l in let r = rank-all P f in line-within (suc (count P)) l (omega arith)
 
   -- the next class has fewer

@@ -19,7 +19,7 @@ use Rattle.agreement.proofs.AncillaStack.{highest, peak-highest}
 
 -- "at the first ancilla or gate that does not fit": k is its refusal, where `used` bytes of the room are filled
 pub data FirstMisfit (room : ℕ) : ℕ → List Event → ℕ → Type 0 where
-  wire-past-255 : {used w : ℕ} {es : List Event} → mostWires < w → FirstMisfit room used (takes w ∷ es) manyWires
+  wire-past-the-most : {used w : ℕ} {es : List Event} → mostWires < w → FirstMisfit room used (takes w ∷ es) manyWires
   gate-past-room : {used : ℕ} {g : Gate} {es : List Event} → room < used + length (encode g) → FirstMisfit room used (places g ∷ es) noRoom
   after-takes : {used w k : ℕ} {es : List Event} → w ≤ mostWires → FirstMisfit room used es k → FirstMisfit room used (takes w ∷ es) k
   after-places : {used k : ℕ} {g : Gate} {es : List Event} → used + length (encode g) ≤ room →
@@ -76,7 +76,7 @@ pub fit-first : (room used : ℕ) (es : List Event) → 0 < fit room used es →
 unfolding fit
 fit-first room used [] h = absurd (not-suc-le-zero h)
 fit-first room used (takes w ∷ es) h = byLt mostWires w
-    (λ lt. rw (fit-no-wire room used es w lt) (wire-past-255 lt))
+    (λ lt. rw (fit-no-wire room used es w lt) (wire-past-the-most lt))
     (λ le. rw (fit-wire room used es w le) (after-takes le (fit-first room used es (rw (fit-wire room used es w le) at h))))
 fit-first room used (places g ∷ es) h = byLt room (used + length (encode g))
     (λ lt. rw (fit-no-gate room used es g lt) (gate-past-room lt))
@@ -87,7 +87,7 @@ fit-first room used (frees a ∷ es) h = after-frees (fit-first room used es h)
 -- the refusal of the first step that does not fit is what it gives, and is not 0
 pub first-fit : (room : ℕ) {used k : ℕ} {es : List Event} → FirstMisfit room used es k → (fit room used es ≡ k) × (0 < k)
 unfolding fit
-first-fit room (wire-past-255 {used = used} {w = w} {es = es} h) = (fit-no-wire room used es w h, omega arith)
+first-fit room (wire-past-the-most {used = used} {w = w} {es = es} h) = (fit-no-wire room used es w h, omega arith)
 first-fit room (gate-past-room {used = used} {g = g} {es = es} h) = (fit-no-gate room used es g h, omega arith)
 first-fit room (after-takes {used = used} {w = w} {es = es} h m) = let r = first-fit room m in (fit-wire room used es w h ∙ r .0, r .1)
 first-fit room (after-places {used = used} {g = g} {es = es} h m) = let r = first-fit room m in (fit-gate room used es g h ∙ r .0, r .1)
@@ -117,7 +117,7 @@ fits-wires P n room used le e =
     omega arith
 
 -- four bytes count the gates of an emission that fits, since each gate takes two bytes or more
-pub fits-count : (room : ℕ) (es : List Event) → headerLength ≤ room → room ≤ mostCircuit → fit room headerLength es ≡ 0 →
+fits-count : (room : ℕ) (es : List Event) → headerLength ≤ room → room ≤ mostCircuit → fit room headerLength es ≡ 0 →
     length (gates es) < 4294967296
 fits-count room es le small e =
     let a = fits-length room headerLength es le (fit-all room headerLength es e) in

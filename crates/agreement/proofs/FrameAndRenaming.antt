@@ -51,7 +51,7 @@ module _ (o : CallFaults) where
   no-fault-call f (q ∷ l) C h = h
 
   -- what is safe does not fault
-  pub no-fault : (s : Statement) (l C : List ℕ) → Safe (NoFault o) s l C → faults o s l C ≡ false
+  no-fault : (s : Statement) (l C : List ℕ) → Safe (NoFault o) s l C → faults o s l C ≡ false
   unfolding faults
   no-fault skip l C h = refl
   no-fault (NOT rs a) l C h = h
@@ -148,7 +148,7 @@ callDoes-outside o K f [] s w h = refl
 callDoes-outside o K f (q ∷ l) s w h = K f (q ∷ l) s w h
 
 -- a statement commutes with a flip outside its list
-pub does-outside : (o : CallDoes) → Outside o → (t : Statement) (l : List ℕ) (s : State) (w : ℕ) → Off w l →
+does-outside : (o : CallDoes) → Outside o → (t : Statement) (l : List ℕ) (s : State) (w : ℕ) → Off w l →
     does o t l (flipped w s) ≡ flipped w (does o t l s)
 unfolding does
 does-outside o K skip l s w h = refl
@@ -185,7 +185,7 @@ module _ (π : ℕ → ℕ) (R : Renames π) (o : CallDoes) (K : Same π o) wher
   callDoes-renamed f (q ∷ l) s = K f (q ∷ l) s
 
   -- a statement commutes with a renaming, which changes its list
-  pub does-renamed : (t : Statement) (l : List ℕ) (s : State) → does o t l (renamed π s) ≡ renamed π (does o t (map π l) s)
+  does-renamed : (t : Statement) (l : List ℕ) (s : State) → does o t l (renamed π s) ≡ renamed π (does o t (map π l) s)
   unfolding does
   does-renamed skip l s = refl
   does-renamed (NOT rs a) l s = rw (touched-map π (R .none) rs a l) (flipped-renamed π R (touched rs a l) s)

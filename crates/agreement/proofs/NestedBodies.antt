@@ -517,7 +517,7 @@ module _ (P : Program) (rank : ℕ → ℕ) (E : CallDoes) (G : Safely) (n : ℕ
   start-good f l a low fine above x (inr m) = absurd m
 
   -- a chain serves the call that starts it
-  pub start-serves : (f : ℕ) (l : List ℕ) (a : ℕ) → rank f ≤ k → Fine G n f l → n < a →
+  start-serves : (f : ℕ) (l : List ℕ) (a : ℕ) → rank f ≤ k → Fine G n f l → n < a →
       Serves E (λ x. x ≡ invocation f l a) (suc a) (bodiesFrom P chains (length l) (invocation f l a ∷ []) (suc a) .events)
   start-serves f l a low fine above = serves-iff E (Shorter (suc (length l)) (invocation f l a ∷ [])) (λ x. x ≡ invocation f l a) (suc a)
     (bodiesFrom P chains (length l) (invocation f l a ∷ []) (suc a) .events) single only

@@ -69,7 +69,7 @@ abbrev pub Less : List ℕ → List ℕ → List ℕ → Type 0
 Less l C′ C = (w : ℕ) → member w l ≡ true → member w C′ ≡ true → member w C ≡ true
 
 -- nothing closed is least
-pub less-nil : (l C : List ℕ) → Less l [] C
+less-nil : (l C : List ℕ) → Less l [] C
 less-nil l C w i m = not-in-nil w m
 
 -- a call stays safe where no more wires of its list are closed

@@ -5,8 +5,8 @@ use Rattle.model.proofs.WorkedPrograms.{worked}
 use Rattle.model.specs.Demand.{Demand3}
 use Rattle.agreement.proofs.CompilePromise.{compile-promises}
 
-pub pairs-promised : Demand3 pairs 3 pairsCircuit
+pairs-promised : Demand3 pairs 3 pairsCircuit
 pairs-promised = compile-promises pairs 3 mostCircuit leastWorkspace (worked .pairsEmitted) .0
 
-pub swap-promised : Demand3 needsSwap 4 swapCircuit
+swap-promised : Demand3 needsSwap 4 swapCircuit
 swap-promised = compile-promises needsSwap 4 mostCircuit leastWorkspace (worked .swapEmitted) .0

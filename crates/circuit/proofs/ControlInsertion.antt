@@ -99,7 +99,7 @@ place-most w (x ∷ l) = byLt w x
     (λ h. rw (place-more w x l h) (let m : placeFor w l ≤ length l = place-most w l in omega arith))
 
 -- a list takes a wire while it has room
-pub within-takes : (w : ℕ) (l : List ℕ) → length l < mostControls → insertWithin w l ≡ insert w l
+within-takes : (w : ℕ) (l : List ℕ) → length l < mostControls → insertWithin w l ≡ insert w l
 unfolding insertWithin
 within-takes w l h = rw (lt-ltb (length l) mostControls h, insertWithin)
 

@@ -19,7 +19,7 @@ use Rattle.circuit.specs.GatesInBytes.{part, inputAt, settled, listParse
 use Rattle.circuit.specs.declared.ListRead.the-variants.{Wires, NoWires}
 
 -- n bytes from a place on, where they are there
-pub bytes-at : (bs : List ℕ) (n at : ℕ) → at + n ≤ length bs → bytes n (inputAt bs at) ≡ parsed (part bs at n) (inputAt bs (at + n))
+bytes-at : (bs : List ℕ) (n at : ℕ) → at + n ≤ length bs → bytes n (inputAt bs at) ≡ parsed (part bs at n) (inputAt bs (at + n))
 unfolding bytes andThen
 bytes-at bs zero at h = rw (add-zero at)
 bytes-at bs (suc n) at h =
@@ -29,7 +29,7 @@ bytes-at bs (suc n) at h =
     rw (byte-there bs at 0 l, bytes-at bs n (at + 1) m, e, part-step bs at (suc n) (omega arith) l, sub-one)
 
 -- n bytes of which some are missing
-pub bytes-past : (bs : List ℕ) (n at : ℕ) → at ≤ length bs → length bs < at + n → bytes n (inputAt bs at) ≡ refused tableStops
+bytes-past : (bs : List ℕ) (n at : ℕ) → at ≤ length bs → length bs < at + n → bytes n (inputAt bs at) ≡ refused tableStops
 unfolding bytes andThen
 bytes-past bs zero at h l = absurd (omega arith)
 bytes-past bs (suc n) at h l =

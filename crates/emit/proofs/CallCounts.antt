@@ -22,7 +22,7 @@ use Rattle.step.specs.Steps.{stepAt}
 use Rattle.step.proofs.StatementAtARecord.{Idle, at-step, idle-skip, spent-skip}
 use Rattle.step.proofs.ChosenBranch.{chosen-means}
 
-pub invoked-count : (f g : ℕ) (l : List ℕ) (a b : ℕ) → length (invoked f l a) ≡ length (invoked g l b)
+invoked-count : (f g : ℕ) (l : List ℕ) (a b : ℕ) → length (invoked f l a) ≡ length (invoked g l b)
 unfolding invoked
 invoked-count f g [] a b = refl
 invoked-count f g (q ∷ l) a b = refl

@@ -50,7 +50,7 @@ use Rattle.emit.proofs.NextBody.{seek-low, seek-none, seek-found}
 
 -- the bodies of a chain: where they end, and the whole of them
 module _ (bs ix : List ℕ) (p k : ℕ) where
-  pub bodies-next : (n : ℕ) (known : List ℕ) (calls all : List Invocation) (next : ℕ) → 0 < next →
+  bodies-next : (n : ℕ) (known : List ℕ) (calls all : List Invocation) (next : ℕ) → 0 < next →
       nextAfter next (bodiesUpTo bs ix p k n known calls all next .events) ≡ bodiesUpTo bs ix p k n known calls all next .next
   unfolding bodiesUpTo nextAfter
   bodies-next zero known calls all next h = refl
@@ -62,14 +62,14 @@ module _ (bs ix : List ℕ) (p k : ℕ) where
     stacked-after 0 next (out .next) (out .events)
       (bodies-stacked 0 P ch C (suc n) (bodiesFrom P ch n) (bodiesFrom-stacked 0 P ch C n) known calls all next h .0)
 
-  pub bodies-all : (n : ℕ) (all : List Invocation) (next : ℕ) →
+  bodies-all : (n : ℕ) (all : List Invocation) (next : ℕ) →
       bodiesUpTo bs ix p k n [] all all next ≡ bodiesFrom (programAt p bs ix) (chainsIn bs ix p k) n all next
   unfolding bodiesUpTo bodiesFrom
   bodies-all zero all next = refl
   bodies-all (suc n) all next = refl
 
 -- no slot, no procedure
-pub none-done : (ws : List ℕ) (base n : ℕ) → DoneIn ws base n base []
+none-done : (ws : List ℕ) (base n : ℕ) → DoneIn ws base n base []
 unfolding appears member
 none-done ws base n f = let e : base - base ≡ 0 = omega arith in rw e
 
@@ -84,7 +84,7 @@ module _ {bs ix m : List ℕ} {p k : ℕ} {write : Bool} {st : Emit} {room ws : 
       Follows write (rightOf bs ix p k (slotOf ws d) first (st .next)) st room ws r room₁ ws₁
   use-body-right (walks-body-right g) = g
 
-  pub use-bodies : {base n j upto : ℕ} → Bodies bs ix m p k write st room ws r room₁ ws₁ base n j upto → Ready bs ix m p st ws → base ≤ j →
+  use-bodies : {base n j upto : ℕ} → Bodies bs ix m p k write st room ws r room₁ ws₁ base n j upto → Ready bs ix m p st ws → base ≤ j →
       upto ≤ st .next → base ≤ st .next → (known : List ℕ) → DoneIn ws base n j known →
       Follows write (bodiesUpTo bs ix p k n known (heldIn ws j (upto - j)) (heldIn ws base (st .next - base)) (st .next) .events) st room ws r room₁ ws₁
   use-bodies (walks-bodies g) = g

@@ -58,13 +58,13 @@ was-ok {write = write} {es = es} {st = st} {room = room} F ok =
     scan-was write es st room (sym (ap (λ (s : Progress). emitOf s .status) (F .scanned)) ∙ ok)
 
 module _ {write : Bool} {st : Emit} {room ws : List ℕ} {r : Emit} {room₁ ws₁ : List ℕ} where
-  pub opens-by : {es es₁ : List Event} {news news₁ : List Invocation} → es ≡ es₁ → news ≡ news₁ → Opens write es news st room ws r room₁ ws₁ →
+  opens-by : {es es₁ : List Event} {news news₁ : List Invocation} → es ≡ es₁ → news ≡ news₁ → Opens write es news st room ws r room₁ ws₁ →
       Opens write es₁ news₁ st room ws r room₁ ws₁
   opens-by {es = es} {news₁ = news₁} e n O =
     subst (λ (v : List Event). Opens write v news₁ st room ws r room₁ ws₁) e (subst (λ (v : List Invocation). Opens write es v st room ws r room₁ ws₁) n O)
 
   -- no new invocation
-  pub opens-none : {es : List Event} → Follows write es st room ws r room₁ ws₁ → Opens write es [] st room ws r room₁ ws₁
+  opens-none : {es : List Event} → Follows write es st room ws r room₁ ws₁ → Opens write es [] st room ws r room₁ ws₁
   unfolding heldIn
   opens-none F = record { follows = F; held = λ z. refl }
 

@@ -126,7 +126,7 @@ module _ (f : ℕ) (cs : Controls) (write : Bool) (st : Emit) (room ws : List �
           kept = λ i k. getD-before ws (slotAt n) (f ∷ length (q ∷ l) ∷ q ∷ l) i k };
         held = λ z. one-held (filled ws n f (q ∷ l)) n (invocation f (q ∷ l) n) (filled-is ws n f (q ∷ l) space h short) })
 
-    pub invoked-slot : (a r : Emit) (room₁ ws₁ : List ℕ) → progress a ws₁ ≡ ancillaTaken f (q ∷ l) st ws →
+    invoked-slot : (a r : Emit) (room₁ ws₁ : List ℕ) → progress a ws₁ ≡ ancillaTaken f (q ∷ l) st ws →
         progress r room₁ ≡ scan write (places (flip cs (wireOf (st .next))) ∷ []) (progress a room) →
         Opens write (invokes (q ∷ l) cs (st .next)) (invoked f (q ∷ l) (st .next)) st room ws r room₁ ws₁
     unfolding ancillaTaken

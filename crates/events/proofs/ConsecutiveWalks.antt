@@ -95,7 +95,7 @@ module _ (ws ws₁ : List ℕ) (top : ℕ) (same : (i : ℕ) → i < slotAt top 
   bytes-kept at zero h = refl
   bytes-kept at (suc n) h = rw (same at (omega arith), bytes-kept (at + 1) n (omega arith))
 
-  pub length-kept : (a : ℕ) → a < top → slotListLength ws₁ a ≡ slotListLength ws a
+  length-kept : (a : ℕ) → a < top → slotListLength ws₁ a ≡ slotListLength ws a
   length-kept a h = rw (same (slotLength * a + 1) (omega arith))
 
   pub slot-kept : (a : ℕ) → a < top → slotOf ws₁ a ≡ slotOf ws a

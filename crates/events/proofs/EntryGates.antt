@@ -29,7 +29,7 @@ scan-nothing write x = refl
 pub scan-first : (write : Bool) (g : Event) (es : List Event) (x y z : Progress) → y ≡ scan write (g ∷ []) x → z ≡ scan write es y → z ≡ scan write (g ∷ es) x
 scan-first write g es x y z p q = rw (q, p) (sym (scan-append write (g ∷ []) es x))
 
-pub scan-last : (write : Bool) (g : Event) (es : List Event) (x y z : Progress) → y ≡ scan write (reverse es) x → z ≡ scan write (g ∷ []) y →
+scan-last : (write : Bool) (g : Event) (es : List Event) (x y z : Progress) → y ≡ scan write (reverse es) x → z ≡ scan write (g ∷ []) y →
     z ≡ scan write (reverse (g ∷ es)) x
 scan-last write g es x y z p q = rw (q, p, reverse-cons g es) (sym (scan-append write (reverse es) (g ∷ []) x))
 

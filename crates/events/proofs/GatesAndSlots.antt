@@ -229,7 +229,7 @@ module _ (u v w : ℕ) where
 pub ruleset exchanging = (needs, under-is, exchange-first, exchange-second, exchange-neither)
 
 -- an array that fills from its front on: `front` is what stands there
-pub fill-next : (at : List ℕ) (i v : ℕ) (front more : List ℕ) → take i at ≡ front → i < length at → front ++ (v ∷ []) ≡ more →
+fill-next : (at : List ℕ) (i v : ℕ) (front more : List ℕ) → take i at ≡ front → i < length at → front ++ (v ∷ []) ≡ more →
     take (i + 1) (set at i v) ≡ more
 fill-next at i v front more e h q = rw (add-one i, take-suc-set at i v h, e) q
 

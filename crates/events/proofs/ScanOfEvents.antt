@@ -75,7 +75,7 @@ stored-append : (write : Bool) (room : List ℕ) (at : ℕ) (a b : List ℕ) →
 stored-append true room at a b = sets-append room at a b
 stored-append false room at a b = refl
 
-pub stored-length : (write : Bool) (room : List ℕ) (at : ℕ) (bytes : List ℕ) → length (stored write room at bytes) ≡ length room
+stored-length : (write : Bool) (room : List ℕ) (at : ℕ) (bytes : List ℕ) → length (stored write room at bytes) ≡ length room
 stored-length true room at bytes = length-sets room at bytes
 stored-length false room at bytes = refl
 
@@ -122,7 +122,7 @@ module _ (write : Bool) where
   sound-freed st room a s = record { ok = refl; few = s .few; fits = s .fits }
 
   -- where every step fits
-  pub scan-all : (es : List Event) (st : Emit) (room : List ℕ) → Sound st room → AllFit (usable (length room)) (st .used) es →
+  scan-all : (es : List Event) (st : Emit) (room : List ℕ) → Sound st room → AllFit (usable (length room)) (st .used) es →
       scan write es (progress st room) ≡ progress (ended st es) (stored write room (st .used) (encodeAll (gates es)))
   unfolding scan gates encodeAll nextAfter highestAfter
   scan-all [] st room s h = at-end write st room (s .ok)
@@ -147,7 +147,7 @@ module _ (write : Bool) where
     scan-frees write es st room (s .ok) a ∙ scan-all es (freed st a) room (sound-freed st room a s) h
 
   -- the number that comes out is the one of the definitions
-  pub scan-fit : (es : List Event) (st : Emit) (room : List ℕ) → Sound st room →
+  scan-fit : (es : List Event) (st : Emit) (room : List ℕ) → Sound st room →
       emitOf (scan write es (progress st room)) .status ≡ fit (usable (length room)) (st .used) es
   unfolding scan fit
   scan-fit [] st room s = s .ok

@@ -349,7 +349,7 @@ touchesOf P f m = touchesWithin P (rank P f + m) f m
 -- a table that passes refusal 10
 module _ (P : Program) (N : Named P) (passes10 : anyLacksRemoval P ≡ false) where
   -- all fuel from rank + length on is the same
-  pub enough-touches : (a b f m : ℕ) → 0 < m → rank P f + m ≤ a → rank P f + m ≤ b → (t : ℕ) → touchesWithin P a f m t ≡ touchesWithin P b f m t
+  enough-touches : (a b f m : ℕ) → 0 < m → rank P f + m ≤ a → rank P f + m ≤ b → (t : ℕ) → touchesWithin P a f m t ≡ touchesWithin P b f m t
   unfolding touchesWithin
   enough-touches zero b f m some ha hb t = absurd (nothing some ha)
     where

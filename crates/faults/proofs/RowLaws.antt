@@ -51,7 +51,7 @@ row-past x t h = past-bit 64 (rowOf x) t (word-below 64 0 x) h
 row-is : (x : Touched) (row : ℕ) → row < 2 ^ 64 → ((t : ℕ) → t < 64 → rowIs row t ≡ x t) → row ≡ rowOf x
 row-is x row h e = sym (word-is 64 0 x row h (λ t l. ap x (omega arith) ∙ sym (e t l)))
 
-pub same-row : (x y : Touched) → ((t : ℕ) → t < 64 → x t ≡ y t) → rowOf x ≡ rowOf y
+same-row : (x y : Touched) → ((t : ℕ) → t < 64 → x t ≡ y t) → rowOf x ≡ rowOf y
 same-row x y h = row-is y (rowOf x) (word-below 64 0 x) (λ t l. row-at x t l ∙ h t l)
 
 pub none-row : 0 ≡ rowOf touchesNone
@@ -64,7 +64,7 @@ joined-row x y = row-is (joined x y) (bitOr (rowOf x) (rowOf y)) (or-lt 64 (rowO
     (λ t h. or-bit (rowOf x) (rowOf y) t ∙ rw (row-at x t h, row-at y t h))
 
 -- one number more
-pub marked-row : (x : Touched) (q : ℕ) → marked (rowOf x) q ≡ rowOf (joined x (touchesOne q))
+marked-row : (x : Touched) (q : ℕ) → marked (rowOf x) q ≡ rowOf (joined x (touchesOne q))
 unfolding marked
 marked-row x q = byLt q 64
     (λ l. rw (lt-ltb q 64 l) (row-is (joined x (touchesOne q)) (bitOr (rowOf x) (2 ^ q)) (or-lt 64 (rowOf x) (2 ^ q) (word-below 64 0 x) (pow-lt l))

@@ -13,11 +13,11 @@ use Rattle.model.proofs.BooleanLaws.{byLt}
 use Rattle.lines.specs.AppendedBytes.{Written, written, puts}
 
 -- a byte where the text reaches, and nothing behind its end
-pub puts-cons : (b : ℕ) (bytes text : List ℕ) (at : ℕ) → at < length text → puts (b ∷ bytes) text at ≡ puts bytes (set text at b) (suc at)
+puts-cons : (b : ℕ) (bytes text : List ℕ) (at : ℕ) → at < length text → puts (b ∷ bytes) text at ≡ puts bytes (set text at b) (suc at)
 unfolding puts
 puts-cons b bytes text at h = rw (lt-ltb at (length text) h, puts)
 
-pub puts-past : (bytes text : List ℕ) (at : ℕ) → length text ≤ at → puts bytes text at ≡ written text at
+puts-past : (bytes text : List ℕ) (at : ℕ) → length text ≤ at → puts bytes text at ≡ written text at
 unfolding puts
 puts-past [] text at h = refl
 puts-past (b ∷ bytes) text at h = rw (le-ltb at (length text) h, puts)

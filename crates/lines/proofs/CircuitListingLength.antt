@@ -27,7 +27,7 @@ longer most d some h k small = byLt k 10
 one-digit : (k : ℕ) → k < 10 → length (decimal k) ≤ 1
 one-digit k h = rw (decimal-low k h) (omega arith)
 
-pub three-digits : (k : ℕ) → k < 1000 → length (decimal k) ≤ 3
+three-digits : (k : ℕ) → k < 1000 → length (decimal k) ≤ 3
 three-digits k h = longer 100 2 (omega arith) (longer 10 1 (omega arith) one-digit) k h
 
 five-digits : (k : ℕ) → k < 100000 → length (decimal k) ≤ 5

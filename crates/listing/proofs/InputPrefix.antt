@@ -34,7 +34,7 @@ compile-cut : (most : ℕ) (table : List ℕ) (n room workspace : ℕ) → looke
 unfolding compile
 compile-cut most table n room workspace h = rw (accepted-cut most table n h)
 
-pub listing-cut : (most : ℕ) (input : List ℕ) → mostInput ≤ most → listing (take most input) ≡ listing input
+listing-cut : (most : ℕ) (input : List ℕ) → mostInput ≤ most → listing (take most input) ≡ listing input
 unfolding listing
 listing-cut zero input h = absurd (omega arith)
 listing-cut (suc most) [] h = refl

@@ -58,7 +58,7 @@ read-numbered : (o : Outcome Program) → WasRead o → Numbered o
 read-numbered (gives P) h = tt
 read-numbered (refuses k) h = let low = h .1 in (h .0, omega arith)
 
-pub accepted-numbered : (table : List ℕ) (n : ℕ) → Numbered (accepted table n)
+accepted-numbered : (table : List ℕ) (n : ℕ) → Numbered (accepted table n)
 unfolding accepted
 accepted-numbered table n =
     required-numbered (leb 1 n && leb n mostQubits) wrongQubits _ (omega arith, omega arith)
@@ -67,13 +67,13 @@ accepted-numbered table n =
     (required-numbered (not (anyTooWide P)) tooWide _ (omega arith, omega arith)
     (required-numbered (not (programFaults P n)) accessFault (gives P) (omega arith, omega arith) tt))))
 
-pub verdict-numbered : (table : List ℕ) (n workspace : ℕ) → Numbered (verdict table n workspace)
+verdict-numbered : (table : List ℕ) (n workspace : ℕ) → Numbered (verdict table n workspace)
 unfolding verdict
 verdict-numbered table n workspace =
     after-numbered (accepted table n) _ (accepted-numbered table n) (λ P.
     required-numbered (leb leastWorkspace workspace) shortWorkspace (gives P) (omega arith, omega arith) tt)
 
-pub run-numbered : (table : List ℕ) (n word workspace : ℕ) → Numbered (run table n word workspace)
+run-numbered : (table : List ℕ) (n word workspace : ℕ) → Numbered (run table n word workspace)
 unfolding run
 run-numbered table n word workspace =
     after-numbered (accepted table n) _ (accepted-numbered table n) (λ P.
@@ -108,10 +108,10 @@ unfolding wellFormed
 wellFormed-numbered (parsed c i) = tt
 wellFormed-numbered (refused k) = (omega arith, omega arith)
 
-pub circuit-read-numbered : (bytes : List ℕ) → Numbered (circuitRead bytes)
+circuit-read-numbered : (bytes : List ℕ) → Numbered (circuitRead bytes)
 circuit-read-numbered bytes = wellFormed-numbered (readCircuit bytes)
 
-pub circuit-run-numbered : (bytes : List ℕ) (word : ℕ) → Numbered (circuitRun bytes word)
+circuit-run-numbered : (bytes : List ℕ) (word : ℕ) → Numbered (circuitRun bytes word)
 unfolding circuitRun
 circuit-run-numbered bytes word =
     after-numbered (circuitRead bytes) _ (circuit-read-numbered bytes) (λ c.

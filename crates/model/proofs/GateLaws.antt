@@ -55,7 +55,7 @@ exchange-twice u v w = byEq w u
         (λ e. rw (e, exchange-right u v) (exchange-left u v))
         (λ nv. rw (exchange-other u v w nu nv) (exchange-other u v w nu nv)))
 
-pub exchange-sym : (u v w : ℕ) → exchange u v w ≡ exchange v u w
+exchange-sym : (u v w : ℕ) → exchange u v w ≡ exchange v u w
 exchange-sym u v w = byEq w u
     (λ e. rw (e, exchange-left u v) (sym (exchange-right v u)))
     (λ nu. byEq w v
@@ -66,7 +66,7 @@ pub renamed-at : (π : ℕ → ℕ) (s : State) (w : ℕ) → renamed π s w ≡
 unfolding renamed
 renamed-at π s w = refl
 
-pub renamed-twice : (u v : ℕ) (s : State) → renamed (exchange u v) (renamed (exchange u v) s) ≡ s
+renamed-twice : (u v : ℕ) (s : State) → renamed (exchange u v) (renamed (exchange u v) s) ≡ s
 unfolding renamed
 renamed-twice u v s = fun-ext (λ w. ap s (exchange-twice u v w))
 
@@ -120,7 +120,7 @@ asked-differs cs w v h n e = true≢false (sym h ∙ ap (asks cs) e ∙ n)
 pub fires-flipped : (cs : Controls) (s : State) (t : ℕ) → asks cs t ≡ false → fires cs (flipped t s) ≡ fires cs s
 fires-flipped cs s t n = fires-same cs (flipped t s) s (λ w m. flipped-other s t w (asked-differs cs w t m n))
 
-pub fires-renamed : (cs : Controls) (s : State) (u v : ℕ) → asks cs u ≡ false → asks cs v ≡ false → fires cs (renamed (exchange u v) s) ≡ fires cs s
+fires-renamed : (cs : Controls) (s : State) (u v : ℕ) → asks cs u ≡ false → asks cs v ≡ false → fires cs (renamed (exchange u v) s) ≡ fires cs s
 unfolding renamed
 fires-renamed cs s u v nu nv = fires-same cs (renamed (exchange u v) s) s
     (λ w m. ap s (exchange-other u v w (asked-differs cs w u m nu) (asked-differs cs w v m nv)))

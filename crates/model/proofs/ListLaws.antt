@@ -214,7 +214,7 @@ Off w l = member w (0 ∷ l) ≡ false
 pub touched-off : (rs : List Number) (a : Number) (l : List ℕ) (w : ℕ) → Off w l → w ≢ touched rs a l
 touched-off rs a l w h e = member-differs (touched rs a l) w (0 ∷ l) (touched-member rs a l) h (sym e)
 
-pub off-subset : (a b : List ℕ) → Subset a b → (w : ℕ) → Off w b → Off w a
+off-subset : (a b : List ℕ) → Subset a b → (w : ℕ) → Off w b → Off w a
 off-subset a b h w o = member-skip w 0 a (not-head w 0 b o) (subset-out a b h w (not-tail w 0 b o))
 
 pub remaining-off : (w : ℕ) (rs : List Number) (l : List ℕ) → Off w l → Off w (remaining rs l)

@@ -259,7 +259,7 @@ abbrev pub TableRead : Program → Input → Type 0
 TableRead P i = (count P ≤ mostProcedures) × Named P × (i .bytes ≡ [])
 
 -- what the reader of tables gives; a refusal is 1 to 8
-pub reads-table : (bs : List ℕ) → Reads TableRead Low (readTable bs)
+reads-table : (bs : List ℕ) → Reads TableRead Low (readTable bs)
 unfolding readTable
 reads-table [] = omega arith
 reads-table (edition ∷ []) = omega arith

@@ -80,7 +80,7 @@ AllWellFormed most [] = Unit {0}
 AllWellFormed most (g ∷ gs) = (gateIsWellFormed most g ≡ true) × AllWellFormed most gs
 
 -- the bytes of gates are read back to the gates
-pub read-all : (most : ℕ) (gs : List Gate) → AllWellFormed most gs → (rest : List ℕ) (k : ℕ) →
+read-all : (most : ℕ) (gs : List Gate) → AllWellFormed most gs → (rest : List ℕ) (k : ℕ) →
     readGates most (length gs) (left (encodeAll gs ++ rest) k) ≡ parsed gs (left rest k)
 unfolding encodeAll readGates andThen
 read-all most [] ok rest k = refl
@@ -225,7 +225,7 @@ abbrev pub GatesRead : ℕ → ℕ → Input → List Gate → Input → Type 0
 GatesRead most n i gs j = (length gs ≡ n) × AllWellFormed most gs × Spells i (encodeAll gs) j
 
 -- what the reader of gates gives
-pub reads-gates : (most n : ℕ) (i : Input) → Reads (GatesRead most n i) Anyhow (readGates most n i)
+reads-gates : (most n : ℕ) (i : Input) → Reads (GatesRead most n i) Anyhow (readGates most n i)
 unfolding readGates encodeAll
 reads-gates most zero i = (refl, tt, refl)
 reads-gates most (suc n) i =
@@ -300,7 +300,7 @@ reads-circuitOf bs short = let Q : Circuit → Input → Type 0 = CircuitRead bs
      nothing))))))))))
 
 -- what the reader of circuits gives
-pub reads-circuit : (bs : List ℕ) → Reads (CircuitRead bs) Anyhow (readCircuit bs)
+reads-circuit : (bs : List ℕ) → Reads (CircuitRead bs) Anyhow (readCircuit bs)
 unfolding readCircuit
 reads-circuit bs = reads-provided (CircuitRead bs) Anyhow (leb (length bs) mostCircuit) notWellFormed _ tt (λ short.
     reads-circuitOf bs (leb-true (length bs) mostCircuit short))

@@ -144,7 +144,7 @@ word-wire n s past (suc k) h = byLt k n
     (λ g. past-bit n (wordOf n s) k (word-below n 1 s) g ∙ sym (past (suc k) (omega arith)))
 
 -- words and blocks go by the wires that they take
-pub same-word : (n a : ℕ) (s t : State) → ((w : ℕ) → a ≤ w → s w ≡ t w) → wordFrom n a s ≡ wordFrom n a t
+same-word : (n a : ℕ) (s t : State) → ((w : ℕ) → a ≤ w → s w ≡ t w) → wordFrom n a s ≡ wordFrom n a t
 unfolding wordFrom
 same-word zero a s t h = refl
 same-word (suc n) a s t h = rw (h a (omega arith), same-word n (suc a) s t (λ w l. h w (omega arith)))

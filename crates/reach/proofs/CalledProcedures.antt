@@ -76,7 +76,7 @@ module _ (p : ℕ) where
     calls-of (as-call k at) w c = subst (λ (n : ℕ). Called n) (eqb-true k g c) w
 
   -- every call in the statement at a record is named
-  pub calls-named : (bs ix : List ℕ) (depth i g : ℕ) → calls (statementAt p bs ix depth i) g ≡ true → Called g
+  calls-named : (bs ix : List ℕ) (depth i g : ℕ) → calls (statementAt p bs ix depth i) g ≡ true → Called g
   unfolding statementAt calls
   calls-named bs ix zero i g c = absurd (false≢true c)
   calls-named bs ix (suc d) i g c = calls-of (statementAt p bs ix d) bs g (λ a. calls-named bs ix d a g) (are-parts p bs ix d i)

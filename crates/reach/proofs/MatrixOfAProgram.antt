@@ -34,7 +34,7 @@ no-calls : (f : ℕ) (m : List ℕ) (R : ℕ → ℕ → Bool) → Shows m R →
 no-calls f m R = shows-as m R (λ x y. R x y || (eqb f x && false)) (λ x y lx ly. rw (and-false (eqb f x), or-false (R x y)))
 
 -- the marks of a statement: a cell of row f is marked exactly if it was, or the statement calls its column
-pub shows-marked : (f : ℕ) (s : Statement) (m : List ℕ) (R : ℕ → ℕ → Bool) → Shows m R →
+shows-marked : (f : ℕ) (s : Statement) (m : List ℕ) (R : ℕ → ℕ → Bool) → Shows m R →
     Shows (marked f s m) (λ x y. R x y || (eqb f x && calls s y))
 unfolding marked calls
 shows-marked f skip m R h = no-calls f m R h
@@ -48,7 +48,7 @@ shows-marked f (qcase rs a s t) m R h = two-parts f s t (marked f t (marked f s 
 shows-marked f (call rs g) m R h = shows-mark m R f g h
 
 -- the rows below n marked, each for its body
-pub shows-below : (part : ℕ → Statement) (n : ℕ) (m : List ℕ) (R : ℕ → ℕ → Bool) → Shows m R →
+shows-below : (part : ℕ → Statement) (n : ℕ) (m : List ℕ) (R : ℕ → ℕ → Bool) → Shows m R →
     Shows (markedBelow part n m) (λ x y. R x y || (ltb x n && calls (part x) y))
 unfolding markedBelow
 shows-below part zero m R h = shows-as m R (λ x y. R x y || (ltb x 0 && calls (part x) y))

@@ -120,7 +120,7 @@ absorbed true false false = refl
 absorbed false d false = refl
 
 -- row f gets the marks of row v in columns below n
-pub shows-joined : (m : List ℕ) (R : ℕ → ℕ → Bool) → Shows m R → (f v : ℕ) → f ≤ mostProcedures → v ≤ mostProcedures → (n : ℕ) → n ≤ bodyCount →
+shows-joined : (m : List ℕ) (R : ℕ → ℕ → Bool) → Shows m R → (f v : ℕ) → f ≤ mostProcedures → v ≤ mostProcedures → (n : ℕ) → n ≤ bodyCount →
     Shows (joined n f v m) (λ x y. R x y || (eqb f x && (ltb y n && R v y)))
 unfolding joined
 shows-joined m R h f v lf lv zero l = shows-as m R (λ x y. R x y || (eqb f x && (ltb y 0 && R v y)))
@@ -137,7 +137,7 @@ shows-joined m R h f v lf lv (suc g) l =
       at x y e = rw (← eqb-true g y e) (not-below g, rw (not-below g, and-false (eqb f v), or-false (R v g)))
 
 -- where f reaches v, it reaches what v reaches
-pub shows-extended : (m : List ℕ) (R : ℕ → ℕ → Bool) → Shows m R → (f v : ℕ) → f ≤ mostProcedures → v ≤ mostProcedures →
+shows-extended : (m : List ℕ) (R : ℕ → ℕ → Bool) → Shows m R → (f v : ℕ) → f ≤ mostProcedures → v ≤ mostProcedures →
     Shows (extended f v m) (λ x y. R x y || (eqb f x && (R f v && R v y)))
 unfolding extended
 shows-extended m R h f v lf lv = rw (shows-mark-at m R h f v lf lv) (byBool (R f v)
@@ -146,7 +146,7 @@ shows-extended m R h f v lf lv = rw (shows-mark-at m R h f v lf lv) (byBool (R f
     (λ e. rw e (shows-as m R (λ x y. R x y || (eqb f x && false)) (λ x y lx ly. rw (and-false (eqb f x), or-false (R x y))) h)))
 
 -- the rows below n go through v: neither row v nor column v changes on the way
-pub shows-through : (m : List ℕ) (R : ℕ → ℕ → Bool) → Shows m R → (v : ℕ) → v ≤ mostProcedures → (n : ℕ) → n ≤ bodyCount →
+shows-through : (m : List ℕ) (R : ℕ → ℕ → Bool) → Shows m R → (v : ℕ) → v ≤ mostProcedures → (n : ℕ) → n ≤ bodyCount →
     Shows (through n v m) (λ x y. R x y || (ltb x n && (R x v && R v y)))
 unfolding through
 shows-through m R h v lv zero l = shows-as m R (λ x y. R x y || (ltb x 0 && (R x v && R v y)))

@@ -111,7 +111,7 @@ pub bytes-inside : (bytes : List ℕ) → IsBlock bytes → InBlock (stateIn byt
 bytes-inside bytes h = record { none = state-zero bytes; past = λ w g. state-past bytes w (rw (h .long) g) }
 
 -- and so is the state of a data word
-pub word-inside : (word : ℕ) → word < 2 ^ 64 → InBlock (stateOf word)
+word-inside : (word : ℕ) → word < 2 ^ 64 → InBlock (stateOf word)
 unfolding stateOf
 word-inside word h = record { none = refl; past = past }
   where
@@ -120,13 +120,13 @@ word-inside word h = record { none = refl; past = past }
   past (suc k) g = past-bit 64 word k h (omega arith)
 
 -- flipping a wire leaves it one of them
-pub flipped-inside : (s : State) (w : ℕ) → InBlock s → 1 ≤ w → w ≤ blockBits → InBlock (flipped w s)
+flipped-inside : (s : State) (w : ℕ) → InBlock s → 1 ≤ w → w ≤ blockBits → InBlock (flipped w s)
 flipped-inside s w h l m = record
   { none = flipped-other s w 0 (λ e. omega arith) ∙ h .none
   ; past = λ v g. flipped-other s w v (λ e. omega arith) ∙ h .past v g }
 
 -- and so does exchanging two wires
-pub exchanged-inside : (s : State) (u v : ℕ) → InBlock s → 1 ≤ u → u ≤ blockBits → 1 ≤ v → v ≤ blockBits → InBlock (renamed (exchange u v) s)
+exchanged-inside : (s : State) (u v : ℕ) → InBlock s → 1 ≤ u → u ≤ blockBits → 1 ≤ v → v ≤ blockBits → InBlock (renamed (exchange u v) s)
 exchanged-inside s u v h lu mu lv mv = record
   { none = renamed-at (exchange u v) s 0 ∙ ap s (exchange-other u v 0 (λ e. omega arith) (λ e. omega arith)) ∙ h .none
   ; past = λ w g. renamed-at (exchange u v) s w ∙ ap s (exchange-other u v w (λ e. omega arith) (λ e. omega arith)) ∙ h .past w g }
