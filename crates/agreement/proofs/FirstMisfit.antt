@@ -7,14 +7,13 @@ use native.Mathlib.Nat.{not-suc-le-zero}
 use native.Mathlib.Omega.{arith}
 use borrow.Author.Tests.{lt-ltb, le-ltb, le-leb, lt-leb}
 use lib.ListN.{length, length-append}
-use Rattle.model.specs.Limits.{mostWires, headerLength, mostCircuit, manyWires, noRoom}
+use Rattle.model.specs.Limits.{mostWires, manyWires, noRoom}
 use Rattle.model.specs.Syntax.{Program}
 use Rattle.model.specs.Gates.{Gate}
 use Rattle.model.specs.Emission.{Event, takes, places, frees, emission, gates, peak}
 use Rattle.model.specs.Circuit.{encode, encodeAll}
 use Rattle.model.specs.Answers.{fit}
 use Rattle.model.proofs.BooleanLaws.{byLt, not-zero}
-use Rattle.model.proofs.RoundTrip.{encodeAll-length}
 use Rattle.agreement.proofs.AncillaStack.{highest, peak-highest}
 
 -- "at the first ancilla or gate that does not fit": k is its refusal, where `used` bytes of the room are filled
@@ -114,12 +113,4 @@ pub fits-wires : (P : Program) (n room used : ℕ) → n ≤ mostWires → fit r
 fits-wires P n room used le e =
     let p = peak-highest P n in
     let h = highest-fits n room used (emission P n) le (fit-all room used (emission P n) e) in
-    omega arith
-
--- four bytes count the gates of an emission that fits, since each gate takes two bytes or more
-fits-count : (room : ℕ) (es : List Event) → headerLength ≤ room → room ≤ mostCircuit → fit room headerLength es ≡ 0 →
-    length (gates es) < 4294967296
-fits-count room es le small e =
-    let a = fits-length room headerLength es le (fit-all room headerLength es e) in
-    let b = encodeAll-length (gates es) in
     omega arith
