@@ -1,6 +1,18 @@
--- Sizes of what the code keeps. Document 01 names none of them; each follows from its limits.
+-- Numbers that the code needs beside document 01's limits and refusals: of the form of a table, and the sizes of what the code keeps, each of which
+-- follows from the limits.
 use Prim.Native.Nat.{ℕ, _+_, _-_, _*_, _^_}
 use Rattle.model.specs.Limits.{mostProcedures, mostRecords, mostDepth, mostQubits, mostWires, blockLength}
+
+-- "Kinds: 0 skip; .. 5 call, procedure; 6 a > b; .. 11 not, one condition": kinds from 6 on are conditions
+abbrev pub kindCount : ℕ
+kindCount = 12
+
+abbrev pub firstCondition : ℕ
+firstCondition = 6
+
+-- "a signed 16-bit constant": the greatest
+abbrev pub mostConstant : ℕ
+mostConstant = 32767
 
 -- the bodies of a table: main and each procedure
 abbrev pub bodyCount : ℕ

@@ -2,16 +2,16 @@
 ghost use mathlib.Core.Path.{_≡_};
 ghost use mathlib.Core.List.{[], _∷_};
 ghost use Rattle.model.specs.Limits.{
-  tableEdition, mostProcedures, mostRecords, mostDepth, mostRemovals, kindCount, firstCondition, mostConstant, mostQubits, mostWires,
-  circuitEdition, headerLength, mostCircuit, blockLength, leastWorkspace,
+  tableEdition, mostProcedures, mostRecords, mostDepth, mostRemovals, mostQubits, mostWires, circuitEdition, headerLength, mostCircuit,
+  blockLength, leastWorkspace,
 };
 ghost use Rattle.model.specs.Limits.{
   tableStops, wrongEdition, manyProcedures, wrongKind, wrongMap, wrongField, tooDeep, bytesLeft, wrongQubits, noRemoval, tooWide,
   accessFault, highBit, notWellFormed, shortWorkspace, manyWires, noRoom,
 };
 ghost use Rattle.limits.specs.Sizes.{
-  bodyCount, matrixLength, lengthCount, rowCount, endsAt, rootsAt, indexLength, placeCount, mostControls, slotLength,
-  mostCalls,
+  bodyCount, matrixLength, lengthCount, rowCount, endsAt, rootsAt, indexLength, placeCount, mostControls, slotLength, mostCalls, kindCount,
+  firstCondition, mostConstant,
 };
 
 // "Byte 0 is the edition, 1." "Byte 1 is p, the number of procedures, 0 to 16."

@@ -15,17 +15,6 @@ mostRecords = 255
 abbrev pub mostDepth : ℕ
 mostDepth = 32
 
--- "Kinds: 0 skip; .. 5 call, procedure; 6 a > b; .. 11 not, one condition": kinds from 6 on are conditions
-abbrev pub kindCount : ℕ
-kindCount = 12
-
-abbrev pub firstCondition : ℕ
-firstCondition = 6
-
--- "a signed 16-bit constant": the greatest
-abbrev pub mostConstant : ℕ
-mostConstant = 32767
-
 -- "removals: a count byte 1 to 8"
 abbrev pub mostRemovals : ℕ
 mostRemovals = 8

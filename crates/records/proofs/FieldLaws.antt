@@ -15,8 +15,7 @@ use mir.Val.{Fits, SFits, toZ, ofZ}
 use mir.Facts.{toZ-pos, toZ-ofZ}
 use types.Run.{OneOf, miss}
 use denote.Enum.Declared.{tagOf}
-use Rattle.limits.specs.Sizes.{placeCount}
-use Rattle.model.specs.Limits.{kindCount}
+use Rattle.limits.specs.Sizes.{placeCount, kindCount}
 use Rattle.model.specs.Reading.{permittedMaps, signed16, requiredMap, optionalMap, permitted, stands}
 use Rattle.model.proofs.BooleanLaws.{and-left, and-right}
 use Rattle.records.proofs.Answer.{the-type}

@@ -9,8 +9,8 @@ use borrow.Author.Tests.{lt-ltb, le-ltb, le-leb, lt-leb, ne-eqb, eqb-true}
 use lib.ListN.{length}
 use lib.Dec.{eqb}
 use lib.IntN.{ℤ}
-use Rattle.limits.specs.Sizes.{placeCount}
-use Rattle.model.specs.Limits.{tableStops, wrongField, mostRemovals, kindCount}
+use Rattle.limits.specs.Sizes.{placeCount, kindCount}
+use Rattle.model.specs.Limits.{tableStops, wrongField, mostRemovals}
 use Rattle.model.specs.Reading as model
 use Rattle.model.specs.Reading.{Input, inputAt, Parsed, parsed, refused, andThen, provided, byte, number, numbers, removals, procedure}
 use Rattle.model.specs.Reading.{permitted, stands, Fields, optional, fields}

@@ -7,8 +7,8 @@ use mathlib.Core.List.{List, [], _∷_}
 use lib.ListN.{length, getD}
 use lib.Dec.{ltb, leb, eqb}
 use lib.IntN.{ℤ, pos}
-use Rattle.limits.specs.Sizes.{placeCount}
-use Rattle.model.specs.Limits.{mostRemovals, tableStops, wrongField, kindCount}
+use Rattle.limits.specs.Sizes.{placeCount, kindCount}
+use Rattle.model.specs.Limits.{mostRemovals, tableStops, wrongField}
 use Rattle.model.specs.Syntax as syntax
 use Rattle.model.specs.Reading.{inputAt, Parsed, parsed, refused, signed16, requiredMap, permitted, stands, Fields, fields}
 use Rattle.records.specs.declared.Number.{Number}

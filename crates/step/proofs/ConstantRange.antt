@@ -8,7 +8,7 @@ use borrow.Author.Tests.{ltb-true, le-ltb}
 use lib.Dec.{ltb}
 use lib.IntN.{pos}
 use lib.Signed.{ltZ}
-use Rattle.model.specs.Limits.{mostConstant}
+use Rattle.limits.specs.Sizes.{mostConstant}
 use Rattle.model.specs.Reading.{signed16}
 use Rattle.model.specs.Lists.{value}
 use Rattle.model.proofs.BooleanLaws.{byBool}

@@ -10,7 +10,7 @@ use lib.Signed.{ltZ, leZ, mag, nonNeg}
 use mir.Syntax.{w32, w64}
 use mir.Val.{Fits, SFits, toZ, ofZ}
 use mir.Facts.{toZ-ofZ, toZ-pos, fits-natAbs}
-use Rattle.model.specs.Limits.{mostConstant}
+use Rattle.limits.specs.Sizes.{mostConstant}
 use Rattle.model.proofs.BooleanLaws.{byEq, byLt, eqb-same}
 use Rattle.records.specs.declared.Number.{Number}
 use Rattle.records.specs.declared.Number.the-variants.{Constant, SizePlus}

@@ -11,7 +11,8 @@ use lib.IntN.{ℤ, pos, negsuc}
 use mir.Syntax.{w32}
 use mir.Val.{SFits, toZ, ofZ}
 use mir.Facts.{toZ-ofZ}
-use Rattle.model.specs.Limits.{mostConstant, mostQubits}
+use Rattle.limits.specs.Sizes.{mostConstant}
+use Rattle.model.specs.Limits.{mostQubits}
 use Rattle.model.specs.Lists.{value, position, entry, remove, removeAll, remaining}
 use Rattle.model.proofs.BooleanLaws.{byLt}
 use Rattle.model.proofs.ListLaws.{remaining-no-longer, take-again}

@@ -6,7 +6,7 @@ use lib.ListN.{length, take}
 use lib.IntN.{ℤ, pos, _+ℤ_}
 use lib.Dec.{ltb}
 use lib.Signed.{ltZ, leZ}
-use Rattle.model.specs.Limits.{mostConstant}
+use Rattle.limits.specs.Sizes.{mostConstant}
 use Rattle.model.specs.Lists.{value, position, touched}
 use Rattle.records.specs.declared.Number.{Number}
 use Rattle.records.specs.declared.Number.the-variants as base

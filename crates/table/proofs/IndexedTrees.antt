@@ -10,8 +10,8 @@ use mathlib.Core.Option.{Option, none, some}
 use borrow.Author.Tests.{lt-ltb, le-ltb, le-leb, lt-leb, ltb-true, ltb-false}
 use lib.Dec.{ltb}
 use lib.ListN.{length, getElem?}
-use Rattle.limits.specs.Sizes.{endsAt, indexLength, placeCount}
-use Rattle.model.specs.Limits.{mostRecords, kindCount, firstCondition, tooDeep, tableStops, wrongKind, wrongMap}
+use Rattle.limits.specs.Sizes.{endsAt, indexLength, placeCount, kindCount, firstCondition}
+use Rattle.model.specs.Limits.{mostRecords, tooDeep, tableStops, wrongKind, wrongMap}
 use Rattle.model.specs.Syntax.{Condition, conjunction, disjunction, Statement, sequence, if, qcase}
 use Rattle.model.specs.Reading as model
 use Rattle.model.specs.Reading.{Input, inputAt, Parsed, parsed, refused, andThen, provided, Fields, known, opening, contents, permitted, stands, two}

@@ -10,8 +10,8 @@ use borrow.Author.Tests.{lt-ltb, le-ltb, not-true, not-false}
 use lib.Dec.{ltb}
 use lib.ListN.{length, getD, set, List·getD-eq-default}
 use types.Run.{miss}
-use Rattle.limits.specs.Sizes.{endsAt, rootsAt, indexLength, placeCount}
-use Rattle.model.specs.Limits.{mostRecords, mostDepth, kindCount, firstCondition, tableStops, wrongKind, wrongMap, tooDeep}
+use Rattle.limits.specs.Sizes.{endsAt, rootsAt, indexLength, placeCount, kindCount, firstCondition}
+use Rattle.model.specs.Limits.{mostRecords, mostDepth, tableStops, wrongKind, wrongMap, tooDeep}
 use Rattle.model.proofs.BooleanLaws.{byEq}
 use Rattle.model.specs.Reading.{permitted, stands}
 use Rattle.records.proofs.FieldLaws.{Among, bytes-there, bytes-lack}

@@ -4,8 +4,8 @@ use mathlib.Core.Bool.{Bool, true, false, cond}
 use mathlib.Core.List.{List, [], _∷_}
 use lib.ListN.{length, getD, set}
 use lib.Dec.{ltb, leb}
-use Rattle.limits.specs.Sizes.{endsAt, rootsAt, indexLength, placeCount}
-use Rattle.model.specs.Limits.{mostRecords, mostDepth, tableStops, wrongKind, wrongMap, tooDeep, kindCount, firstCondition}
+use Rattle.limits.specs.Sizes.{endsAt, rootsAt, indexLength, placeCount, kindCount, firstCondition}
+use Rattle.model.specs.Limits.{mostRecords, mostDepth, tableStops, wrongKind, wrongMap, tooDeep}
 use Rattle.model.specs.Reading.{permitted, stands}
 use Rattle.records.specs.declared.Answer.{Answer}
 use Rattle.records.specs.declared.Answer.the-variants as field
