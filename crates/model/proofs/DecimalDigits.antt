@@ -5,12 +5,8 @@ use Prim.Native.Nat.{ℕ, zero, suc, _+_, _*_, _-_, _/_, _%_, _≤_, _<_}
 use native.Mathlib.Omega.{arith}
 use borrow.Author.Tests.{lt-ltb, le-ltb}
 use Rattle.model.specs.Listing.{digitZero, digitsWithin, decimal}
+use Rattle.model.specs.Page.{spelled}
 use Rattle.model.proofs.BooleanLaws.{byLt}
-
--- the number that a row of digits spells behind a number
-unfoldable pub spelled : ℕ → List ℕ → ℕ
-spelled k [] = k
-spelled k (d ∷ ds) = spelled (10 * k + (d - digitZero)) ds
 
 spelled-append : (k : ℕ) (ds es : List ℕ) → spelled k (ds ++ es) ≡ spelled (spelled k ds) es
 unfolding spelled

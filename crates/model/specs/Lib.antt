@@ -13,4 +13,5 @@ pub mod Bound
 pub mod Answers
 pub mod Demand
 pub mod Listing
+pub mod Page
 pub mod Examples

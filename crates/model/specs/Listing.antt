@@ -82,9 +82,12 @@ abbrev pub firstLine : ℕ → ℕ → ℕ → List ℕ
 firstLine n ancillas size = decimal n ++ (space ∷ (decimal ancillas ++ (space ∷ (decimal size ++ (newline ∷ [])))))
 
 -- "A refusal prints its number alone."
+abbrev pub refusalLine : ℕ → List ℕ
+refusalLine k = decimal k ++ (newline ∷ [])
+
 unfoldable pub listed : Outcome Circuit → List ℕ
 listed (gives c) = firstLine (c .dataWires) (c .ancillas) (size c) ++ gateLines 1 (c .gates)
-listed (refuses k) = decimal k ++ (newline ∷ [])
+listed (refuses k) = refusalLine k
 
 -- "reads the byte n and then a table .., and lends compile a room of 65,536 bytes"
 abbrev pub listingOf : ℕ → List ℕ → List ℕ
