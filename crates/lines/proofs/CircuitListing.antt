@@ -13,7 +13,7 @@ use Rattle.model.specs.Reading.{Input, Parsed, parsed, refused}
 use Rattle.model.specs.Gates.{Gate}
 use Rattle.model.specs.Circuit.{Circuit, readGate, readCircuit, fourBytes, encodeAll, write}
 use Rattle.model.specs.Answers.{Outcome, gives, refuses, wellFormed, circuitRead}
-use Rattle.model.specs.Listing.{gateLine, gateLines, firstLine, listed}
+use Rattle.model.specs.Listing.{gateLine, gateLines, firstLine, refusalLine, listed}
 use Rattle.model.proofs.RoundTrip.{AllWellFormed, left, read-encode, write-circuitRead}
 use Rattle.circuit.specs.GatesInBytes.{inputAt, settled, gateIn, gateParsed}
 use Rattle.answers.specs.Structs.{headerOf}
@@ -22,9 +22,9 @@ use Rattle.circuit.specs.declared.GateAt.{GateAt}
 use Rattle.circuit.specs.declared.GateRead.{GateRead}
 use Rattle.circuit.specs.declared.GateRead.the-variants.{Found, NoGate}
 use Rattle.circuit.proofs.GateReading.{settled-parsed}
-use Rattle.lines.specs.AppendedBytes.{Written, written, puts}
+use Rattle.text.specs.AppendedBytes.{Written, written, puts}
 use Rattle.lines.specs.ListingRows.{lineThen, linesRead}
-use Rattle.lines.proofs.AppendLaws.{put-after, put-then}
+use Rattle.text.proofs.AppendLaws.{put-after, put-then}
 
 -- the line of the next gate, then the others
 lines-more : (most k left : ℕ) (i : Input) → 0 < left →
@@ -90,8 +90,8 @@ gates-after bs c e = rw (← e)
 -- the ways out of `list_circuit`
 module _ (bs : List ℕ) (h : CircuitHeader) (is : h ≡ headerOf (circuitRead bs)) where
   pub list-refused : (h .number ≡ 0 → ⊥) → (text end : List ℕ) (at last : ℕ) →
-      written end last ≡ puts (listed (refuses (h .number))) text at → written end last ≡ puts (listed (circuitRead bs)) text at
-  unfolding headerOf
+      written end last ≡ puts (refusalLine (h .number)) text at → written end last ≡ puts (listed (circuitRead bs)) text at
+  unfolding headerOf listed
   list-refused f text end at last p = go (circuitRead bs) is
     where
       go : (o : Outcome Circuit) → h ≡ headerOf o → written end last ≡ puts (listed o) text at

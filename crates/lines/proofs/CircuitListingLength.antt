@@ -15,7 +15,7 @@ use Rattle.model.specs.Answers.{gives, refuses, wellFormed, circuitRead}
 use Rattle.model.specs.Listing.{decimal, hyphens, placed, controlText, actionText, gateLine, gateLines, listed}
 use Rattle.model.proofs.BooleanLaws.{byLt, and-left, and-right}
 use Rattle.model.proofs.RoundTrip.{WellFormed, AllWellFormed, formed, encodeAll-length, write-length, write-circuitRead}
-use Rattle.lines.proofs.DecimalText.{decimal-low, decimal-high}
+use Rattle.text.proofs.DecimalText.{decimal-low, decimal-high}
 
 -- ten times a number has one digit more
 longer : (most d : ℕ) → 1 ≤ d → ((j : ℕ) → j < most → length (decimal j) ≤ d) → (k : ℕ) → k < 10 * most → length (decimal k) ≤ suc d

@@ -13,9 +13,9 @@ use Rattle.model.proofs.BooleanLaws.{byLt}
 use Rattle.model.proofs.ListLaws.{drop-front}
 use Rattle.circuit.specs.GatesInBytes.{part}
 use Rattle.circuit.proofs.LoopsOverWires.{part-step, part-none, part-past}
-use Rattle.lines.specs.AppendedBytes.{Written, written, puts}
+use Rattle.text.specs.AppendedBytes.{Written, written, puts}
 use Rattle.lines.specs.ListingRows.{lower}
-use Rattle.lines.proofs.AppendLaws.{put-after}
+use Rattle.text.proofs.AppendLaws.{put-after}
 
 -- what the loop of `put_hyphens` keeps: all the hyphens are those that are left, behind those that were put
 module _ (bs text : List ℕ) (next left place : ℕ) (whole : Written) (inv : whole ≡ puts (hyphens (part bs next left)) text place) where

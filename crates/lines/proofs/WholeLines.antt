@@ -7,13 +7,12 @@ use borrow.Author.Needs.{needs}
 use borrow.Author.Tests.{not-true, not-false}
 use Rattle.model.specs.Gates.{Controls}
 use Rattle.model.specs.Circuit.{controlsOf}
-use Rattle.model.specs.Answers.{refuses}
-use Rattle.model.specs.Listing.{decimal, letterX, letterS, space, newline, actionText, controlText, gateLine, firstLine, listed}
+use Rattle.model.specs.Listing.{decimal, letterX, letterS, space, newline, actionText, controlText, gateLine, firstLine}
 use Rattle.circuit.specs.GatesInBytes.{listIn, controlsIn, gateWith, gateIn}
 use Rattle.circuit.specs.declared.GateAt.{GateAt}
-use Rattle.lines.specs.AppendedBytes.{written, puts}
+use Rattle.text.specs.AppendedBytes.{written, puts}
 use Rattle.lines.specs.ListingRows.{actionWith}
-use Rattle.lines.proofs.AppendLaws.{put-then, put-next}
+use Rattle.text.proofs.AppendLaws.{put-then, put-next}
 
 -- the ways out of `put_action`
 module _ (swaps : Bool) (target second : ℕ) (text one two : List ℕ) (at first next : ℕ) where
@@ -43,7 +42,7 @@ unfolding controlsOf
 controls-are true cs u v = refl
 controls-are false cs u v = refl
 
--- what `gate_line`, `first_line` and `refusal_line` leave
+-- what `gate_line` and `first_line` leave
 pub gate-put : (bs : List ℕ) (g : GateAt) (k : ℕ) (text one two three four end : List ℕ) (at a b c d last : ℕ) →
     written one a ≡ puts (decimal k) text at → written two b ≡ puts (space ∷ []) one a →
     written three c ≡ puts (actionWith (g .swaps) (g .target) (g .second)) two b →
@@ -67,9 +66,4 @@ first-put n ancillas size text one two three end at a b c last p q r s =
     (put-then (space ∷ decimal ancillas) ((space ∷ decimal size) ++ (newline ∷ [])) one two end a b last q
     (put-then (space ∷ decimal size) (newline ∷ []) two three end b c last r s))
 
-pub refusal-put : (k : ℕ) (text one end : List ℕ) (at a last : ℕ) → written one a ≡ puts (decimal k) text at →
-    written end last ≡ puts (newline ∷ []) one a → written end last ≡ puts (listed (refuses k)) text at
-unfolding listed
-refusal-put k text one end at a last p q = put-then (decimal k) (newline ∷ []) text one end at a last p q
-
-pub ruleset lining = (needs, gate-put, first-put, refusal-put)
+pub ruleset lining = (needs, gate-put, first-put)

@@ -1,2 +1,1 @@
-pub mod AppendedBytes
 pub mod ListingRows

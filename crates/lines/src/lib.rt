@@ -2,10 +2,10 @@
 // bytes and gives the place behind them; where the text ends, it stops.
 ghost use mathlib.Core.Path.{_≡_};
 ghost use mathlib.Core.List.{[], _∷_, _++_};
-ghost use Rattle.model.specs.Answers.{circuitRead, refuses};
+ghost use Rattle.model.specs.Answers.{circuitRead};
 ghost use Rattle.model.specs.Listing.{space, plus, decimal, signed, hyphens, controlText, gateLine, firstLine, listed};
 ghost use Rattle.circuit.specs.GatesInBytes.{part, inputAt, listIn, gateIn};
-ghost use Rattle.lines.specs.AppendedBytes.{written, puts};
+ghost use Rattle.text.specs.AppendedBytes.{written, puts};
 ghost use Rattle.lines.specs.ListingRows.{lower, actionWith, linesRead};
 use circuit::GateAt;
 use circuit::GateRead;
@@ -13,28 +13,9 @@ use circuit::WireList;
 use circuit::read_circuit;
 use circuit::read_gate;
 use limits::HEADER_LENGTH;
-
-// One byte.
-fn put(text: &mut [u8], at: usize, byte: u8) -> usize
-    ensures { λ r. ⌜ written (now (text .exit)) r ≡ puts (byte ∷ []) (now (text .entry)) at ⌝ }
-{
-    if text.len() <= at {
-        return at;
-    }
-    text[at] = byte;
-    at + 1
-}
-
-// The decimal digits of a number, the highest first.
-fn put_decimal(text: &mut [u8], at: usize, number: u64) -> usize
-    ensures { λ r. ⌜ written (now (text .exit)) r ≡ puts (decimal number) (now (text .entry)) at ⌝ }
-{
-    if number < 10 {
-        return put(text, at, 48 + number as u8);
-    }
-    let next = put_decimal(text, at, number / 10);
-    put(text, next, 48 + (number % 10) as u8)
-}
+use text::put;
+use text::put_decimal;
+use text::refusal_line;
 
 // A space and a number.
 fn put_spaced(text: &mut [u8], at: usize, number: u64) -> usize
@@ -171,14 +152,6 @@ fn first_line(text: &mut [u8], at: usize, n: u32, ancillas: u32, size: u32) -> u
     let ancillas_end = put_spaced(text, n_end, ancillas as u64);
     let size_end = put_spaced(text, ancillas_end, size as u64);
     put(text, size_end, b'\n')
-}
-
-// "A refusal prints its number alone."
-pub fn refusal_line(text: &mut [u8], at: usize, number: u32) -> usize
-    ensures { λ r. ⌜ written (now (text .exit)) r ≡ puts (listed (refuses number)) (now (text .entry)) at ⌝ }
-{
-    let number_end = put_decimal(text, at, number as u64);
-    put(text, number_end, b'\n')
 }
 
 // The lines of `count` gates from a place of the circuit on, numbered from 1, as far as they are gates over wires 1 to `most`.

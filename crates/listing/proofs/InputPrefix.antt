@@ -11,7 +11,7 @@ use Rattle.model.specs.Answers.{accepted, compile}
 use Rattle.model.specs.Listing.{listing}
 use Rattle.model.proofs.BooleanLaws.{byLt}
 use Rattle.model.proofs.ReadingLaws.{lookedAt, read-long}
-use Rattle.listing.specs.Inputs.{BeginsWith}
+use Rattle.text.specs.Inputs.{BeginsWith}
 
 -- the byte n, then as much of a table as is ever looked at
 abbrev pub mostInput : ℕ

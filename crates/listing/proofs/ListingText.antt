@@ -8,16 +8,16 @@ use lib.ListN.{length, getD, take, drop, length-append}
 use lib.Seq.{take-all, take-append-seam, length-take-le}
 use Rattle.model.specs.Limits.{mostCircuit, leastWorkspace}
 use Rattle.model.specs.Answers.{Outcome, gives, refuses, after, number, valueOr, compile, roomAfter, circuitRead}
-use Rattle.model.specs.Listing.{listed, listingOf, listing}
+use Rattle.model.specs.Listing.{refusalLine, listed, listingOf, listing}
 use Rattle.model.proofs.Acceptance.{Numbered, compile-numbered}
 use Rattle.compile.specs.declared.Compiled.{Compiled}
 use Rattle.compile.specs.Passes.{compiledOf}
 use Rattle.compile.specs.AnswerAndRoom.{answered, answeredOf}
 use Rattle.compile.proofs.CompileAnswer.{answer-halves}
 use Rattle.io.specs.Counts.{Counts}
-use Rattle.lines.specs.AppendedBytes.{written, puts}
-use Rattle.lines.proofs.AppendLaws.{puts-whole}
-use Rattle.listing.specs.Inputs.{BeginsWith}
+use Rattle.text.specs.AppendedBytes.{written, puts}
+use Rattle.text.proofs.AppendLaws.{puts-whole}
+use Rattle.text.specs.Inputs.{BeginsWith}
 use Rattle.listing.proofs.InputPrefix.{mostInput, listing-read}
 use Rattle.listing.proofs.ListingLength.{mostText, listing-fits}
 
@@ -45,9 +45,9 @@ module _ (bs room ws : List ℕ) (n : ℕ) (r : Compiled) (room₁ : List ℕ)
   answer = let e : answered r room₁ ≡ answeredOf o room = rw (long, enough) at is in answer-halves o room e
 
   module _ (text end : List ℕ) (last : ℕ) where
-    pub table-refused : (r .number ≡ 0 → ⊥) → written end last ≡ puts (listed (refuses (r .number))) text 0 →
+    pub table-refused : (r .number ≡ 0 → ⊥) → written end last ≡ puts (refusalLine (r .number)) text 0 →
         written end last ≡ puts (listingOf n bs) text 0
-    unfolding after number
+    unfolding after number listed
     table-refused f p = go o (answer .0)
       where
         go : (x : Outcome (List ℕ)) → r ≡ compiledOf x → written end last ≡ puts (listed (after x circuitRead)) text 0

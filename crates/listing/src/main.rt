@@ -8,14 +8,14 @@ ghost use Rattle.model.specs.Limits.{mostCircuit};
 ghost use Rattle.model.specs.Answers.{circuitRead};
 ghost use Rattle.model.specs.Listing.{listed, listingOf, listing};
 ghost use Rattle.io.specs.Counts.{Counts};
-ghost use Rattle.lines.specs.AppendedBytes.{written, puts};
-ghost use Rattle.listing.specs.Inputs.{BeginsWith};
+ghost use Rattle.text.specs.AppendedBytes.{written, puts};
+ghost use Rattle.text.specs.Inputs.{BeginsWith};
 use compile::compile;
 use libc::STDIN_FILENO;
 use libc::STDOUT_FILENO;
 use limits::{LEAST_WORKSPACE, MOST_CIRCUIT, MOST_RECORDS, MOST_REMOVALS};
 use lines::list_circuit;
-use lines::refusal_line;
+use text::refusal_line;
 
 // A line has at most six bytes for each byte of its gate, so no listing is longer than this.
 const TEXT_LENGTH: usize = 6 * MOST_CIRCUIT;

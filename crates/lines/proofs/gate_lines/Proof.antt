@@ -3,7 +3,7 @@ use Prim.Native.Nat.{_+_}
 use mathlib.Core.Path.{_≡_}
 use lib.ListN.{length}
 use Rattle.circuit.specs.GatesInBytes.{inputAt}
-use Rattle.lines.specs.AppendedBytes.{puts}
+use Rattle.text.specs.AppendedBytes.{puts}
 use Rattle.lines.specs.ListingRows.{linesRead}
 use borrow.Author.Needs.{needs}
 use Rattle.lines.proofs.CircuitListing.{gating}

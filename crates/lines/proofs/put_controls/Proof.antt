@@ -4,7 +4,7 @@ use mathlib.Core.Path.{_≡_}
 use lib.ListN.{length}
 use Rattle.model.specs.Listing.{controlText}
 use Rattle.circuit.specs.GatesInBytes.{part}
-use Rattle.lines.specs.AppendedBytes.{puts}
+use Rattle.text.specs.AppendedBytes.{puts}
 use borrow.Author.Needs.{needs}
 use Rattle.lines.proofs.ControlText.{controlling}
 use Rattle.lines.proofs.put_controls.Statement.{statement}

@@ -1,6 +1,6 @@
 -- `put_placed` meets its contract.
 use borrow.Author.Needs.{needs}
-use Rattle.lines.proofs.AppendLaws.{putting}
+use Rattle.text.proofs.AppendLaws.{putting}
 use Rattle.lines.proofs.put_placed.Statement.{statement}
 use Rattle.lines.proofs.put_placed.Tie as tie
 

@@ -1,6 +1,6 @@
 -- `put_spaced` meets its contract.
 use borrow.Author.Needs.{needs}
-use Rattle.lines.proofs.AppendLaws.{putting}
+use Rattle.text.proofs.AppendLaws.{putting}
 use Rattle.lines.proofs.put_spaced.Statement.{statement}
 use Rattle.lines.proofs.put_spaced.Tie as tie
 

@@ -1,8 +1,8 @@
 -- `put` meets its contract.
 use borrow.Author.Needs.{needs}
-use Rattle.lines.proofs.AppendLaws.{putting}
-use Rattle.lines.proofs.put.Statement.{statement}
-use Rattle.lines.proofs.put.Tie as tie
+use Rattle.text.proofs.AppendLaws.{putting}
+use Rattle.text.proofs.put.Statement.{statement}
+use Rattle.text.proofs.put.Tie as tie
 
 pub put-spec : {M : Type 1} → statement M
 put-spec = tie.close (tie.spec

@@ -10,7 +10,7 @@ use borrow.Author.Tests.{lt-ltb, le-ltb}
 use lib.ListN.{length, drop, set, length-set}
 use lib.Seq.{sets, sets-eq}
 use Rattle.model.proofs.BooleanLaws.{byLt}
-use Rattle.lines.specs.AppendedBytes.{Written, written, puts}
+use Rattle.text.specs.AppendedBytes.{Written, written, puts}
 
 -- a byte where the text reaches, and nothing behind its end
 puts-cons : (b : ℕ) (bytes text : List ℕ) (at : ℕ) → at < length text → puts (b ∷ bytes) text at ≡ puts bytes (set text at b) (suc at)

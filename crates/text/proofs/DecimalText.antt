@@ -7,8 +7,8 @@ use borrow.Author.Needs.{needs}
 use Rattle.model.specs.Listing.{digitZero, digitsWithin, decimal}
 use Rattle.model.proofs.BooleanLaws.{byLt}
 use Rattle.model.proofs.DecimalDigits.{digits-one, digits-more}
-use Rattle.lines.specs.AppendedBytes.{written, puts}
-use Rattle.lines.proofs.AppendLaws.{put-then}
+use Rattle.text.specs.AppendedBytes.{written, puts}
+use Rattle.text.proofs.AppendLaws.{put-then}
 
 -- more places than digits change nothing
 digits-enough : (most more k : ℕ) → k < most → k < more → digitsWithin most k ≡ digitsWithin more k

@@ -1,0 +1,2 @@
+pub mod AppendedBytes
+pub mod Inputs

@@ -1,0 +1,36 @@
+// Bytes put into a text one behind the other: what the listing and the page are made of. Each function takes the place from which it puts its
+// bytes and gives the place behind them; where the text ends, it stops.
+ghost use mathlib.Core.Path.{_≡_};
+ghost use mathlib.Core.List.{[], _∷_};
+ghost use Rattle.model.specs.Listing.{decimal, refusalLine};
+ghost use Rattle.text.specs.AppendedBytes.{written, puts};
+
+// One byte.
+pub fn put(text: &mut [u8], at: usize, byte: u8) -> usize
+    ensures { λ r. ⌜ written (now (text .exit)) r ≡ puts (byte ∷ []) (now (text .entry)) at ⌝ }
+{
+    if text.len() <= at {
+        return at;
+    }
+    text[at] = byte;
+    at + 1
+}
+
+// The decimal digits of a number, the highest first.
+pub fn put_decimal(text: &mut [u8], at: usize, number: u64) -> usize
+    ensures { λ r. ⌜ written (now (text .exit)) r ≡ puts (decimal number) (now (text .entry)) at ⌝ }
+{
+    if number < 10 {
+        return put(text, at, 48 + number as u8);
+    }
+    let next = put_decimal(text, at, number / 10);
+    put(text, next, 48 + (number % 10) as u8)
+}
+
+// "A refusal prints its number alone."
+pub fn refusal_line(text: &mut [u8], at: usize, number: u32) -> usize
+    ensures { λ r. ⌜ written (now (text .exit)) r ≡ puts (refusalLine number) (now (text .entry)) at ⌝ }
+{
+    let number_end = put_decimal(text, at, number as u64);
+    put(text, number_end, b'\n')
+}
