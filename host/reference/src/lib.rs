@@ -1,9 +1,10 @@
-//! A second interpreter of FOQ tables, written from document 01 alone.
+//! A second interpreter of FOQ tables, written from documents 01 and 02 alone.
 //!
-//! It is slow and plain on purpose. Its modules follow the order of the
-//! document: the program table, its meaning, access faults, calls and width,
-//! the emission, the circuit, the refusals with their order, and the listing.
-//! Words in quotation marks in the comments are the document's own.
+//! It is slow and plain on purpose. Its modules follow the order of document
+//! 01: the program table, its meaning, access faults, calls and width, the
+//! emission, the circuit, the refusals with their order, and the listing. Of
+//! document 02 there is the page of a circuit (S-1), which is also read again.
+//! Words in quotation marks in the comments are the documents' own.
 
 #![deny(clippy::unwrap_used, clippy::expect_used, clippy::panic)]
 
@@ -16,6 +17,7 @@ mod fault;
 mod listing;
 mod meaning;
 mod operations;
+mod page;
 
 pub mod refusal;
 
@@ -28,4 +30,5 @@ pub use emission::{emission, Emission, Tally};
 pub use listing::listing;
 pub use meaning::{holds, remaining};
 pub use operations::{compile, plain_verdict, run, verdict, SHORTEST_WORKSPACE};
+pub use page::{gates_on, page};
 pub use table::{read_table, Condition, Number, Program, Statement};
