@@ -7,9 +7,11 @@ use Rattle.model.specs.Limits.{success, blockLength}
 use Rattle.model.specs.Circuit.{Circuit}
 use Rattle.model.specs.Answers.{Outcome, gives, refuses, after, Block}
 use Rattle.model.specs.Demand.{Demand3}
+use Rattle.model.specs.Page.{Band}
 use Rattle.answers.specs.declared.Answer.{Answer}
 use Rattle.answers.specs.declared.CircuitHeader.{CircuitHeader}
 use Rattle.answers.specs.declared.CircuitBlock.{CircuitBlock}
+use Rattle.answers.specs.declared.PageBand.{PageBand}
 
 -- "Success is number 0; run adds the end word"
 unfoldable pub answerOf : Outcome ℕ → Answer
@@ -42,3 +44,11 @@ refusedBlock k = record { number = k; «data» = 0; ancillas = 0; bits = replica
 unfoldable pub blockAnswer : Outcome Block → CircuitBlock
 blockAnswer (gives b) = givenBlock (b .dataWires) (b .ancillas) (b .bits)
 blockAnswer (refuses k) = refusedBlock k
+
+-- one band of a page: its length, and the place of the next
+abbrev pub refusedBand : ℕ → PageBand
+refusedBand k = record { number = k; length = 0; next = 0 }
+
+unfoldable pub bandAnswer : Outcome Band → PageBand
+bandAnswer (gives b) = record { number = success; length = length (b .text); next = b .next }
+bandAnswer (refuses k) = refusedBand k

@@ -1,4 +1,4 @@
-// The answers that C gets. What each says is `answerOf`, `lengthAnswer`, `headerOf` and `blockAnswer` in specs/Structs.antt. This crate has no function.
+// The answers that C gets. What each says is `answerOf`, `lengthAnswer`, `headerOf`, `blockAnswer` and `bandAnswer` in specs/Structs.antt. This crate has no function.
 use limits::BLOCK_LENGTH;
 
 // A number, and beside 0 the value: a run's end word, or the length of what was written into a room.
@@ -24,4 +24,12 @@ pub struct CircuitBlock {
     pub data: u8,
     pub ancillas: u8,
     pub bits: [u8; BLOCK_LENGTH],
+}
+
+// One band of a circuit's page: its length, and the place where the next band begins, 0 behind the last; or a refusal's number and zeros.
+#[repr(C)]
+pub struct PageBand {
+    pub number: u32,
+    pub length: u64,
+    pub next: u64,
 }

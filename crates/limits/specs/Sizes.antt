@@ -2,6 +2,7 @@
 -- follows from the limits.
 use Prim.Native.Nat.{ℕ, _+_, _-_, _*_, _^_}
 use Rattle.model.specs.Limits.{mostProcedures, mostRecords, mostDepth, mostQubits, mostWires, blockLength}
+use Rattle.model.specs.Page.{numberColumns, bandGates}
 
 -- "Kinds: 0 skip; .. 5 call, procedure; 6 a > b; .. 11 not, one condition": kinds from 6 on are conditions
 abbrev pub kindCount : ℕ
@@ -68,3 +69,15 @@ mostCalls = 2 ^ 16 - 1
 -- the wires whose bits stand in a block
 abbrev pub blockBits : ℕ
 blockBits = 8 * blockLength
+
+-- "nineteen gates fill a line of 80": the wire number's columns and four for each gate
+abbrev pub lineColumns : ℕ
+lineColumns = numberColumns + 4 * bandGates
+
+-- the longest band of a page: a line and its newline for each wire
+abbrev pub mostBand : ℕ
+mostBand = mostWires * (lineColumns + 1)
+
+-- the marks of a band as the code keeps them: a column for each gate, a byte for each number of a wire
+abbrev pub marksLength : ℕ
+marksLength = bandGates * wireCount

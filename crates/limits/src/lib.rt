@@ -9,9 +9,10 @@ ghost use Rattle.model.specs.Limits.{
   tableStops, wrongEdition, manyProcedures, wrongKind, wrongMap, wrongField, tooDeep, bytesLeft, wrongQubits, noRemoval, tooWide,
   accessFault, highBit, notWellFormed, shortWorkspace, manyWires, noRoom,
 };
+ghost use Rattle.model.specs.Page.{bandGates};
 ghost use Rattle.limits.specs.Sizes.{
   bodyCount, matrixLength, lengthCount, rowCount, endsAt, rootsAt, indexLength, placeCount, mostControls, slotLength, mostCalls, kindCount,
-  firstCondition, mostConstant,
+  firstCondition, mostConstant, wireCount, marksLength, lineColumns, mostBand,
 };
 
 // "Byte 0 is the edition, 1." "Byte 1 is p, the number of procedures, 0 to 16."
@@ -138,6 +139,20 @@ pub const SLOT_LENGTH: usize = 2 + LIST_LENGTH;
 // The calls of a body are counted in 16 bits, and no further.
 pub const MOST_CALLS: u16 = 65535;
 
+// "nineteen gates fill a line of 80"
+pub const BAND_GATES: u8 = 19;
+
+pub const LINE_COLUMNS: usize = 80;
+
+// The longest band of a page: a line and its newline for each wire.
+pub const MOST_BAND: usize = MOST_WIRES as usize * (LINE_COLUMNS + 1);
+
+// The numbers of wires, 0 among them, which is none.
+pub const WIRE_COUNT: usize = MOST_WIRES as usize + 1;
+
+// The marks of a band: a column for each gate, a byte for each number of a wire.
+pub const MARKS_LENGTH: usize = BAND_GATES as usize * WIRE_COUNT;
+
 // Each limit is the definition's.
 fn limits() -> [usize; 15]
     ensures {
@@ -173,4 +188,11 @@ fn sizes() -> [usize; 11]
     }
 {
     [BODY_COUNT, MATRIX_LENGTH, LENGTH_COUNT, ROW_COUNT, ENDS_AT, ROOTS_AT, INDEX_LENGTH, PLACE_COUNT, CONTROLS_LENGTH, SLOT_LENGTH, MOST_CALLS as usize]
+}
+
+// So is each number of a page.
+fn page_sizes() -> [usize; 5]
+    ensures { λ r. ⌜ r ≡ bandGates ∷ lineColumns ∷ mostBand ∷ wireCount ∷ marksLength ∷ [] ⌝ }
+{
+    [BAND_GATES as usize, LINE_COLUMNS, MOST_BAND, WIRE_COUNT, MARKS_LENGTH]
 }
