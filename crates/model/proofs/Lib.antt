@@ -13,4 +13,5 @@ pub mod ReadingLaws
 pub mod Acceptance
 pub mod RoundTrip
 pub mod DecimalDigits
+pub mod PageBands
 pub mod WorkedPrograms
