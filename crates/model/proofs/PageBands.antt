@@ -51,3 +51,50 @@ reads-band most (suc k) i = byEq (length (i .bytes)) 0
 -- a band has no more gates than were asked for
 pub band-most : (most k : ℕ) (i : Input) (gs : List Gate) (j : Input) → readBand most k i ≡ parsed gs j → length gs ≤ k
 band-most most k i gs j e = (rw e at (reads-band most k i)) .0
+
+-- Going on behind a band.
+
+-- nothing is left: there is no next place
+place-end : (bytes : List ℕ) (i : Input) → length (i .bytes) ≡ 0 → placeOf bytes i ≡ 0
+place-end bytes i e = rw (eq-eqb (length (i .bytes)) 0 e, placeOf)
+
+-- bytes are left: the next place is where they begin
+place-left : (bytes : List ℕ) (i : Input) → (length (i .bytes) ≡ 0 → ⊥) → placeOf bytes i ≡ length bytes - length (i .bytes)
+place-left bytes i n = rw (ne-eqb (length (i .bytes)) 0 n, placeOf)
+
+-- behind a band's gates, the next place is behind the first of them and before the end
+place-advances : (bytes : List ℕ) (at k : ℕ) (gs : List Gate) (j : Input) → 0 < k → BandRead k (inputAt bytes at 0) gs j →
+    (placeOf bytes j ≡ 0 → ⊥) → (at < placeOf bytes j) × (placeOf bytes j < length bytes)
+place-advances bytes at k gs j one r goes = byEq (length (j .bytes)) 0
+    (λ e. absurd (goes (place-end bytes j e)))
+    (λ n.
+      let from : length (drop at bytes) ≡ length bytes - at = length-drop at bytes in
+      let whole : length (drop at bytes) ≡ length (encodeAll gs) + length (j .bytes) = ap length (r .1) ∙ length-append (encodeAll gs) (j .bytes) in
+      let some : 0 < length gs = r .2 one (omega arith) in
+      let pairs = encodeAll-length gs in
+      rw (place-left bytes j n) (omega arith))
+
+-- of a band that is drawn: the place of the next one
+drawn-advances : (bytes : List ℕ) (most at k : ℕ) (x : Parsed (List Gate)) (b : Band) → 0 < k → Reads (BandRead k (inputAt bytes at 0)) Anyhow x →
+    drawn bytes most x ≡ gives b → (b .next ≡ 0 → ⊥) → (at < b .next) × (b .next < length bytes)
+unfolding drawn
+drawn-advances bytes most at k (parsed gs j) b one r e goes =
+    let is : placeOf bytes j ≡ b .next = ap (λ (c : Band). c .next) (gives-same e) in
+    rw is at (place-advances bytes at k gs j one r (rw is goes))
+drawn-advances bytes most at k (refused n) b one r e goes = not-both e
+
+-- the same of the band at a place
+band-advances : (bytes : List ℕ) (at : ℕ) (b : Band) → bandAt bytes at ≡ gives b → (b .next ≡ 0 → ⊥) → (at < b .next) × (b .next < length bytes)
+band-advances bytes at b e goes =
+    let most = headerWires bytes in
+    let x = readBand most bandGates (inputAt bytes at 0) in
+    drawn-advances bytes most at bandGates x b (omega arith) (reads-band most bandGates (inputAt bytes at 0))
+      (required (leb most mostWires) notWellFormed (drawn bytes most x) e .1) goes
+
+-- whatever the bytes and the place: a band that is not the last one says a later place, and it lies before the end
+pub next-advances : (bytes : List ℕ) (at : ℕ) (b : Band) → pageBand bytes at ≡ gives b → (b .next ≡ 0 → ⊥) → (at < b .next) × (b .next < length bytes)
+unfolding pageBand
+next-advances bytes zero b e goes =
+    let on = band-advances bytes headerLength b (gave _ _ e .then-is) goes in
+    (omega (arith, on .0), on .1)
+next-advances bytes (suc k) b e goes = band-advances bytes (suc k) b (required _ notWellFormed (bandAt bytes (suc k)) e .1) goes
