@@ -4,16 +4,17 @@ use mathlib.Core.Path.{_≡_, refl, sym, ap, _∙_}
 use mathlib.Core.List.{List, [], _∷_, _++_, append-assoc}
 use Prim.Native.Nat.{ℕ, zero, suc, _+_, _*_, _-_, _≤_, _<_, zero-le, suc-le-suc}
 use native.Mathlib.Omega.{arith}
-use borrow.Author.Tests.{eq-eqb, ne-eqb}
+use borrow.Author.Tests.{eq-eqb, ne-eqb, lt-leb}
 use lib.ListN.{length, take, drop, length-append, length-drop}
+use lib.Seq.{length-take-le, take-all}
 use lib.Dec.{leb}
 use Rattle.model.specs.Limits.{mostWires, mostCircuit, headerLength, notWellFormed}
-use Rattle.model.specs.Reading.{Input, inputAt, Parsed, parsed, refused, andThen}
+use Rattle.model.specs.Reading.{Input, inputAt, Parsed, parsed, refused, andThen, provided}
 use Rattle.model.specs.Gates.{Gate}
-use Rattle.model.specs.Circuit.{encode, encodeAll, readGate}
-use Rattle.model.specs.Answers.{gives, refuses}
-use Rattle.model.specs.Page.{Band, bandGates, band, readBand, placeOf, drawn, headerWires, bandAt, pageBand}
-use Rattle.model.proofs.BooleanLaws.{byEq}
+use Rattle.model.specs.Circuit.{encode, encodeAll, readGate, readCircuit}
+use Rattle.model.specs.Answers.{gives, refuses, after, require, wellFormed, circuitRead}
+use Rattle.model.specs.Page.{Band, bandGates, band, readBand, placeOf, drawn, headerWires, bandAt, pageBand, paged, pageOf}
+use Rattle.model.proofs.BooleanLaws.{byEq, byLt}
 use Rattle.model.proofs.OutcomeLaws.{not-both, gives-same, required, gave}
 use Rattle.model.proofs.ReadingLaws.{Reads, reads-then, Anyhow}
 use Rattle.model.proofs.RoundTrip.{Spells, GateRead, reads-gate, encodeAll-length}
@@ -98,3 +99,33 @@ next-advances bytes zero b e goes =
     let on = band-advances bytes headerLength b (gave _ _ e .then-is) goes in
     (omega (arith, on .0), on .1)
 next-advances bytes (suc k) b e goes = band-advances bytes (suc k) b (required _ notWellFormed (bandAt bytes (suc k)) e .1) goes
+
+-- Enough of an input.
+
+-- an input that is too long is no circuit
+long-read : (bytes : List ℕ) → mostCircuit < length bytes → circuitRead bytes ≡ refuses notWellFormed
+unfolding wellFormed readCircuit provided
+long-read bytes h = rw (lt-leb (length bytes) mostCircuit h)
+
+-- and has no band, at any place
+long-band : (bytes : List ℕ) (at : ℕ) → mostCircuit < length bytes → pageBand bytes at ≡ refuses notWellFormed
+unfolding pageBand after require
+long-band bytes zero h = rw (long-read bytes h)
+long-band bytes (suc k) h = rw (lt-leb (length bytes) mostCircuit h)
+
+-- the first bytes are the whole input, or they are too long as the whole input is
+enough-cases : (whole : List ℕ) (P : List ℕ → List ℕ → Type 0) → P whole whole →
+    ((bytes : List ℕ) → mostCircuit < length bytes → mostCircuit < length whole → P bytes whole) → P (take (suc mostCircuit) whole) whole
+enough-cases whole P same long = byLt mostCircuit (length whole)
+    (λ h. long (take (suc mostCircuit) whole) (rw (length-take-le (suc mostCircuit) whole h) (omega arith)) h)
+    (λ h. rw (take-all (suc mostCircuit) whole (omega arith)) same)
+
+-- one byte more than a circuit may have is enough to know every band
+pub enough-read : (whole : List ℕ) (at : ℕ) → pageBand (take (suc mostCircuit) whole) at ≡ pageBand whole at
+enough-read whole at = enough-cases whole (λ a b. pageBand a at ≡ pageBand b at) refl
+    (λ bytes h l. long-band bytes at h ∙ sym (long-band whole at l))
+
+-- and the page
+pub enough-read-page : (whole : List ℕ) → pageOf (take (suc mostCircuit) whole) ≡ pageOf whole
+enough-read-page whole = enough-cases whole (λ a b. pageOf a ≡ pageOf b) refl
+    (λ bytes h l. ap paged (long-read bytes h ∙ sym (long-read whole l)))
