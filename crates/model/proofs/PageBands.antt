@@ -4,20 +4,20 @@ use mathlib.Core.Path.{_≡_, refl, sym, ap, _∙_}
 use mathlib.Core.List.{List, [], _∷_, _++_, append-assoc}
 use Prim.Native.Nat.{ℕ, zero, suc, _+_, _*_, _-_, _≤_, _<_, zero-le, suc-le-suc}
 use native.Mathlib.Omega.{arith}
-use borrow.Author.Tests.{eq-eqb, ne-eqb, lt-leb}
+use borrow.Author.Tests.{eq-eqb, ne-eqb, le-leb, lt-leb, lt-ltb}
 use lib.ListN.{length, take, drop, length-append, length-drop}
 use lib.Seq.{length-take-le, take-all}
 use lib.Dec.{leb}
 use Rattle.model.specs.Limits.{mostWires, mostCircuit, headerLength, notWellFormed}
 use Rattle.model.specs.Reading.{Input, inputAt, Parsed, parsed, refused, andThen, provided}
 use Rattle.model.specs.Gates.{Gate}
-use Rattle.model.specs.Circuit.{encode, encodeAll, readGate, readCircuit}
+use Rattle.model.specs.Circuit.{Circuit, encode, encodeAll, readGate, readCircuit}
 use Rattle.model.specs.Answers.{gives, refuses, after, require, wellFormed, circuitRead}
 use Rattle.model.specs.Page.{Band, bandGates, band, readBand, placeOf, drawn, headerWires, bandAt, pageBand, paged, pageOf}
 use Rattle.model.proofs.BooleanLaws.{byEq, byLt}
 use Rattle.model.proofs.OutcomeLaws.{not-both, gives-same, required, gave}
 use Rattle.model.proofs.ReadingLaws.{Reads, reads-then, Anyhow}
-use Rattle.model.proofs.RoundTrip.{Spells, GateRead, reads-gate, encodeAll-length}
+use Rattle.model.proofs.RoundTrip.{left, AllWellFormed, read-encode, encode-length, encodeAll-length, Spells, GateRead, reads-gate}
 
 -- The reader of a band.
 
@@ -129,3 +129,69 @@ enough-read whole at = enough-cases whole (λ a b. pageBand a at ≡ pageBand b 
 pub enough-read-page : (whole : List ℕ) → pageOf (take (suc mostCircuit) whole) ≡ pageOf whole
 enough-read-page whole = enough-cases whole (λ a b. pageOf a ≡ pageOf b) refl
     (λ bytes h l. ap paged (long-read bytes h ∙ sym (long-read whole l)))
+
+-- What is no circuit.
+
+-- the first band of what is no circuit is its refusal
+pub page-refused : (bytes : List ℕ) (k : ℕ) → circuitRead bytes ≡ refuses k → pageBand bytes 0 ≡ refuses k
+unfolding pageBand after
+page-refused bytes k e = rw e
+
+-- and that is 14
+pub refused-number : (bytes : List ℕ) (k : ℕ) → circuitRead bytes ≡ refuses k → k ≡ notWellFormed
+unfolding wellFormed
+refused-number bytes k e = go (readCircuit bytes) e
+  where
+    go : (x : Parsed Circuit) → wellFormed x ≡ refuses k → k ≡ notWellFormed
+    go (parsed c i) e = not-both (sym e)
+    go (refused n) e = cc
+
+-- The bands of a circuit.
+
+-- gates that are taken and those that are left have the bytes of all of them
+encodeAll-parts : (k : ℕ) (gs : List Gate) → encodeAll gs ≡ encodeAll (take k gs) ++ encodeAll (drop k gs)
+unfolding encodeAll
+encodeAll-parts zero gs = refl
+encodeAll-parts (suc k) [] = refl
+encodeAll-parts (suc k) (g ∷ gs) =
+    ap (λ l. encode g ++ l) (encodeAll-parts k gs) ∙ sym (append-assoc (encode g) (encodeAll (take k gs)) (encodeAll (drop k gs)))
+
+-- the gates that are left are well formed as all are
+drop-wellFormed : (most k : ℕ) (gs : List Gate) → AllWellFormed most gs → AllWellFormed most (drop k gs)
+drop-wellFormed most zero gs ok = ok
+drop-wellFormed most (suc k) [] ok = ok
+drop-wellFormed most (suc k) (g ∷ gs) ok = drop-wellFormed most k gs (ok .1)
+
+-- from the bytes of gates, the reader of a band reads as many of them as it may
+band-back : (most k : ℕ) (gs : List Gate) → AllWellFormed most gs →
+    readBand most k (left (encodeAll gs) 0) ≡ parsed (take k gs) (left (encodeAll (drop k gs)) 0)
+unfolding readBand encodeAll andThen
+band-back most zero gs ok = refl
+band-back most (suc k) [] ok = refl
+band-back most (suc k) (g ∷ gs) ok =
+    let bytes = left (encode g ++ encodeAll gs) 0 in
+    let some : 2 ≤ length (encode g) = encode-length g in
+    let both = length-append (encode g) (encodeAll gs) in
+    rw (band-gate most k bytes (λ z. absurd (omega arith)), read-encode most g (ok .0) (encodeAll gs) 0) (rw (band-back most k gs (ok .1)))
+
+-- the bands that follow one another from a place on, put together
+pub data Drawn (bytes : List ℕ) : ℕ → List ℕ → Type 0 where
+  last : (at : ℕ) (b : Band) → pageBand bytes at ≡ gives b → b .next ≡ 0 → Drawn bytes at (b .text)
+  more : (at : ℕ) (b : Band) (rest : List ℕ) → pageBand bytes at ≡ gives b → at < b .next → Drawn bytes (b .next) rest → Drawn bytes at (b .text ++ rest)
+
+-- some bytes over wires 1 to `most`, no more of either than there may be
+module _ (bytes : List ℕ) (most : ℕ) (wires : headerWires bytes ≡ most) (few : most ≤ mostWires) (short : length bytes ≤ mostCircuit) where
+  -- the band at a place behind which the bytes of gates stand
+  abbrev bandOf : List Gate → Band
+  bandOf gs = record { text = band most (take bandGates gs); next = placeOf bytes (left (encodeAll (drop bandGates gs)) 0) }
+
+  -- is the band of the first of these gates
+  band-is : (at : ℕ) (gs : List Gate) → AllWellFormed most gs → drop at bytes ≡ encodeAll gs → bandAt bytes at ≡ gives (bandOf gs)
+  unfolding require drawn
+  band-is at gs ok e = rw (wires, le-leb most mostWires few, e, band-back most bandGates gs ok)
+
+  -- a place behind the first gate and before the end asks for its own band
+  asks-band : (at : ℕ) → headerLength < at → at < length bytes → pageBand bytes at ≡ bandAt bytes at
+  unfolding pageBand require
+  asks-band zero h l = absurd (omega arith)
+  asks-band (suc k) h l = rw (le-leb (length bytes) mostCircuit short, lt-ltb headerLength (suc k) h, lt-ltb (suc k) (length bytes) l)
