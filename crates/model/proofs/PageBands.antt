@@ -1,23 +1,24 @@
 -- The page of a circuit one band at a time: what the reader of a band gives, that every band but the last one goes on behind itself, and how much of an input
 -- is enough to know its page.
 use mathlib.Core.Path.{_≡_, refl, sym, ap, _∙_}
-use mathlib.Core.List.{List, [], _∷_, _++_, append-assoc}
-use Prim.Native.Nat.{ℕ, zero, suc, _+_, _*_, _-_, _≤_, _<_, zero-le, suc-le-suc}
+use mathlib.Core.List.{List, [], _∷_, _++_, append-assoc, append-nil}
+use Prim.Native.Nat.{ℕ, zero, suc, _+_, _-_, _/_, _≤_, _<_, zero-le, suc-le-suc}
 use native.Mathlib.Omega.{arith}
 use borrow.Author.Tests.{eq-eqb, ne-eqb, le-leb, lt-leb, lt-ltb}
-use lib.ListN.{length, take, drop, length-append, length-drop}
-use lib.Seq.{length-take-le, take-all}
+use lib.ListN.{length, take, drop, length-append, length-drop, drop-of-length-le}
+use lib.Seq.{length-take-le, take-all, drop-append-seam, drop-drop}
 use lib.Dec.{leb}
 use Rattle.model.specs.Limits.{mostWires, mostCircuit, headerLength, notWellFormed}
 use Rattle.model.specs.Reading.{Input, inputAt, Parsed, parsed, refused, andThen, provided}
 use Rattle.model.specs.Gates.{Gate}
-use Rattle.model.specs.Circuit.{Circuit, encode, encodeAll, readGate, readCircuit}
+use Rattle.model.specs.Circuit.{Circuit, encode, encodeAll, fourBytes, write, readGate, readCircuit}
 use Rattle.model.specs.Answers.{gives, refuses, after, require, wellFormed, circuitRead}
-use Rattle.model.specs.Page.{Band, bandGates, band, readBand, placeOf, drawn, headerWires, bandAt, pageBand, paged, pageOf}
+use Rattle.model.specs.Page.{bandGates, band, bands, page, paged, pageOf, Band, readBand, placeOf, drawn, headerWires, bandAt, pageBand}
 use Rattle.model.proofs.BooleanLaws.{byEq, byLt}
 use Rattle.model.proofs.OutcomeLaws.{not-both, gives-same, required, gave}
 use Rattle.model.proofs.ReadingLaws.{Reads, reads-then, Anyhow}
-use Rattle.model.proofs.RoundTrip.{left, AllWellFormed, read-encode, encode-length, encodeAll-length, Spells, GateRead, reads-gate}
+use Rattle.model.proofs.RoundTrip.{left, AllWellFormed, read-encode, encode-length, encodeAll-length, Spells, GateRead, reads-gate, Bytes}
+use Rattle.model.proofs.RoundTrip.{write-circuitRead}
 
 -- The reader of a band.
 
@@ -195,3 +196,61 @@ module _ (bytes : List ℕ) (most : ℕ) (wires : headerWires bytes ≡ most) (f
   unfolding pageBand require
   asks-band zero h l = absurd (omega arith)
   asks-band (suc k) h l = rw (le-leb (length bytes) mostCircuit short, lt-ltb headerLength (suc k) h, lt-ltb (suc k) (length bytes) l)
+
+  -- of gates that do not fill more than a band nothing is left
+  next-none : (gs : List Gate) → length gs ≤ bandGates → bandOf gs .next ≡ 0
+  unfolding encodeAll
+  next-none gs h = rw (drop-of-length-le gs h)
+
+  -- where gates are left behind a band, the next place is where they stand
+  next-some : (place : ℕ) (gs : List Gate) → bandGates < length gs → drop place bytes ≡ encodeAll gs →
+      (place < bandOf gs .next) × (bandOf gs .next < length bytes) × (drop (bandOf gs .next) bytes ≡ encodeAll (drop bandGates gs))
+  next-some place gs full e =
+      let first = encodeAll (take bandGates gs) in
+      let others = encodeAll (drop bandGates gs) in
+      let taken = length-take-le bandGates gs (omega arith) in
+      let dropped = length-drop bandGates gs in
+      let pairs₁ = encodeAll-length (take bandGates gs) in
+      let pairs₂ = encodeAll-length (drop bandGates gs) in
+      let from : length (drop place bytes) ≡ length bytes - place = length-drop place bytes in
+      let parts : drop place bytes ≡ first ++ others = e ∙ encodeAll-parts bandGates gs in
+      let whole : length (drop place bytes) ≡ length first + length others = ap length parts ∙ length-append first others in
+      let is : bandOf gs .next ≡ place + length first = place-left bytes (left others 0) (λ z. absurd (omega arith)) ∙ omega arith in
+      rw is (omega arith, omega arith, sym (drop-drop (length first) place bytes) ∙ ap (drop (length first)) parts ∙ drop-append-seam first others)
+
+  -- asked at a place from which the bytes of gates stand, and then at each next place, the bands of these gates are drawn
+  bands-drawn : (k : ℕ) (gs : List Gate) → k ≡ (length gs - 1) / bandGates → AllWellFormed most gs →
+      (at place : ℕ) → at ≤ place → headerLength ≤ place → pageBand bytes at ≡ bandAt bytes place → drop place bytes ≡ encodeAll gs →
+      Drawn bytes at (bands most (suc k) gs)
+  unfolding bands
+  bands-drawn zero gs count ok at place before behind asks e =
+      rw (append-nil (band most (take bandGates gs)))
+      (last at (bandOf gs) (asks ∙ band-is place gs ok e) (next-none gs (omega arith)))
+  bands-drawn (suc k) gs count ok at place before behind asks e =
+      let next : ℕ = bandOf gs .next in
+      let others : List Gate = drop bandGates gs in
+      let dropped = length-drop bandGates gs in
+      let on = next-some place gs (omega arith) e in
+      let later : place < next = on .0 in
+      more at (bandOf gs) (bands most (suc k) others) (asks ∙ band-is place gs ok e) (omega arith)
+        (bands-drawn k others (omega arith) (drop-wellFormed most bandGates gs ok) next next (omega arith) (omega arith)
+          (asks-band next (omega arith) (on .1)) (on .2))
+
+-- the wires that a circuit's header says
+wires-are : (c : Circuit) → headerWires (write c) ≡ c .dataWires + c .ancillas
+unfolding write
+wires-are c = refl
+
+-- behind its header a circuit's bytes are its gates
+gates-behind : (c : Circuit) → drop headerLength (write c) ≡ encodeAll (c .gates)
+unfolding write fourBytes
+gates-behind c = refl
+
+-- The bands make up the page: asked from place 0 on, and then at each next place until that is 0.
+pub page-drawn : (bytes : List ℕ) (c : Circuit) → Bytes bytes → circuitRead bytes ≡ gives c → Drawn bytes 0 (page c)
+unfolding pageBand after page
+page-drawn bytes c ok e =
+    let w = write-circuitRead bytes e in
+    let is : bytes ≡ write c = sym (w .1 ok) in
+    bands-drawn bytes (c .dataWires + c .ancillas) (rw is (wires-are c)) (w .0 .few-wires) (rw is (w .0 .short))
+      ((length (c .gates) - 1) / bandGates) (c .gates) refl (w .0 .all-gates) 0 headerLength (omega arith) (omega arith) (rw e) (rw is (gates-behind c))
