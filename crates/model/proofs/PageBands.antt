@@ -1,5 +1,5 @@
--- The page of a circuit one band at a time: what the reader of a band gives, that every band but the last one goes on behind itself, and how much of an input
--- is enough to know its page.
+-- The page of a circuit one band at a time: its bands make up the page, each but the last one says where the next one's gates stand, and how much of an input
+-- is enough to know them.
 use mathlib.Core.Path.{_≡_, refl, sym, ap, _∙_}
 use mathlib.Core.List.{List, [], _∷_, _++_, append-assoc, append-nil}
 use Prim.Native.Nat.{ℕ, zero, suc, _+_, _-_, _/_, _≤_, _<_, zero-le, suc-le-suc}
@@ -28,13 +28,14 @@ unfolding readBand
 band-end most zero i e = refl
 band-end most (suc k) i e = rw (eq-eqb (length (i .bytes)) 0 e, readBand)
 
--- and reads a gate, then others, where one is left
+-- and reads a gate, then others, where a byte is left
 band-gate : (most k : ℕ) (i : Input) → (length (i .bytes) ≡ 0 → ⊥) →
     readBand most (suc k) i ≡ andThen (readGate most i) (λ g j. andThen (readBand most k j) (λ gs l. parsed (g ∷ gs) l))
 unfolding readBand
 band-gate most k i n = rw (ne-eqb (length (i .bytes)) 0 n, readBand)
 
--- of the gates of a band that was read: they are no more than asked for, their bytes are those that were read, and there is one where one may be and a byte is left
+-- of the gates of a band that was read: they are no more than asked for, their bytes are those that were read, and there is one where one may be read and
+-- a byte stands
 abbrev BandRead : ℕ → Input → List Gate → Input → Type 0
 BandRead k i gs j = (length gs ≤ k) × Spells i (encodeAll gs) j × (0 < k → 0 < length (i .bytes) → 0 < length gs)
 
@@ -182,16 +183,16 @@ pub data Drawn (bytes : List ℕ) : ℕ → List ℕ → Type 0 where
 
 -- some bytes over wires 1 to `most`, no more of either than there may be
 module _ (bytes : List ℕ) (most : ℕ) (wires : headerWires bytes ≡ most) (few : most ≤ mostWires) (short : length bytes ≤ mostCircuit) where
-  -- the band at a place behind which the bytes of gates stand
+  -- the band of the first of some gates, and the place of those behind it
   abbrev bandOf : List Gate → Band
   bandOf gs = record { text = band most (take bandGates gs); next = placeOf bytes (left (encodeAll (drop bandGates gs)) 0) }
 
-  -- is the band of the first of these gates
+  -- it is the band at the place from which their bytes stand
   band-is : (at : ℕ) (gs : List Gate) → AllWellFormed most gs → drop at bytes ≡ encodeAll gs → bandAt bytes at ≡ gives (bandOf gs)
   unfolding require drawn
   band-is at gs ok e = rw (wires, le-leb most mostWires few, e, band-back most bandGates gs ok)
 
-  -- a place behind the first gate and before the end asks for its own band
+  -- a later place, before the end, asks for the band of the gates that stand from it on
   asks-band : (at : ℕ) → headerLength < at → at < length bytes → pageBand bytes at ≡ bandAt bytes at
   unfolding pageBand require
   asks-band zero h l = absurd (omega arith)
@@ -218,7 +219,7 @@ module _ (bytes : List ℕ) (most : ℕ) (wires : headerWires bytes ≡ most) (f
       let is : bandOf gs .next ≡ place + length first = place-left bytes (left others 0) (λ z. absurd (omega arith)) ∙ omega arith in
       rw is (omega arith, omega arith, sym (drop-drop (length first) place bytes) ∙ ap (drop (length first)) parts ∙ drop-append-seam first others)
 
-  -- asked at a place from which the bytes of gates stand, and then at each next place, the bands of these gates are drawn
+  -- the bands of gates are drawn by asking at a place that gives the band where their bytes begin (0 for the first band of all), then at each next place
   bands-drawn : (k : ℕ) (gs : List Gate) → k ≡ (length gs - 1) / bandGates → AllWellFormed most gs →
       (at place : ℕ) → at ≤ place → headerLength ≤ place → pageBand bytes at ≡ bandAt bytes place → drop place bytes ≡ encodeAll gs →
       Drawn bytes at (bands most (suc k) gs)
