@@ -146,9 +146,12 @@ unfoldable pub pageBand : List ℕ → ℕ → Outcome Band
 pageBand bytes zero = after (circuitRead bytes) (λ c. bandAt bytes headerLength)
 pageBand bytes (suc k) = require (leb (length bytes) mostCircuit && ltb headerLength (suc k) && ltb (suc k) (length bytes)) notWellFormed (bandAt bytes (suc k))
 
--- a text lent for a band: it takes the whole band, its rest unchanged, or nothing where it is too short
+-- a lent text takes all the bytes, its rest unchanged, or nothing where it is too short for them
+abbrev pub lentAfter : List ℕ → List ℕ → List ℕ
+lentAfter bytes text = elim (leb (length bytes) (length text)) [ true ↦ bytes ++ drop (length bytes) text | false ↦ text ]
+
 unfoldable pub textAfter : Outcome Band → List ℕ → List ℕ
-textAfter (gives b) text = elim (leb (length (b .text)) (length text)) [ true ↦ b .text ++ drop (length (b .text)) text | false ↦ text ]
+textAfter (gives b) text = lentAfter (b .text) text
 textAfter (refuses k) text = text
 
 -- Reading: "Reading the marks off the page gives the gates that went in, in order."

@@ -1,6 +1,6 @@
 -- The marks of a band as the code keeps them: a column for each gate, a byte for each number of a wire. That what is kept there are the marks of the gates is
 -- `band-kept` in proofs/KeptMarks.antt.
-use Prim.Native.Nat.{ℕ, zero, suc, _+_, _-_, _*_, min, max}
+use Prim.Native.Nat.{ℕ, zero, suc, _+_, _-_, _*_}
 use mathlib.Core.Bool.{true, false}
 use mathlib.Core.List.{List, [], _∷_}
 use lib.ListN.{length, set}
@@ -13,9 +13,9 @@ use Rattle.model.specs.Circuit.{wires, controlsOf, readGate}
 use Rattle.model.specs.Listing.{plus}
 use Rattle.model.specs.Page.{bar, letterO, targets, letter, lowest, highest}
 use Rattle.circuit.specs.GatesInBytes.{inputAt}
-use Rattle.bands.specs.declared.Span.{Span}
-use Rattle.bands.specs.declared.BandRead.{BandRead}
-use Rattle.bands.specs.declared.BandRead.the-variants.{Gates, NoBand}
+use Rattle.marks.specs.declared.Span.{Span}
+use Rattle.marks.specs.declared.BandRead.{BandRead}
+use Rattle.marks.specs.declared.BandRead.the-variants.{Gates, NoBand}
 
 -- the outermost of a wire and others
 abbrev pub spanFrom : ℕ → ℕ → List ℕ → Span
