@@ -14,4 +14,5 @@ pub mod Acceptance
 pub mod RoundTrip
 pub mod DecimalDigits
 pub mod PageBands
+pub mod PageShape
 pub mod WorkedPrograms
