@@ -14,5 +14,6 @@ pub mod Acceptance
 pub mod RoundTrip
 pub mod DecimalDigits
 pub mod PageBands
+pub mod PageLines
 pub mod PageShape
 pub mod WorkedPrograms
