@@ -16,4 +16,5 @@ pub mod DecimalDigits
 pub mod PageBands
 pub mod PageLines
 pub mod PageShape
+pub mod PageMarks
 pub mod WorkedPrograms

@@ -66,12 +66,23 @@ unfolding letter
 letter-no-newline (flip cs t) = omega arith
 letter-no-newline (swap cs u v) = omega arith
 
-mark-no-newline : (g : Gate) (w : ℕ) → mark g w ≢ newline
+-- a mark is one of five, each in its case
+pub mark-cases : (g : Gate) (w : ℕ) (P : ℕ → Type 0) →
+    (member w (targets g) ≡ true → P (letter g)) →
+    (member w (targets g) ≡ false → member w (controlsOf g .ones) ≡ true → P plus) →
+    (member w (targets g) ≡ false → member w (controlsOf g .ones) ≡ false → member w (controlsOf g .zeros) ≡ true → P letterO) →
+    (member w (targets g) ≡ false → member w (controlsOf g .ones) ≡ false → member w (controlsOf g .zeros) ≡ false → P bar × P dash) →
+    P (mark g w)
 unfolding mark
-mark-no-newline g w = byBool (member w (targets g)) (λ a. rw (a, mark) (letter-no-newline g)) (λ a.
-    byBool (member w (controlsOf g .ones)) (λ b. rw (a, b, mark) (omega arith)) (λ b.
-    byBool (member w (controlsOf g .zeros)) (λ c. rw (a, b, c, mark) (omega arith)) (λ c.
-    byBool (between (wires g) w) (λ d. rw (a, b, c, d, mark) (omega arith)) (λ d. rw (a, b, c, d, mark) (omega arith)))))
+mark-cases g w P target one none other =
+    byBool (member w (targets g)) (λ a. rw (a, mark) (target a)) (λ a.
+    byBool (member w (controlsOf g .ones)) (λ b. rw (a, b, mark) (one a b)) (λ b.
+    byBool (member w (controlsOf g .zeros)) (λ c. rw (a, b, c, mark) (none a b c)) (λ c.
+    byBool (between (wires g) w) (λ d. rw (a, b, c, d, mark) (other a b c .0)) (λ d. rw (a, b, c, d, mark) (other a b c .1)))))
+
+mark-no-newline : (g : Gate) (w : ℕ) → mark g w ≢ newline
+mark-no-newline g w = mark-cases g w (λ m. m ≢ newline) (λ a. letter-no-newline g) (λ a b. omega arith) (λ a b c. omega arith)
+    (λ a b c. (omega arith, omega arith))
 
 marks-no-newline : (gs : List Gate) (w : ℕ) → NoNewline (marks gs w)
 unfolding marks
