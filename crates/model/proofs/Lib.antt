@@ -17,4 +17,5 @@ pub mod PageBands
 pub mod PageLines
 pub mod PageShape
 pub mod PageMarks
+pub mod PageReadBack
 pub mod WorkedPrograms
