@@ -10,17 +10,18 @@ use lib.ListN.{length, take, drop, replicate}
 use Rattle.model.specs.Lists.{member, range}
 use Rattle.model.specs.Gates.{Gate, flip, swap}
 use Rattle.model.specs.Circuit.{wires, controlsOf}
-use Rattle.model.specs.Listing.{newline, space, plus, letterS, letterX, digitZero, digitsWithin, decimal}
-use Rattle.model.specs.Page.{bar, dash, letterO, numberColumns, bandGates, targets, letter, between, mark, marks, rightAligned, row, rows, band, bands}
+use Rattle.model.specs.Listing.{newline, space, plus, digitZero, digitsWithin, decimal}
+use Rattle.model.specs.Page.{bar, dash, letterO, numberColumns, bandGates, targets, letter, between, mark, marks, rightAligned, row, rows, bands}
 use Rattle.model.specs.Page.{onFirst, linesOf}
 use Rattle.model.proofs.BooleanLaws.{byBool, byLt}
 use Rattle.model.proofs.DecimalDigits.{digits-one, digits-more}
 
 -- no byte of a text is a newline
-abbrev pub NoNewline : List ℕ → Type 0
+abbrev NoNewline : List ℕ → Type 0
 NoNewline [] = Unit {0}
 NoNewline (b ∷ l) = (b ≢ newline) × NoNewline l
 
+-- nor one of two that have none
 no-newline-append : (l m : List ℕ) → NoNewline l → NoNewline m → NoNewline (l ++ m)
 no-newline-append [] m h i = i
 no-newline-append (b ∷ l) m h i = (h .0, no-newline-append l m (h .1) i)
@@ -36,6 +37,7 @@ abbrev pub AllDigits : List ℕ → Type 0
 AllDigits [] = Unit {0}
 AllDigits (b ∷ l) = (digitZero ≤ b) × AllDigits l
 
+-- digits before digits
 digits-append : (l m : List ℕ) → AllDigits l → AllDigits m → AllDigits (l ++ m)
 digits-append [] m h i = i
 digits-append (b ∷ l) m h i = (h .0, digits-append l m (h .1) i)
@@ -48,7 +50,7 @@ digits-are (suc most) k = byLt k 10
     (λ l. rw (digits-one most k l) (omega arith, tt))
     (λ l. rw (digits-more most k l) (digits-append (digitsWithin most (k / 10)) ((digitZero + k % 10) ∷ []) (digits-are most (k / 10)) (omega arith, tt)))
 
--- digits, spaces and marks are no newlines
+-- digits, spaces and marks are no newlines, so a wire's number and its marks have none
 digits-no-newline : (l : List ℕ) → AllDigits l → NoNewline l
 digits-no-newline [] h = tt
 digits-no-newline (b ∷ l) h = (omega arith, digits-no-newline l (h .1))
@@ -61,12 +63,13 @@ number-no-newline : (w : ℕ) → NoNewline (rightAligned w)
 number-no-newline w = no-newline-append (replicate (numberColumns - length (decimal w)) space) (decimal w)
     (spaces-no-newline (numberColumns - length (decimal w))) (digits-no-newline (decimal w) (digits-are (suc w) w))
 
+-- nor are X and S
 letter-no-newline : (g : Gate) → letter g ≢ newline
 unfolding letter
 letter-no-newline (flip cs t) = omega arith
 letter-no-newline (swap cs u v) = omega arith
 
--- a mark is one of five, each in its case
+-- a mark is its gate's letter, a plus, an o, a bar or a dash, each in its case
 pub mark-cases : (g : Gate) (w : ℕ) (P : ℕ → Type 0) →
     (member w (targets g) ≡ true → P (letter g)) →
     (member w (targets g) ≡ false → member w (controlsOf g .ones) ≡ true → P plus) →
@@ -74,12 +77,13 @@ pub mark-cases : (g : Gate) (w : ℕ) (P : ℕ → Type 0) →
     (member w (targets g) ≡ false → member w (controlsOf g .ones) ≡ false → member w (controlsOf g .zeros) ≡ false → P bar × P dash) →
     P (mark g w)
 unfolding mark
-mark-cases g w P target one none other =
+mark-cases g w P target one nought other =
     byBool (member w (targets g)) (λ a. rw (a, mark) (target a)) (λ a.
     byBool (member w (controlsOf g .ones)) (λ b. rw (a, b, mark) (one a b)) (λ b.
-    byBool (member w (controlsOf g .zeros)) (λ c. rw (a, b, c, mark) (none a b c)) (λ c.
+    byBool (member w (controlsOf g .zeros)) (λ c. rw (a, b, c, mark) (nought a b c)) (λ c.
     byBool (between (wires g) w) (λ d. rw (a, b, c, d, mark) (other a b c .0)) (λ d. rw (a, b, c, d, mark) (other a b c .1)))))
 
+-- none of them is a newline
 mark-no-newline : (g : Gate) (w : ℕ) → mark g w ≢ newline
 mark-no-newline g w = mark-cases g w (λ m. m ≢ newline) (λ a. letter-no-newline g) (λ a b. omega arith) (λ a b c. omega arith)
     (λ a b c. (omega arith, omega arith))
@@ -116,6 +120,7 @@ unfoldable pub pageLines : ℕ → ℕ → List Gate → List (List ℕ)
 pageLines most zero gs = []
 pageLines most (suc k) gs = map (line (take bandGates gs)) (range most 1) ++ pageLines most k (drop bandGates gs)
 
+-- they are those of its bytes
 pub lines-of-bands : (most k : ℕ) (gs : List Gate) → linesOf (bands most k gs) ≡ pageLines most k gs
 unfolding bands linesOf pageLines
 lines-of-bands most zero gs = refl

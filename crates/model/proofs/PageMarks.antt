@@ -11,11 +11,11 @@ use Rattle.model.specs.Lists.{member}
 use Rattle.model.specs.Gates.{Gate, flip, swap}
 use Rattle.model.specs.Circuit.{wires, controlsOf, ascends, distinct, within, lowerFirst, gateIsWellFormed}
 use Rattle.model.specs.Listing.{plus, letterS, letterX}
-use Rattle.model.specs.Page.{bar, dash, letterO, targets, letter, between, mark}
-use Rattle.model.proofs.BooleanLaws.{byBool, byEq, clash, not-true-false, and-left, and-right, and-both, or-left, or-right, or-false-left, or-false-right}
-use Rattle.model.proofs.ListLaws.{member-head, member-tail, member-nil, member-cases, member-skip, member-append, not-in-nil}
+use Rattle.model.specs.Page.{bar, dash, letterO, targets, letter, mark}
+use Rattle.model.proofs.BooleanLaws.{byEq, not-true-false, and-left, and-right, and-both, or-left, or-right, or-false-left, or-false-right}
+use Rattle.model.proofs.ListLaws.{member-head, member-tail, member-nil, member-cases, member-append, not-in-nil}
 use Rattle.model.proofs.AscendingWires.{ascends-tail, ascends-larger, within-head, within-tail}
-use Rattle.model.proofs.RoundTrip.{Formed, formed}
+use Rattle.model.proofs.RoundTrip.{formed}
 use Rattle.model.proofs.PageLines.{mark-cases}
 
 -- the numbers from a on, n of them, that pass a test
@@ -23,6 +23,7 @@ unfoldable pub passing : (ℕ → Bool) → ℕ → ℕ → List ℕ
 passing test zero a = []
 passing test (suc n) a = elim (test a) [ true ↦ a ∷ passing test n (suc a) | false ↦ passing test n (suc a) ]
 
+-- the first of them passes, or does not
 passing-yes : (test : ℕ → Bool) (n a : ℕ) → test a ≡ true → passing test (suc n) a ≡ a ∷ passing test n (suc a)
 unfolding passing
 passing-yes test n a h = rw (h, passing)
@@ -44,7 +45,7 @@ member-past : (w x : ℕ) (l : List ℕ) → w ≢ x → member w (x ∷ l) ≡ 
 unfolding member
 member-past w x l n = rw (ne-eqb w x n)
 
--- the rest of an ascending list is past its first number, and no more of it
+-- behind its first number an ascending list has larger ones, and a test for the list is one for them
 rest-bounded : (n x : ℕ) (l : List ℕ) → ascends (x ∷ l) ≡ true → Bounded (suc n) x (x ∷ l) → Bounded n (suc x) l
 rest-bounded n x l up inside w m =
     let larger = ascends-larger x l up w m in
@@ -63,11 +64,12 @@ past-bounded n a x l ne up inside w m =
       (λ e. (omega arith, omega arith))
       (λ i. let larger = ascends-larger x l up w i in (omega arith, omega arith))
 
+-- so a is none of them
 past-not : (n a x : ℕ) (l : List ℕ) → a ≢ x → ascends (x ∷ l) ≡ true → Bounded (suc n) a (x ∷ l) → member a (x ∷ l) ≡ false
 past-not n a x l ne up inside = not-true-false (member a (x ∷ l)) (λ m. let h = past-bounded n a x l ne up inside a m in omega arith)
 
 -- an ascending list is found in order by a test for its numbers
-pub passing-list : (test : ℕ → Bool) (n a : ℕ) (l : List ℕ) → ascends l ≡ true → Bounded n a l → Tells test a l → passing test n a ≡ l
+passing-list : (test : ℕ → Bool) (n a : ℕ) (l : List ℕ) → ascends l ≡ true → Bounded n a l → Tells test a l → passing test n a ≡ l
 unfolding passing
 passing-list test zero a [] up inside tells = refl
 passing-list test zero a (x ∷ l) up inside tells = let h = inside x (member-head x l) in absurd (omega arith)
@@ -86,7 +88,7 @@ passing-list test (suc n) a (x ∷ l) up inside tells = byEq a x
 abbrev Apart : List ℕ → List ℕ → Type 0
 Apart l m = (w : ℕ) → member w l ≡ true → member w m ≡ false
 
--- where no wire stands twice, the two parts of a list have none in common
+-- where no wire stands twice, the first does not stand again, and the rest has none twice
 distinct-head : (x : ℕ) (l : List ℕ) → distinct (x ∷ l) ≡ true → member x l ≡ false
 unfolding distinct
 distinct-head x l d = not-true (member x l) (and-left (not (member x l)) (distinct l) d)
@@ -95,6 +97,7 @@ distinct-tail : (x : ℕ) (l : List ℕ) → distinct (x ∷ l) ≡ true → dis
 unfolding distinct
 distinct-tail x l d = and-right (not (member x l)) (distinct l) d
 
+-- nor have two parts of such a list a common wire
 distinct-apart : (l m : List ℕ) → distinct (l ++ m) ≡ true → Apart l m
 distinct-apart [] m d w h = not-in-nil w h
 distinct-apart (x ∷ l) m d w h = member-cases w x l h
@@ -105,6 +108,7 @@ distinct-behind : (l m : List ℕ) → distinct (l ++ m) ≡ true → distinct m
 distinct-behind [] m d = d
 distinct-behind (x ∷ l) m d = distinct-behind l m (distinct-tail x (l ++ m) d)
 
+-- what has no wire in common with a list has none in common with its parts
 apart-left : (l a b : List ℕ) → Apart l (a ++ b) → Apart l a
 apart-left l a b h w m = or-false-left (member w a) (member w b) (sym (member-append w a b) ∙ h w m)
 
@@ -123,6 +127,7 @@ record Separate (g : Gate) : Type 0 where
   not-zeros : Apart (targets g) (controlsOf g .zeros)
   not-both : Apart (controlsOf g .ones) (controlsOf g .zeros)
 
+-- so it is where no wire stands twice
 separate : (g : Gate) → distinct (wires g) ≡ true → Separate g
 separate g d =
     let ones = controlsOf g .ones in let zeros = controlsOf g .zeros in
@@ -140,8 +145,8 @@ mark-alone : (g : Gate) → Separate g → (w : ℕ) (P : ℕ → Type 0) →
     (member w (targets g) ≡ false → member w (controlsOf g .ones) ≡ false → member w (controlsOf g .zeros) ≡ true → P letterO) →
     (member w (targets g) ≡ false → member w (controlsOf g .ones) ≡ false → member w (controlsOf g .zeros) ≡ false → P bar × P dash) →
     P (mark g w)
-mark-alone g s w P target one none other =
-    mark-cases g w P (λ a. target a (s .not-ones w a) (s .not-zeros w a)) (λ a b. one a b (s .not-both w b)) none other
+mark-alone g s w P target one nought other =
+    mark-cases g w P (λ a. target a (s .not-ones w a) (s .not-zeros w a)) (λ a b. one a b (s .not-both w b)) nought other
 
 -- X and S are no control's mark
 letter-not-plus : (g : Gate) → eqb (letter g) plus ≡ false
@@ -163,7 +168,7 @@ tells-zeros : (g : Gate) → Separate g → (w : ℕ) → eqb (mark g w) letterO
 tells-zeros g s w = mark-alone g s w (λ m. eqb m letterO ≡ member w (controlsOf g .zeros))
     (λ a b c. letter-not-o g ∙ sym c) (λ a b c. sym c) (λ a b c. sym c) (λ a b c. (sym c, sym c))
 
--- X and S mark the targets: the wires marked X or S
+-- the wires that a gate marks X, and those that it marks S
 unfoldable pub crossed : Gate → List ℕ
 crossed (flip cs t) = t ∷ []
 crossed (swap cs u v) = []
@@ -172,6 +177,7 @@ unfoldable pub exchanged : Gate → List ℕ
 exchanged (flip cs t) = []
 exchanged (swap cs u v) = u ∷ v ∷ []
 
+-- X and S mark these and no others
 tells-crossed : (g : Gate) → Separate g → (w : ℕ) → eqb (mark g w) letterX ≡ member w (crossed g)
 unfolding crossed targets letter
 tells-crossed (flip cs t) s w = mark-alone (flip cs t) s w (λ m. eqb m letterX ≡ member w (t ∷ []))
@@ -186,13 +192,14 @@ tells-exchanged (flip cs t) s w = mark-alone (flip cs t) s w (λ m. eqb m letter
 tells-exchanged (swap cs u v) s w = mark-alone (swap cs u v) s w (λ m. eqb m letterS ≡ member w (u ∷ v ∷ []))
     (λ a b c. sym a) (λ a b c. sym a) (λ a b c. sym a) (λ a b c. (sym a, sym a))
 
--- a gate's wires are 1 to most, and so are those of each of its lists
+-- a gate's wires are 1 to most
 within-bounded : (most : ℕ) (l : List ℕ) → within most l ≡ true → Bounded most 1 l
 within-bounded most [] h w m = not-in-nil w m
 within-bounded most (x ∷ l) h w m = member-cases w x l m
     (λ e. let both = within-head most x l h in (omega arith, omega arith))
     (λ i. within-bounded most l (within-tail most x l h) w i)
 
+-- a list's bounds hold for its three parts
 part-bounded : (n a : ℕ) (l m k : List ℕ) → Bounded n a (l ++ (m ++ k)) → Bounded n a l × Bounded n a m × Bounded n a k
 part-bounded n a l m k h =
     ((λ w i. h w (member-append w l (m ++ k) ∙ or-left (member w l) (member w (m ++ k)) i)),
@@ -202,7 +209,7 @@ part-bounded n a l m k h =
     behind : (w : ℕ) → member w (m ++ k) ≡ true → member w (l ++ (m ++ k)) ≡ true
     behind w i = member-append w l (m ++ k) ∙ or-right (member w l) (member w (m ++ k)) i
 
--- a swap's two wires ascend, and they are targets
+-- the wires marked X ascend, and so do those marked S
 crossed-ascend : (g : Gate) → ascends (crossed g) ≡ true
 unfolding crossed ascends
 crossed-ascend (flip cs t) = refl
@@ -213,6 +220,7 @@ unfolding exchanged ascends lowerFirst
 exchanged-ascend (flip cs t) h = refl
 exchanged-ascend (swap cs u v) h = and-both (ltb u v) true h refl
 
+-- both are targets
 crossed-bounded : (n a : ℕ) (g : Gate) → Bounded n a (targets g) → Bounded n a (crossed g)
 unfolding crossed targets
 crossed-bounded n a (flip cs t) h = h
@@ -224,7 +232,7 @@ exchanged-bounded n a (flip cs t) h = λ w m. not-in-nil w m
 exchanged-bounded n a (swap cs u v) h = h
 
 -- the wires, 1 to most, on whose rows a gate has this mark
-abbrev pub markedWith : ℕ → ℕ → Gate → List ℕ
+abbrev markedWith : ℕ → ℕ → Gate → List ℕ
 markedWith m most g = passing (λ w. eqb (mark g w) m) most 1
 
 -- each mark's wires, in order, are the list that it stands for
@@ -234,6 +242,7 @@ pub record Marked (most : ℕ) (g : Gate) : Type 0 where
   pub by-x : markedWith letterX most g ≡ crossed g
   pub by-s : markedWith letterS most g ≡ exchanged g
 
+-- a well-formed gate is marked so
 pub marked : (most : ℕ) (g : Gate) → gateIsWellFormed most g ≡ true → Marked most g
 unfolding gateIsWellFormed
 marked most g ok =

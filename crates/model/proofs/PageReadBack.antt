@@ -1,28 +1,28 @@
 -- "Reading the marks off the page gives the gates that went in, in order."
 use mathlib.Core.Path.{_≡_, refl, sym, ap, ap₂, _∙_}
-use mathlib.Core.Bool.{Bool, true, false}
-use mathlib.Core.List.{List, [], _∷_, _++_, map, append-assoc, append-nil}
-use Prim.Native.Nat.{ℕ, zero, suc, _+_, _*_, _-_, _/_, _≤_, _<_}
+use mathlib.Core.Bool.{true}
+use mathlib.Core.List.{List, [], _∷_, _++_, map, append-assoc}
+use Prim.Native.Nat.{ℕ, zero, suc, _+_, _*_, _-_, _≤_, _<_}
 use native.Mathlib.Omega.{arith}
-use borrow.Author.Tests.{eqb-true, ne-eqb, lt-ltb, le-ltb}
+use borrow.Author.Tests.{ne-eqb, lt-ltb, le-ltb}
 use lib.ListN.{length, getD, take, drop, replicate, length-append, length-map, length-drop, take-append-drop}
 use lib.Seq.{take-at}
-use lib.Dec.{eqb, ltb}
+use lib.Dec.{eqb}
 use Rattle.model.specs.Limits.{mostWires}
 use Rattle.model.specs.Lists.{range}
-use Rattle.model.specs.Gates.{Controls, Gate, flip, swap}
+use Rattle.model.specs.Gates.{Gate, flip, swap}
 use Rattle.model.specs.Circuit.{Circuit, controlsOf, gateIsWellFormed}
 use Rattle.model.specs.Answers.{gives, circuitRead}
-use Rattle.model.specs.Listing.{space, plus, letterX, letterS, digitZero, decimal}
+use Rattle.model.specs.Listing.{space, plus, letterX, letterS, decimal}
 use Rattle.model.specs.Page.{letterO, numberColumns, bandGates, mark, marks, rightAligned, bandCount, bands, page, paged, pageOf}
-use Rattle.model.specs.Page.{linesOf, unspaced, spelled, marksIn, Row, rowOn, onBand, bandsOf, wiresMarked, notMarked, swapMarked}
-use Rattle.model.specs.Page.{controlsMarked, gateMarked, gatesIn, gatesOfBand, gatesOfBands, gatesOn}
+use Rattle.model.specs.Page.{unspaced, spelled, marksIn, Row, rowOn, onBand, bandsOf, wiresMarked, notMarked, swapMarked}
+use Rattle.model.specs.Page.{gateMarked, gatesIn, gatesOfBand, gatesOfBands, gatesOn}
 use Rattle.model.proofs.BooleanLaws.{byBool}
 use Rattle.model.proofs.RoundTrip.{WellFormed, AllWellFormed, write-circuitRead}
 use Rattle.model.proofs.DecimalDigits.{decimal-spells}
 use Rattle.model.proofs.PageLines.{AllDigits, digits-are, line, pageLines, lines-of-bands}
 use Rattle.model.proofs.PageShape.{number-length}
-use Rattle.model.proofs.PageMarks.{passing, crossed, exchanged, markedWith, Marked, marked}
+use Rattle.model.proofs.PageMarks.{passing, crossed, exchanged, marked}
 
 -- A row.
 
@@ -75,7 +75,7 @@ row-back gs w h =
 abbrev rowsFor : ℕ → ℕ → List Gate → List Row
 rowsFor n a gs = map (rowFor gs) (range n a)
 
-unfoldable pageBands : ℕ → ℕ → List Gate → List (List Row)
+pageBands : ℕ → ℕ → List Gate → List (List Row)
 pageBands most zero gs = []
 pageBands most (suc k) gs = rowsFor most 1 (take bandGates gs) ∷ pageBands most k (drop bandGates gs)
 
@@ -112,6 +112,7 @@ unfolding range
 rows-back zero a gs rest h = refl
 rows-back (suc n) a gs rest h = ap₂ (λ r rs. r ∷ rs) (row-back gs a (omega arith)) (rows-back n (suc a) gs rest (omega arith))
 
+-- the bands of a page start so
 starts-at-one : (n k : ℕ) (gs : List Gate) → StartsAtOne (pageBands (suc n) k gs)
 unfolding pageBands range
 starts-at-one n zero gs = tt
@@ -141,11 +142,11 @@ column-wires : (m n a : ℕ) (before : List Gate) (g : Gate) (behind : List Gate
 unfolding wiresMarked passing range
 column-wires m zero a before g behind = refl
 column-wires m (suc n) a before g behind =
-    let ih = column-wires m n (suc a) before g behind in
+    let below = column-wires m n (suc a) before g behind in
     let here = column-mark (λ x. mark x a) before g behind in
     byBool (eqb (mark g a) m)
-      (λ e. rw (here, e, wiresMarked, passing) (ap (λ r. a ∷ r) ih))
-      (λ e. rw (here, e, wiresMarked, passing) ih)
+      (λ e. rw (here, e, wiresMarked, passing) (ap (λ r. a ∷ r) below))
+      (λ e. rw (here, e, wiresMarked, passing) below)
 
 -- the gate of such marks
 gate-of : (g : Gate) → notMarked (controlsOf g) (crossed g) ++ swapMarked (controlsOf g) (exchanged g) ≡ g ∷ []
@@ -225,7 +226,7 @@ read-back c w = text-back (c .dataWires + c .ancillas) (bandCount (length (c .ga
 pub one-page : (c d : Circuit) → WellFormed c → WellFormed d → page c ≡ page d → c .gates ≡ d .gates
 one-page c d v w e = sym (read-back c v) ∙ ap gatesOn e ∙ read-back d w
 
--- the same of bytes that are a circuit's
+-- bytes that are a circuit's give a page from which its gates are read
 pub read-back-bytes : (bytes : List ℕ) (c : Circuit) → circuitRead bytes ≡ gives c → gatesOn (pageOf bytes) ≡ c .gates
 unfolding paged
 read-back-bytes bytes c e = rw e (read-back c (write-circuitRead bytes e .0))

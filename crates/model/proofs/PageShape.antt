@@ -9,7 +9,7 @@ use Rattle.model.specs.Lists.{range}
 use Rattle.model.specs.Gates.{Gate}
 use Rattle.model.specs.Circuit.{Circuit}
 use Rattle.model.specs.Listing.{space, newline, digitZero, digitsWithin, decimal}
-use Rattle.model.specs.Page.{numberColumns, bandGates, marks, rightAligned, row, rows, band, bandCount, bands, page, linesOf}
+use Rattle.model.specs.Page.{numberColumns, bandGates, marks, rightAligned, row, rows, band, bandCount, page, linesOf}
 use Rattle.model.proofs.BooleanLaws.{byLt}
 use Rattle.model.proofs.ListLaws.{range-length}
 use Rattle.model.proofs.RoundTrip.{WellFormed}
@@ -26,17 +26,17 @@ digits-few (suc n) (suc most) k h = byLt k 10
     (λ l. rw (digits-more most k l, length-append (digitsWithin most (k / 10)) ((digitZero + k % 10) ∷ []))
       (omega (arith, digits-few n most (k / 10) (omega arith))))
 
--- so a wire number fits the number columns
+-- so a wire number has at most three digits
 wire-digits : (w : ℕ) → w ≤ mostWires → length (decimal w) ≤ 3
 wire-digits w h = digits-few 2 (suc w) w (omega arith)
 
--- and fills them with the spaces before it
+-- and with the spaces before it fills its columns
 pub number-length : (w : ℕ) → w ≤ mostWires → length (rightAligned w) ≡ numberColumns
 number-length w h = rw (length-append (replicate (numberColumns - length (decimal w)) space) (decimal w),
     length-replicate (numberColumns - length (decimal w)) space) (omega (arith, wire-digits w h))
 
 -- each gate takes four columns
-pub marks-length : (gs : List Gate) (w : ℕ) → length (marks gs w) ≡ 4 * length gs
+marks-length : (gs : List Gate) (w : ℕ) → length (marks gs w) ≡ 4 * length gs
 unfolding marks
 marks-length [] w = refl
 marks-length (g ∷ gs) w = omega (arith, marks-length gs w)
@@ -46,7 +46,7 @@ pub row-length : (gs : List Gate) (w : ℕ) → w ≤ mostWires → length (row 
 row-length gs w h = rw (length-append (rightAligned w) (marks gs w ++ (newline ∷ [])), length-append (marks gs w) (newline ∷ []),
     number-length w h, marks-length gs w) (omega arith)
 
--- rows as long as each other
+-- rows, each of that length
 rows-length : (k w : ℕ) (gs : List Gate) → k + w ≤ suc mostWires → length (rows k w gs) ≡ k * (numberColumns + 4 * length gs + 1)
 unfolding rows
 rows-length zero w gs h = omega arith
@@ -62,6 +62,7 @@ abbrev pub AllShort : ℕ → List (List ℕ) → Type 0
 AllShort most [] = Unit {0}
 AllShort most (l ∷ lines) = (length l ≤ most) × AllShort most lines
 
+-- short lines before short lines
 short-append : (most : ℕ) (a b : List (List ℕ)) → AllShort most a → AllShort most b → AllShort most (a ++ b)
 short-append most [] b h i = i
 short-append most (l ∷ a) b h i = (h .0, short-append most a b (h .1) i)
@@ -79,6 +80,7 @@ lines-short (suc k) w gs h few = (line-short gs w (omega arith) few, lines-short
 band-full : (gs : List Gate) → length (take bandGates gs) ≤ bandGates
 band-full gs = omega (arith, length-take bandGates gs)
 
+-- so all lines of its bands are short
 page-short : (most k : ℕ) (gs : List Gate) → most ≤ mostWires → AllShort 80 (pageLines most k gs)
 unfolding pageLines
 page-short most zero gs h = tt
