@@ -26,8 +26,8 @@ spanOf [] = record { low = 0; high = 0 }
 spanOf (w ∷ l) = spanFrom w w l
 
 -- the wires between two
-abbrev pub inside : Span → List ℕ
-inside s = range (s .high - suc (s .low)) (suc (s .low))
+abbrev pub inside : ℕ → ℕ → List ℕ
+inside low high = range (high - suc low) (suc low)
 
 -- one mark on each of these wires of a column
 unfoldable pub markAll : ℕ → ℕ → List ℕ → List ℕ → List ℕ
@@ -36,10 +36,10 @@ markAll sign column (w ∷ l) marks = markAll sign column l (set marks (wireCoun
 
 -- the bars of a gate over these wires
 abbrev pub markBars : ℕ → List ℕ → List ℕ → List ℕ
-markBars column ws marks = markAll bar column (inside (spanOf ws)) marks
+markBars column ws marks = markAll bar column (inside (spanOf ws .low) (spanOf ws .high)) marks
 
 abbrev pub markControls : ℕ → Controls → List ℕ → List ℕ
-markControls column cs marks = markAll letterO column (cs .zeros) (markAll plus column (cs .ones) marks)
+markControls column cs marks = markAll plus column (cs .ones) (markAll letterO column (cs .zeros) marks)
 
 -- all marks of a gate: those that come later stand over those before
 abbrev pub markGate : ℕ → Gate → List ℕ → List ℕ

@@ -97,13 +97,13 @@ fn set_mark(marks: &mut [u8], column: u8, wire: u8, sign: u8)
 }
 
 // "a bar (7C) on other rows between a gate's outermost wires"
-fn mark_bars(marks: &mut [u8], column: u8, span: Span)
-    ensures { λ _. ⌜ now (marks .exit) ≡ markAll bar column (inside span) (now (marks .entry)) ⌝ }
+fn mark_bars(marks: &mut [u8], column: u8, low: u8, high: u8)
+    ensures { λ _. ⌜ now (marks .exit) ≡ markAll bar column (inside low high) (now (marks .entry)) ⌝ }
 {
-    let mut wire = span.low;
-    while wire < span.high {
+    let mut wire = low;
+    while wire < high {
         wire += 1;
-        if wire == span.high {
+        if wire == high {
             return;
         }
         set_mark(marks, column, wire, b'|');
@@ -130,8 +130,8 @@ fn mark_wires(marks: &mut [u8], column: u8, bytes: &[u8], from: usize, count: us
 fn mark_controls(marks: &mut [u8], column: u8, bytes: &[u8], gate: GateAt)
     ensures { λ _. ⌜ now (marks .exit) ≡ markControls column (controlsIn (now (bytes .entry)) gate) (now (marks .entry)) ⌝ }
 {
-    mark_wires(marks, column, bytes, gate.ones.from, gate.ones.count, b'+');
     mark_wires(marks, column, bytes, gate.zeros.from, gate.zeros.count, b'o');
+    mark_wires(marks, column, bytes, gate.ones.from, gate.ones.count, b'+');
 }
 
 // All marks of a gate; "X for a NOT's target, S for each swapped wire"
@@ -139,7 +139,7 @@ fn mark_gate(marks: &mut [u8], column: u8, bytes: &[u8], gate: GateAt)
     ensures { λ _. ⌜ now (marks .exit) ≡ markGate column (gateIn (now (bytes .entry)) gate) (now (marks .entry)) ⌝ }
 {
     let span = outermost(bytes, gate);
-    mark_bars(marks, column, span);
+    mark_bars(marks, column, span.low, span.high);
     mark_controls(marks, column, bytes, gate);
     if !gate.swaps {
         set_mark(marks, column, gate.target, b'X');

@@ -13,9 +13,9 @@ pub mod ReadingLaws
 pub mod Acceptance
 pub mod RoundTrip
 pub mod DecimalDigits
-pub mod PageBands
 pub mod PageLines
 pub mod PageShape
 pub mod PageMarks
 pub mod PageReadBack
+pub mod PageBands
 pub mod WorkedPrograms
