@@ -1,0 +1,13 @@
+-- `put_number` meets its contract.
+use borrow.Author.Needs.{needs}
+use Rattle.bands.proofs.RowText.{lining}
+use Rattle.bands.proofs.put_number.Statement.{statement}
+use Rattle.bands.proofs.put_number.Tie as tie
+
+pub put-number-spec : {M : Type 1} → statement M
+put-number-spec = tie.close (tie.spec
+    (λ c κs. search needs)
+    (λ c κs. search needs)
+    (λ c κs. search needs)
+    (λ c. search needs)
+    (λ c. search lining))
