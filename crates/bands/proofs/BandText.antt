@@ -1,0 +1,103 @@
+-- A band: how long its rows are, what a lent text takes of it, and where the next one begins.
+use mathlib.Core.Path.{_≡_, refl, sym, _∙_}
+use mathlib.Core.List.{List, [], _∷_, _++_}
+use Prim.Native.Nat.{ℕ, zero, suc, _+_, _-_, _*_, _^_, _≤_, _<_}
+use native.Mathlib.Nat.{suc-mul, zero-mul, mul-le-mul}
+use native.Mathlib.Omega.{arith}
+use borrow.Author.Needs.{needs}
+use borrow.Author.Tests.{eq-eqb, ne-eqb, le-leb, lt-leb}
+use lib.ListN.{length, drop, replicate, length-append, length-replicate, length-drop}
+use Rattle.model.specs.Listing.{newline, space, decimal}
+use Rattle.model.specs.Page.{numberColumns, rightAligned, placeOf, lentAfter}
+use Rattle.model.proofs.BooleanLaws.{byLt}
+use Rattle.circuit.specs.GatesInBytes.{inputAt}
+use Rattle.text.specs.AppendedBytes.{written, puts}
+use Rattle.text.proofs.AppendLaws.{puts-whole}
+use Rattle.bands.specs.MarkedRows.{marksAt, rowAt, rowsAt}
+use Rattle.bands.proofs.RowText.{one-digit, two-digits, three-digits}
+
+-- The length of a band.
+
+-- each column has four bytes
+marks-length : (marks : List ℕ) (j k w : ℕ) → length (marksAt marks j k w) ≡ 4 * k
+unfolding marksAt
+marks-length marks j zero w = refl
+marks-length marks j (suc k) w = let e : length (marksAt marks (suc j) k w) ≡ 4 * k = marks-length marks (suc j) k w in omega arith
+
+-- a number below 1000 has no more digits than columns
+few-digits : (w : ℕ) → w < 1000 → length (decimal w) ≤ numberColumns
+few-digits w h = byLt w 10
+    (λ l. rw (one-digit w l) (omega arith))
+    (λ l. byLt w 100
+      (λ m. rw (two-digits w l m) (omega arith))
+      (λ m. rw (three-digits w m h) (omega arith)))
+
+-- so it fills its columns, with spaces before it
+aligned-length : (w : ℕ) → w < 1000 → length (rightAligned w) ≡ numberColumns
+aligned-length w h =
+    let gap : ℕ = numberColumns - length (decimal w) in
+    let few : length (decimal w) ≤ numberColumns = few-digits w h in
+    rw (length-append (replicate gap space) (decimal w), length-replicate gap space) (omega arith)
+
+-- a row: the wire number's four columns, four for each gate, and a newline
+row-length : (marks : List ℕ) (count w : ℕ) → w < 1000 → length (rowAt marks count w) ≡ 4 + 4 * count + 1
+row-length marks count w h =
+    rw (length-append (rightAligned w) (marksAt marks 0 count w ++ (newline ∷ [])), aligned-length w h,
+      length-append (marksAt marks 0 count w) (newline ∷ []), marks-length marks 0 count w) (omega arith)
+
+-- rows of wires below 1000
+rows-length : (marks : List ℕ) (count k w : ℕ) → w + k ≤ 1000 → length (rowsAt marks count k w) ≡ k * (4 + 4 * count + 1)
+unfolding rowsAt
+rows-length marks count zero w h = sym (zero-mul (4 + 4 * count + 1))
+rows-length marks count (suc k) w h =
+    rw (length-append (rowAt marks count w) (rowsAt marks count k (suc w)), row-length marks count w (omega arith),
+      rows-length marks count k (suc w) (omega arith), suc-mul k (4 + 4 * count + 1)) (omega arith)
+
+-- the length fits its type
+pub length-fits : (count most : ℕ) → count < 2 ^ 8 → most < 2 ^ 8 → most * (4 + 4 * count + 1) < 2 ^ 64
+length-fits count most c m =
+    let a : most ≤ 255 = omega arith in
+    let b : 4 + 4 * count + 1 ≤ 1025 = omega arith in
+    let e : most * (4 + 4 * count + 1) ≤ 255 * 1025 = mul-le-mul a b in
+    omega arith
+
+-- and is that of the rows
+pub size-is : (marks : List ℕ) (count most size : ℕ) → most < 2 ^ 8 → size ≡ most * (4 + 4 * count + 1) → size ≡ length (rowsAt marks count most 1)
+size-is marks count most size few is = is ∙ sym (rows-length marks count most 1 (omega arith))
+
+-- the ways out of `put_band`: a text that is too short is left as it is, any other takes all the rows
+module _ (marks text : List ℕ) (count most size : ℕ) (few : most < 2 ^ 8) (is : size ≡ most * (4 + 4 * count + 1)) where
+  pub short-kept : length text < size → text ≡ lentAfter (rowsAt marks count most 1) text
+  short-kept h =
+      let e : size ≡ length (rowsAt marks count most 1) = size-is marks count most size few is in
+      rw (lt-leb (length (rowsAt marks count most 1)) (length text) (omega arith), lentAfter)
+
+  module _ (h : size ≤ length text) (end : List ℕ) (last : ℕ) (p : written end last ≡ puts (rowsAt marks count most 1) text 0) where
+    fits : length (rowsAt marks count most 1) ≤ length text
+    fits = rw (← size-is marks count most size few is) h
+
+    pub long-size : last ≡ length (rowsAt marks count most 1)
+    long-size = cc (p, puts-whole (rowsAt marks count most 1) text fits)
+
+    pub long-taken : end ≡ lentAfter (rowsAt marks count most 1) text
+    long-taken =
+        rw (le-leb (length (rowsAt marks count most 1)) (length text) fits, lentAfter)
+        (cc (p, puts-whole (rowsAt marks count most 1) text fits))
+
+pub ruleset banding = (needs, length-fits, size-is, short-kept, long-size, long-taken)
+
+-- The next band.
+
+-- the ways out of `next_place`
+module _ (bytes : List ℕ) (next : ℕ) where
+  pub none-left : length bytes ≤ next → 0 ≡ placeOf bytes (inputAt bytes next)
+  none-left h =
+      let e : length (drop next bytes) ≡ length bytes - next = length-drop next bytes in
+      rw (eq-eqb (length (drop next bytes)) 0 (omega arith), placeOf)
+
+  pub some-left : next < length bytes → next ≡ placeOf bytes (inputAt bytes next)
+  some-left h =
+      let e : length (drop next bytes) ≡ length bytes - next = length-drop next bytes in
+      rw (ne-eqb (length (drop next bytes)) 0 (omega arith), placeOf) (omega arith)
+
+pub ruleset placing = (needs, none-left, some-left)
