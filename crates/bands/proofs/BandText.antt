@@ -5,16 +5,17 @@ use Prim.Native.Nat.{ℕ, zero, suc, _+_, _-_, _*_, _^_, _≤_, _<_}
 use native.Mathlib.Nat.{suc-mul, zero-mul, mul-le-mul}
 use native.Mathlib.Omega.{arith}
 use borrow.Author.Needs.{needs}
-use borrow.Author.Tests.{eq-eqb, ne-eqb, le-leb, lt-leb}
-use lib.ListN.{length, drop, replicate, length-append, length-replicate, length-drop}
-use Rattle.model.specs.Listing.{newline, space, decimal}
-use Rattle.model.specs.Page.{numberColumns, rightAligned, placeOf, lentAfter}
-use Rattle.model.proofs.BooleanLaws.{byLt}
+use borrow.Author.Tests.{le-leb, lt-leb}
+use lib.ListN.{length, drop, length-append, length-drop}
+use Rattle.model.specs.Limits.{mostWires}
+use Rattle.model.specs.Listing.{newline}
+use Rattle.model.specs.Page.{rightAligned, placeOf, lentAfter}
+use Rattle.model.proofs.PageShape.{number-length}
+use Rattle.model.proofs.PageBands.{place-end, place-left}
 use Rattle.circuit.specs.GatesInBytes.{inputAt}
 use Rattle.text.specs.AppendedBytes.{written, puts}
 use Rattle.text.proofs.AppendLaws.{puts-whole}
 use Rattle.bands.specs.MarkedRows.{marksAt, rowAt, rowsAt}
-use Rattle.bands.proofs.RowText.{one-digit, two-digits, three-digits}
 
 -- The length of a band.
 
@@ -24,29 +25,13 @@ unfolding marksAt
 marks-length marks j zero w = refl
 marks-length marks j (suc k) w = let e : length (marksAt marks (suc j) k w) ≡ 4 * k = marks-length marks (suc j) k w in omega arith
 
--- a number below 1000 has no more digits than columns
-few-digits : (w : ℕ) → w < 1000 → length (decimal w) ≤ numberColumns
-few-digits w h = byLt w 10
-    (λ l. rw (one-digit w l) (omega arith))
-    (λ l. byLt w 100
-      (λ m. rw (two-digits w l m) (omega arith))
-      (λ m. rw (three-digits w m h) (omega arith)))
-
--- so it fills its columns, with spaces before it
-aligned-length : (w : ℕ) → w < 1000 → length (rightAligned w) ≡ numberColumns
-aligned-length w h =
-    let gap : ℕ = numberColumns - length (decimal w) in
-    let few : length (decimal w) ≤ numberColumns = few-digits w h in
-    rw (length-append (replicate gap space) (decimal w), length-replicate gap space) (omega arith)
-
 -- a row: the wire number's four columns, four for each gate, and a newline
-row-length : (marks : List ℕ) (count w : ℕ) → w < 1000 → length (rowAt marks count w) ≡ 4 + 4 * count + 1
+row-length : (marks : List ℕ) (count w : ℕ) → w ≤ mostWires → length (rowAt marks count w) ≡ 4 + 4 * count + 1
 row-length marks count w h =
-    rw (length-append (rightAligned w) (marksAt marks 0 count w ++ (newline ∷ [])), aligned-length w h,
+    rw (length-append (rightAligned w) (marksAt marks 0 count w ++ (newline ∷ [])), number-length w h,
       length-append (marksAt marks 0 count w) (newline ∷ []), marks-length marks 0 count w) (omega arith)
 
--- rows of wires below 1000
-rows-length : (marks : List ℕ) (count k w : ℕ) → w + k ≤ 1000 → length (rowsAt marks count k w) ≡ k * (4 + 4 * count + 1)
+rows-length : (marks : List ℕ) (count k w : ℕ) → w + k ≤ suc mostWires → length (rowsAt marks count k w) ≡ k * (4 + 4 * count + 1)
 unfolding rowsAt
 rows-length marks count zero w h = sym (zero-mul (4 + 4 * count + 1))
 rows-length marks count (suc k) w h =
@@ -93,11 +78,11 @@ module _ (bytes : List ℕ) (next : ℕ) where
   pub none-left : length bytes ≤ next → 0 ≡ placeOf bytes (inputAt bytes next)
   none-left h =
       let e : length (drop next bytes) ≡ length bytes - next = length-drop next bytes in
-      rw (eq-eqb (length (drop next bytes)) 0 (omega arith), placeOf)
+      sym (place-end bytes (inputAt bytes next) (omega arith))
 
   pub some-left : next < length bytes → next ≡ placeOf bytes (inputAt bytes next)
   some-left h =
       let e : length (drop next bytes) ≡ length bytes - next = length-drop next bytes in
-      rw (ne-eqb (length (drop next bytes)) 0 (omega arith), placeOf) (omega arith)
+      rw (place-left bytes (inputAt bytes next) (omega arith)) (omega arith)
 
 pub ruleset placing = (needs, none-left, some-left)

@@ -22,12 +22,19 @@ use Rattle.model.proofs.BooleanLaws.{byBool, byEq, byLt, and-left, and-right, o
 use Rattle.model.proofs.ListLaws.{member-head, member-tail, member-cases, member-skip, member-append, member-nil, not-in-nil}
 use Rattle.model.proofs.AscendingWires.{within-head, within-tail}
 use Rattle.model.proofs.RoundTrip.{AllWellFormed}
+use Rattle.model.proofs.PageBands.{band-end, band-gate}
 use Rattle.marks.specs.Columns.{spanOf, inside, markAll, markBars, markControls, markGate, Banded, banded, unread, markThen, markFrom}
+use Rattle.marks.proofs.MarkedBand.{from-end, from-more}
 use Rattle.bands.specs.MarkedRows.{marked, marksAt, rowAt, rowsAt}
 
 -- where the mark of a column on a wire's row is kept
 abbrev keptAt : ℕ → ℕ → ℕ
 keptAt column w = wireCount * column + w
+
+-- the marks of gates, each in a column of its own, from this column on
+unfoldable pub markGates : ℕ → List Gate → List ℕ → List ℕ
+markGates column [] kept = kept
+markGates column (g ∷ gs) kept = markGates (suc column) gs (markGate column g kept)
 
 -- One mark on each of some wires.
 
@@ -216,3 +223,80 @@ module _ (most : ℕ) (few : most ≤ mostWires) where
       let below : Below wireCount (wires g) = λ v m. let b = within-below most (wires g) inside-all v m in omega arith in
       let top = span-below most (wires g) inside-all in
       gate-apart column g kept k (λ v m. below v (target-wire g v m)) (λ v m. below v (one-wire g v m)) (λ v m. below v (zero-wire g v m)) (omega arith) off
+
+  -- the columns from this one on have dashes only
+  abbrev Dashes : ℕ → List ℕ → Type 0
+  Dashes column kept = (k : ℕ) → keptAt column 0 ≤ k → k < length kept → getD kept k 0 ≡ dash
+
+  -- a gate in its column leaves dashes in those behind it
+  dashes-behind : (column : ℕ) (g : Gate) (kept : List ℕ) → gateIsWellFormed most g ≡ true → Dashes column kept → Dashes (suc column) (markGate column g kept)
+  dashes-behind column g kept ok d k h l =
+      let long : k < length kept = rw (markGate-length column g kept) at l in
+      formed-apart column g kept k ok (inr h) ∙ d k (omega arith) long
+
+  -- gates leave the columns before theirs as they were
+  gates-before : (column : ℕ) (gs : List Gate) (kept : List ℕ) (k : ℕ) → AllWellFormed most gs → k < keptAt column 0 →
+      getD (markGates column gs kept) k 0 ≡ getD kept k 0
+  unfolding markGates
+  gates-before column [] kept k ok h = refl
+  gates-before column (g ∷ gs) kept k ok h =
+      gates-before (suc column) gs (markGate column g kept) k (ok .1) (omega arith) ∙ formed-apart column g kept k (ok .0) (inl h)
+
+  -- the row of a wire, read from the columns, has the gates' marks
+  marks-kept : (column : ℕ) (gs : List Gate) (kept : List ℕ) (w : ℕ) → AllWellFormed most gs → Dashes column kept →
+      keptAt (column + length gs) 0 ≤ length kept → w < wireCount → marksAt (markGates column gs kept) column (length gs) w ≡ marks gs w
+  unfolding marksAt marks markGates
+  marks-kept column [] kept w ok d long h = refl
+  marks-kept column (g ∷ gs) kept w ok d long h =
+      let kept₁ : List ℕ = markGate column g kept in
+      let here : getD (markGates (suc column) gs kept₁) (keptAt column w) 0 ≡ mark g w =
+          gates-before (suc column) gs kept₁ (keptAt column w) (ok .1) (omega arith) ∙
+          gate-kept column g kept w (omega arith) (d (keptAt column w) (omega arith) (omega arith)) in
+      let more : keptAt (suc column + length gs) 0 ≤ length kept₁ = rw (markGate-length column g kept) (omega arith) in
+      ap₂ (λ m l. marked m ++ l) here (marks-kept (suc column) gs kept₁ w (ok .1) (dashes-behind column g kept (ok .0) d) more h)
+
+  -- so with all rows
+  rows-kept : (gs : List Gate) (kept : List ℕ) → AllWellFormed most gs → Dashes 0 kept → keptAt (length gs) 0 ≤ length kept →
+      (k w : ℕ) → w + k ≤ wireCount → rowsAt (markGates 0 gs kept) (length gs) k w ≡ rows k w gs
+  unfolding rowsAt rows
+  rows-kept gs kept ok d long zero w h = refl
+  rows-kept gs kept ok d long (suc k) w h =
+      let zero-first : keptAt (0 + length gs) 0 ≤ length kept = omega arith in
+      ap₂ (λ l m. (rightAligned w ++ (l ++ (newline ∷ []))) ++ m) (marks-kept 0 gs kept w ok d zero-first (omega arith))
+        (rows-kept gs kept ok d long k (suc w) (omega arith))
+
+  -- the band put from the columns of at most nineteen gates is their band
+  pub band-kept : (gs : List Gate) → AllWellFormed most gs → length gs ≤ bandGates →
+      rowsAt (markGates 0 gs (replicate marksLength dash)) (length gs) most 1 ≡ band most gs
+  band-kept gs ok h =
+      rows-kept gs (replicate marksLength dash) ok (λ k l s. getD-replicate marksLength k dash 0 (rw (length-replicate marksLength dash) at s))
+        (rw (length-replicate marksLength dash) (omega arith)) most 1 (omega arith)
+
+-- Reading the gates of a band and marking them in one go is reading them and then marking them.
+unfoldable pub markRead : ℕ → List ℕ → Parsed (List Gate) → Banded
+markRead column kept (parsed gs j) = banded (column + length gs) j (markGates column gs kept)
+markRead column kept (refused k) = unread
+
+-- one gate before others
+mark-first : (column : ℕ) (g : Gate) (kept : List ℕ) (x : Parsed (List Gate)) →
+    markRead (suc column) (markGate column g kept) x ≡ markRead column kept (andThen x (λ gs l. parsed (g ∷ gs) l))
+unfolding markRead andThen markGates
+mark-first column g kept (parsed gs j) = let e : suc column + length gs ≡ column + suc (length gs) = omega arith in rw e
+mark-first column g kept (refused k) = refl
+
+pub marked-read : (most k column : ℕ) (i : Input) (kept : List ℕ) → markFrom most k column i kept ≡ markRead column kept (readBand most k i)
+unfolding markRead markGates andThen markThen markFrom readBand
+marked-read most zero column i kept = rw (add-zero column)
+marked-read most (suc k) column i kept = byEq (length (i .bytes)) 0
+    (λ e. rw (from-end most (suc k) column i kept e, band-end most (suc k) i e, add-zero column))
+    (λ n.
+      let same : suc k - 1 ≡ k = omega arith in
+      rw (from-more most (suc k) column i kept (omega arith) n, band-gate most k i n, same)
+      (go (readGate most i) (λ g j. marked-read most k (suc column) j (markGate column g kept))))
+  where
+    go : (x : Parsed Gate) →
+        ((g : Gate) (j : Input) → markFrom most k (suc column) j (markGate column g kept) ≡ markRead (suc column) (markGate column g kept) (readBand most k j)) →
+        markThen column kept x (markFrom most k (suc column)) ≡
+        markRead column kept (andThen x (λ g j. andThen (readBand most k j) (λ gs l. parsed (g ∷ gs) l)))
+    go (parsed g j) later = later g j ∙ mark-first column g kept (readBand most k j)
+    go (refused r) later = refl

@@ -1,3 +1,5 @@
 -- What the proofs of several functions use.
 mod RowText
+mod KeptMarks
 mod BandText
+mod BandAnswers

@@ -60,15 +60,15 @@ pub ruleset columning = (needs, marks-begin, marks-none, marks-next)
 -- The wire number.
 
 -- how many digits a number has
-pub one-digit : (k : ℕ) → k < 10 → length (decimal k) ≡ 1
+one-digit : (k : ℕ) → k < 10 → length (decimal k) ≡ 1
 one-digit k h = rw (decimal-low k h)
 
-pub two-digits : (k : ℕ) → 10 ≤ k → k < 100 → length (decimal k) ≡ 2
+two-digits : (k : ℕ) → 10 ≤ k → k < 100 → length (decimal k) ≡ 2
 two-digits k l h =
     let e : length (decimal (k / 10)) ≡ 1 = one-digit (k / 10) (omega arith) in
     rw (decimal-high k l, length-append (decimal (k / 10)) ((digitZero + k % 10) ∷ []), e)
 
-pub three-digits : (k : ℕ) → 100 ≤ k → k < 1000 → length (decimal k) ≡ 3
+three-digits : (k : ℕ) → 100 ≤ k → k < 1000 → length (decimal k) ≡ 3
 three-digits k l h =
     let e : length (decimal (k / 10)) ≡ 2 = two-digits (k / 10) (omega arith) (omega arith) in
     rw (decimal-high k (omega arith), length-append (decimal (k / 10)) ((digitZero + k % 10) ∷ []), e)

@@ -13,7 +13,7 @@ ghost use Rattle.text.specs.AppendedBytes.{written, puts};
 ghost use Rattle.bands.specs.MarkedRows.{marked, marksAt, rowAt, rowsAt};
 use answers::PageBand;
 use circuit::read_circuit;
-use limits::{HEADER_LENGTH, MARKS_LENGTH, MOST_CIRCUIT, MOST_WIRES, NOT_WELL_FORMED, WIRE_COUNT};
+use limits::{HEADER_LENGTH, LAST_WIRE, MARKS_LENGTH, MOST_CIRCUIT, NOT_WELL_FORMED, WIRE_COUNT};
 use marks::{BandRead, mark_band};
 use text::{put, put_decimal};
 
@@ -158,18 +158,24 @@ fn draw(bytes: &[u8], at: usize, most: u8, text: &mut [u8]) -> PageBand
     PageBand { number: 0, length: length as u64, next: next as u64 }
 }
 
+// "n plus ancillas"
+fn wire_sum(n: u8, ancillas: u8) -> u16
+    ensures { λ r. ⌜ r ≡ n + ancillas ⌝ }
+{
+    n as u16 + ancillas as u16
+}
+
 // The same over the wires that the header says.
 fn draw_from(bytes: &[u8], at: usize, text: &mut [u8]) -> PageBand
     requires { ⌜ headerLength ≤ length (now bytes) ⌝ }
     ensures { λ r. ⌜ r ≡ bandAnswer (bandAt (now (bytes .entry)) at) ⌝ }
     ensures { λ r. ⌜ now (text .exit) ≡ textAfter (bandAt (now (bytes .entry)) at) (now (text .entry)) ⌝ }
 {
-    let n = bytes[1];
-    let ancillas = bytes[2];
-    if MOST_WIRES - n < ancillas {
+    let wires = wire_sum(bytes[1], bytes[2]);
+    if LAST_WIRE < wires {
         return refused();
     }
-    draw(bytes, at, n + ancillas, text)
+    draw(bytes, at, wires as u8, text)
 }
 
 // One band of a circuit's page: the first for place 0, after the whole circuit was read; a later one for the place that the band before it gave.

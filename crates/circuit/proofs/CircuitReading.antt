@@ -12,7 +12,7 @@ use Rattle.model.specs.Limits.{notWellFormed, tableStops, mostQubits, mostWires
 use Rattle.model.specs.Reading.{Input, Parsed, parsed, refused, andThen, provided, byte}
 use Rattle.model.specs.Gates.{Gate}
 use Rattle.model.specs.Circuit.{Circuit, readGate, readGates, fourByteNumber, wholeCircuit, circuitOf, readCircuit}
-use Rattle.model.specs.Answers.{refuses, number, wellFormed, circuitRead}
+use Rattle.model.specs.Answers.{gives, refuses, number, wellFormed, circuitRead}
 use Rattle.model.proofs.BooleanLaws.{byLt}
 use Rattle.model.proofs.ByteAtAPlace.{byte-there, byte-past}
 use Rattle.circuit.specs.GatesInBytes.{inputAt, fills}
@@ -195,3 +195,14 @@ module _ (bs : List ℕ) (found : HeaderRead) (is : circuitAfter bs found ≡ ci
         (read-counts (h .wires) (h .gates) (inputAt bs headerLength)) (sym p ∙ g)))
 
 pub ruleset circuits = (needs, not-true, not-false, circuit-none, circuit-gates, circuit-whole)
+
+-- number 0 says that there is a circuit
+pub read-gives : (bs : List ℕ) (h : CircuitHeader) → h ≡ headerOf (circuitRead bs) → h .number ≡ 0 → (c : Circuit) × (circuitRead bs ≡ gives c)
+unfolding wellFormed headerOf
+read-gives bs h e z = go (readCircuit bs) refl
+  where
+    go : (x : Parsed Circuit) → readCircuit bs ≡ x → (c : Circuit) × (circuitRead bs ≡ gives c)
+    go (parsed c i) q = (c, rw q)
+    go (refused k) q =
+        let f : h ≡ headerOf (wellFormed (refused k)) = rw q at e in
+        let n : _≡_ {A = ℕ} notWellFormed 0 = sym (ap (λ (y : CircuitHeader). y .number) f) ∙ z in absurd (omega arith)

@@ -22,6 +22,7 @@ use Rattle.circuit.specs.declared.GateAt.{GateAt}
 use Rattle.circuit.specs.declared.GateRead.{GateRead}
 use Rattle.circuit.specs.declared.GateRead.the-variants.{Found, NoGate}
 use Rattle.circuit.proofs.GateReading.{settled-parsed}
+use Rattle.circuit.proofs.CircuitReading.{read-gives}
 use Rattle.text.specs.AppendedBytes.{Written, written, puts}
 use Rattle.lines.specs.ListingRows.{lineThen, linesRead}
 use Rattle.text.proofs.AppendLaws.{put-after, put-then}
@@ -70,17 +71,6 @@ unfolding linesRead lineThen encodeAll gateLines
 lines-are most k [] ok = refl
 lines-are most k (g ∷ gs) ok =
     rw (read-encode most g (ok .0) (encodeAll gs) 0) (ap (λ l. gateLine k g ++ l) (lines-are most (suc k) gs (ok .1)))
-
--- number 0 says that there is a circuit
-read-gives : (bs : List ℕ) (h : CircuitHeader) → h ≡ headerOf (circuitRead bs) → h .number ≡ 0 → (c : Circuit) × (circuitRead bs ≡ gives c)
-unfolding wellFormed headerOf
-read-gives bs h e z = go (readCircuit bs) refl
-  where
-    go : (x : Parsed Circuit) → readCircuit bs ≡ x → (c : Circuit) × (circuitRead bs ≡ gives c)
-    go (parsed c i) q = (c, rw q)
-    go (refused k) q =
-        let f : h ≡ headerOf (wellFormed (refused k)) = rw q at e in
-        let n : _≡_ {A = ℕ} notWellFormed 0 = sym (ap (λ (y : CircuitHeader). y .number) f) ∙ z in absurd (omega arith)
 
 -- behind its header a circuit's bytes are its gates
 gates-after : (bs : List ℕ) (c : Circuit) → write c ≡ bs → inputAt bs headerLength ≡ left (encodeAll (c .gates)) 0

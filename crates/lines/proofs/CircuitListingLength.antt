@@ -15,23 +15,13 @@ use Rattle.model.specs.Answers.{gives, refuses, wellFormed, circuitRead}
 use Rattle.model.specs.Listing.{decimal, hyphens, placed, controlText, actionText, gateLine, gateLines, listed}
 use Rattle.model.proofs.BooleanLaws.{byLt, and-left, and-right}
 use Rattle.model.proofs.RoundTrip.{WellFormed, AllWellFormed, formed, encodeAll-length, write-length, write-circuitRead}
-use Rattle.text.proofs.DecimalText.{decimal-low, decimal-high}
-
--- ten times a number has one digit more
-longer : (most d : ℕ) → 1 ≤ d → ((j : ℕ) → j < most → length (decimal j) ≤ d) → (k : ℕ) → k < 10 * most → length (decimal k) ≤ suc d
-longer most d some h k small = byLt k 10
-    (λ l. rw (decimal-low k l) (omega arith))
-    (λ l. let e : length (decimal (k / 10)) ≤ d = h (k / 10) (omega arith) in
-      rw (decimal-high k l, length-append (decimal (k / 10)) ((48 + k % 10) ∷ [])) (omega arith))
-
-one-digit : (k : ℕ) → k < 10 → length (decimal k) ≤ 1
-one-digit k h = rw (decimal-low k h) (omega arith)
+use Rattle.model.proofs.DecimalDigits.{decimal-few}
 
 three-digits : (k : ℕ) → k < 1000 → length (decimal k) ≤ 3
-three-digits k h = longer 100 2 (omega arith) (longer 10 1 (omega arith) one-digit) k h
+three-digits k h = decimal-few 2 k h
 
 five-digits : (k : ℕ) → k < 100000 → length (decimal k) ≤ 5
-five-digits k h = longer 10000 4 (omega arith) (longer 1000 3 (omega arith) three-digits) k h
+five-digits k h = decimal-few 4 k h
 
 -- wires of at most three digits
 abbrev Short : List ℕ → Type 0

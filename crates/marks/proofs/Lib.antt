@@ -1,4 +1,4 @@
 -- What the proofs of several functions, and of callers, use.
 mod OutermostWires
 mod MarkedWires
-mod MarkedBand
+pub mod MarkedBand

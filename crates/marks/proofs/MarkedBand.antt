@@ -23,12 +23,12 @@ use Rattle.marks.specs.declared.BandRead.the-variants.{Gates, NoBand}
 use Rattle.marks.specs.Columns.{markGate, Banded, banded, unread, markThen, markFrom, bandedIn}
 
 -- no byte is left, and some are
-from-end : (most k column : ℕ) (i : Input) (marks : List ℕ) → length (i .bytes) ≡ 0 → markFrom most k column i marks ≡ banded column i marks
+pub from-end : (most k column : ℕ) (i : Input) (marks : List ℕ) → length (i .bytes) ≡ 0 → markFrom most k column i marks ≡ banded column i marks
 unfolding markFrom
 from-end most zero column i marks e = refl
 from-end most (suc k) column i marks e = rw (eq-eqb (length (i .bytes)) 0 e, markFrom)
 
-from-more : (most k column : ℕ) (i : Input) (marks : List ℕ) → 0 < k → (length (i .bytes) ≡ 0 → ⊥) →
+pub from-more : (most k column : ℕ) (i : Input) (marks : List ℕ) → 0 < k → (length (i .bytes) ≡ 0 → ⊥) →
     markFrom most k column i marks ≡ markThen column marks (readGate most i) (markFrom most (k - 1) (suc column))
 unfolding markFrom
 from-more most zero column i marks h f = absurd (omega arith)

@@ -23,52 +23,56 @@ use Rattle.model.proofs.RoundTrip.{write-circuitRead}
 -- The reader of a band.
 
 -- it stops where no byte is left
-band-end : (most k : ℕ) (i : Input) → length (i .bytes) ≡ 0 → readBand most k i ≡ parsed [] i
+pub band-end : (most k : ℕ) (i : Input) → length (i .bytes) ≡ 0 → readBand most k i ≡ parsed [] i
 unfolding readBand
 band-end most zero i e = refl
 band-end most (suc k) i e = rw (eq-eqb (length (i .bytes)) 0 e, readBand)
 
 -- and reads a gate, then others, where a byte is left
-band-gate : (most k : ℕ) (i : Input) → (length (i .bytes) ≡ 0 → ⊥) →
+pub band-gate : (most k : ℕ) (i : Input) → (length (i .bytes) ≡ 0 → ⊥) →
     readBand most (suc k) i ≡ andThen (readGate most i) (λ g j. andThen (readBand most k j) (λ gs l. parsed (g ∷ gs) l))
 unfolding readBand
 band-gate most k i n = rw (ne-eqb (length (i .bytes)) 0 n, readBand)
 
--- of the gates of a band that was read: they are no more than asked for, their bytes are those that were read, and there is one where one may be read and
--- a byte stands
-abbrev BandRead : ℕ → Input → List Gate → Input → Type 0
-BandRead k i gs j = (length gs ≤ k) × Spells i (encodeAll gs) j × (0 < k → 0 < length (i .bytes) → 0 < length gs)
+-- of the gates of a band that was read: they are no more than asked for, their bytes are those that were read, there is one where one may be read and
+-- a byte stands, and all are well formed
+abbrev BandRead : ℕ → ℕ → Input → List Gate → Input → Type 0
+BandRead most k i gs j = (length gs ≤ k) × Spells i (encodeAll gs) j × (0 < k → 0 < length (i .bytes) → 0 < length gs) × AllWellFormed most gs
 
 -- what the reader of a band gives
-reads-band : (most k : ℕ) (i : Input) → Reads (BandRead k i) Anyhow (readBand most k i)
+reads-band : (most k : ℕ) (i : Input) → Reads (BandRead most k i) Anyhow (readBand most k i)
 unfolding readBand encodeAll
-reads-band most zero i = (zero-le, refl, λ some. absurd (omega arith))
+reads-band most zero i = (zero-le, refl, (λ some. absurd (omega arith)), tt)
 reads-band most (suc k) i = byEq (length (i .bytes)) 0
-    (λ e. rw (band-end most (suc k) i e) (zero-le, refl, λ some there. absurd (omega arith)))
+    (λ e. rw (band-end most (suc k) i e) (zero-le, refl, (λ some there. absurd (omega arith)), tt))
     (λ n. rw (band-gate most k i n)
-      (reads-then (GateRead most i) (BandRead (suc k) i) Anyhow (readGate most i) _ (reads-gate most i) (λ g j q.
-      reads-then (BandRead k j) (BandRead (suc k) i) Anyhow (readBand most k j) _ (reads-band most k j) (λ gs l r.
+      (reads-then (GateRead most i) (BandRead most (suc k) i) Anyhow (readGate most i) _ (reads-gate most i) (λ g j q.
+      reads-then (BandRead most k j) (BandRead most (suc k) i) Anyhow (readBand most k j) _ (reads-band most k j) (λ gs l r.
       (suc-le-suc (r .0), q .1 ∙ ap (λ x. encode g ++ x) (r .1) ∙ sym (append-assoc (encode g) (encodeAll gs) (l .bytes)),
-        λ some there. suc-le-suc zero-le)))))
+        (λ some there. suc-le-suc zero-le), (q .0, r .3))))))
 
 -- a band has no more gates than were asked for
 pub band-most : (most k : ℕ) (i : Input) (gs : List Gate) (j : Input) → readBand most k i ≡ parsed gs j → length gs ≤ k
 band-most most k i gs j e = (rw e at (reads-band most k i)) .0
 
+-- and they are well formed
+pub band-formed : (most k : ℕ) (i : Input) (gs : List Gate) (j : Input) → readBand most k i ≡ parsed gs j → AllWellFormed most gs
+band-formed most k i gs j e = (rw e at (reads-band most k i)) .3
+
 -- Going on behind a band.
 
 -- nothing is left: there is no next place
-place-end : (bytes : List ℕ) (i : Input) → length (i .bytes) ≡ 0 → placeOf bytes i ≡ 0
+pub place-end : (bytes : List ℕ) (i : Input) → length (i .bytes) ≡ 0 → placeOf bytes i ≡ 0
 place-end bytes i e = rw (eq-eqb (length (i .bytes)) 0 e, placeOf)
 
 -- bytes are left: the next place is where they begin
-place-left : (bytes : List ℕ) (i : Input) → (length (i .bytes) ≡ 0 → ⊥) → placeOf bytes i ≡ length bytes - length (i .bytes)
+pub place-left : (bytes : List ℕ) (i : Input) → (length (i .bytes) ≡ 0 → ⊥) → placeOf bytes i ≡ length bytes - length (i .bytes)
 place-left bytes i n = rw (ne-eqb (length (i .bytes)) 0 n, placeOf)
 
 -- behind a band's gates, the next place is behind the first of them and before the end
-place-advances : (bytes : List ℕ) (at k : ℕ) (gs : List Gate) (j : Input) → 0 < k → BandRead k (inputAt bytes at 0) gs j →
+place-advances : (bytes : List ℕ) (most at k : ℕ) (gs : List Gate) (j : Input) → 0 < k → BandRead most k (inputAt bytes at 0) gs j →
     (placeOf bytes j ≡ 0 → ⊥) → (at < placeOf bytes j) × (placeOf bytes j < length bytes)
-place-advances bytes at k gs j one r goes = byEq (length (j .bytes)) 0
+place-advances bytes most at k gs j one r goes = byEq (length (j .bytes)) 0
     (λ e. absurd (goes (place-end bytes j e)))
     (λ n.
       let from : length (drop at bytes) ≡ length bytes - at = length-drop at bytes in
@@ -78,12 +82,12 @@ place-advances bytes at k gs j one r goes = byEq (length (j .bytes)) 0
       rw (place-left bytes j n) (omega arith))
 
 -- of a band that is drawn: the place of the next one
-drawn-advances : (bytes : List ℕ) (most at k : ℕ) (x : Parsed (List Gate)) (b : Band) → 0 < k → Reads (BandRead k (inputAt bytes at 0)) Anyhow x →
+drawn-advances : (bytes : List ℕ) (most at k : ℕ) (x : Parsed (List Gate)) (b : Band) → 0 < k → Reads (BandRead most k (inputAt bytes at 0)) Anyhow x →
     drawn bytes most x ≡ gives b → (b .next ≡ 0 → ⊥) → (at < b .next) × (b .next < length bytes)
 unfolding drawn
 drawn-advances bytes most at k (parsed gs j) b one r e goes =
     let is : placeOf bytes j ≡ b .next = ap (λ (c : Band). c .next) (gives-same e) in
-    rw is at (place-advances bytes at k gs j one r (rw is goes))
+    rw is at (place-advances bytes most at k gs j one r (rw is goes))
 drawn-advances bytes most at k (refused n) b one r e goes = not-both e
 
 -- the same of the band at a place

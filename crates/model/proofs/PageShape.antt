@@ -1,34 +1,23 @@
 -- The page's measures: how long a row and a band are, that no line passes 80 columns, and how many lines there are.
 use mathlib.Core.Path.{_≡_, refl, ap, _∙_}
 use mathlib.Core.List.{List, [], _∷_, _++_, map}
-use Prim.Native.Nat.{ℕ, zero, suc, _+_, _*_, _-_, _/_, _%_, _^_, _≤_, _<_, zero-le}
+use Prim.Native.Nat.{ℕ, zero, suc, _+_, _*_, _-_, _/_, _≤_, _<_, zero-le}
 use native.Mathlib.Omega.{arith}
 use lib.ListN.{length, length-append, length-map, length-replicate, length-take, replicate, take, drop}
 use Rattle.model.specs.Limits.{mostWires}
 use Rattle.model.specs.Lists.{range}
 use Rattle.model.specs.Gates.{Gate}
 use Rattle.model.specs.Circuit.{Circuit}
-use Rattle.model.specs.Listing.{space, newline, digitZero, digitsWithin, decimal}
+use Rattle.model.specs.Listing.{space, newline, decimal}
 use Rattle.model.specs.Page.{numberColumns, bandGates, marks, rightAligned, row, rows, band, bandCount, page, linesOf}
-use Rattle.model.proofs.BooleanLaws.{byLt}
 use Rattle.model.proofs.ListLaws.{range-length}
 use Rattle.model.proofs.RoundTrip.{WellFormed}
-use Rattle.model.proofs.DecimalDigits.{digits-one, digits-more}
+use Rattle.model.proofs.DecimalDigits.{decimal-few}
 use Rattle.model.proofs.PageLines.{line, pageLines, lines-of-bands}
 
--- a number below a power of ten has at most as many digits as the power has noughts
-digits-few : (n most k : ℕ) → k < 10 ^ suc n → length (digitsWithin most k) ≤ suc n
-unfolding digitsWithin
-digits-few n zero k h = zero-le
-digits-few zero (suc most) k h = rw (digits-one most k h) (omega arith)
-digits-few (suc n) (suc most) k h = byLt k 10
-    (λ l. rw (digits-one most k l) (omega arith))
-    (λ l. rw (digits-more most k l, length-append (digitsWithin most (k / 10)) ((digitZero + k % 10) ∷ []))
-      (omega (arith, digits-few n most (k / 10) (omega arith))))
-
--- so a wire number has at most three digits
+-- a wire number has at most three digits
 wire-digits : (w : ℕ) → w ≤ mostWires → length (decimal w) ≤ 3
-wire-digits w h = digits-few 2 (suc w) w (omega arith)
+wire-digits w h = decimal-few 2 w (omega arith)
 
 -- and with the spaces before it fills its columns
 pub number-length : (w : ℕ) → w ≤ mostWires → length (rightAligned w) ≡ numberColumns
