@@ -3,8 +3,9 @@ ghost use mathlib.Core.Path.{_≡_};
 ghost use lib.ListN.{length};
 ghost use Rattle.model.specs.Answers.{circuitRead, circuitRun, roomAfter, workspaceAfter};
 ghost use Rattle.model.specs.Answers as model;
-ghost use Rattle.answers.specs.Structs.{answerOf, lengthAnswer, headerOf, blockAnswer, Delivered};
-use answers::{Answer, CircuitBlock, CircuitHeader};
+ghost use Rattle.model.specs.Page.{pageBand, textAfter};
+ghost use Rattle.answers.specs.Structs.{answerOf, lengthAnswer, headerOf, blockAnswer, bandAnswer, Delivered};
+use answers::{Answer, CircuitBlock, CircuitHeader, PageBand};
 use compile::clear;
 
 // The verdict: 0 for an accepted table, otherwise the refusal's number.
@@ -57,4 +58,14 @@ pub extern "C" fn foq_circuit_run(bytes: &[u8], word: u64) -> CircuitBlock
     ensures { λ r. ⌜ r ≡ blockAnswer (circuitRun (now (bytes .entry)) word) ⌝ }
 {
     circuit_run::run_circuit(bytes, word)
+}
+
+// One band of a circuit's page: its length and the place of the next band, or the refusal's number and zeros. Place 0 asks for the first band. The text
+// takes the whole band, or nothing where it is too short for it.
+#[no_mangle]
+pub extern "C" fn foq_page_band(circuit: &[u8], place: u64, text: &mut [u8]) -> PageBand
+    ensures { λ r. ⌜ r ≡ bandAnswer (pageBand (now (circuit .entry)) place) ⌝ }
+    ensures { λ r. ⌜ now (text .exit) ≡ textAfter (pageBand (now (circuit .entry)) place) (now (text .entry)) ⌝ }
+{
+    bands::page_band(circuit, place as usize, text)
 }

@@ -96,31 +96,13 @@ fn list_descriptor(fd: i32) {
     io::write_all(STDOUT_FILENO, &text[..length]);
 }
 
-fn list_file(name: &[u8]) {
-    let fd = os::open_read(name);
+fn list_argument(i: usize) {
+    let fd = inputs::open(i);
     if fd < 0 {
-        os::fail(name);
         return;
     }
     list_descriptor(fd);
-    libc::close(fd);
-}
-
-fn is_hyphen(name: &[u8]) -> bool {
-    if name.len() != 1 {
-        return false;
-    }
-    name[0] == b'-'
-}
-
-fn list_argument(i: usize) {
-    let mut name = [0u8; libc::PATH_MAX];
-    let length = os::arg(i, &mut name);
-    if is_hyphen(&name[..length]) {
-        list_descriptor(STDIN_FILENO);
-        return;
-    }
-    list_file(&name[..length]);
+    inputs::close(fd);
 }
 
 fn main() {
