@@ -3,9 +3,9 @@
  *
  * A table of bytes holds a FOQ program. foq_verdict says whether it is accepted,
  * foq_run runs it from a basis state, and foq_compile translates it into a
- * circuit, which foq_circuit_read looks through and foq_circuit_run runs. Here a
- * program that flips qubit 2 of three is run from the word 5, and so is its
- * circuit:
+ * circuit, which foq_circuit_read looks through, foq_circuit_run runs and
+ * foq_page_band draws. Here a program that flips qubit 2 of three is run from
+ * the word 5, and so is its circuit:
  *
  *     #include <stdio.h>
  *     #include "foq.h"
@@ -40,8 +40,8 @@
  * to this, which no function can test:
  *
  *   - The pointer leads to that many bytes of one object, which may be read
- *     during the call, those of a room or a workspace written too, and which
- *     nothing else changes meanwhile.
+ *     during the call, those of a room, a text or a workspace written too, and
+ *     which nothing else changes meanwhile.
  *   - A slice of length 0 may have a null pointer.
  *   - No two slices of one call overlap.
  *
@@ -49,9 +49,9 @@
  * zero, whatever its length and whatever the answer.
  *
  * No function keeps anything from one call to the next, takes memory from the
- * heap or writes anywhere but into its answer, the room and the workspace.
- * Calls from several threads at the same time are allowed, each with its own
- * room and workspace.
+ * heap or writes anywhere but into its answer, the room, the text and the
+ * workspace. Calls from several threads at the same time are allowed, each with
+ * its own room, text and workspace.
  *
  * FOQ_ENOUGH_STACK bytes of stack are enough for a call. That is not proved but
  * measured, on x86-64, at the deepest tables that could be made:
@@ -175,6 +175,13 @@
 #define FOQ_GATE_ON_ZERO 2u
 #define FOQ_GATE_SWAP 4u
 
+/*
+ * A text that is long enough for every band of a page, in bytes: on each row
+ * four columns for the wire number, four for each of nineteen gates, and a
+ * newline.
+ */
+#define FOQ_MOST_BAND 20655u
+
 /* The bytes that hold the wires of a running circuit. */
 #define FOQ_BLOCK_LENGTH 32u
 
@@ -214,6 +221,16 @@ typedef struct {
     uint32_t number;
     uint64_t value;
 } foq_answer;
+
+/*
+ * One band of a circuit's page: its length in bytes, and the place where the
+ * next band begins, 0 behind the last one.
+ */
+typedef struct {
+    uint32_t number;
+    uint64_t length;
+    uint64_t next;
+} foq_band;
 
 /*
  * Says whether a table is accepted for n qubits. Its answer is FOQ_SUCCESS or
@@ -291,6 +308,42 @@ foq_circuit foq_circuit_read(const uint8_t *circuit, size_t length);
  * 32 to 63 too.
  */
 foq_block foq_circuit_run(const uint8_t *circuit, size_t length, uint64_t word);
+
+/*
+ * Puts one band of a circuit's page into the text. A page has a row for each
+ * wire, which starts with the wire's number, right-aligned in four columns; each
+ * gate takes four columns, a mark and three dashes. The mark is X for a NOT's
+ * target, S for each swapped wire, + or o for a control on 1 or 0, | on other
+ * rows between the gate's outermost wires, else a dash. Nineteen gates fill a
+ * line of 80 columns; a longer circuit goes on in further bands, each with all
+ * wires. Every line ends with a newline. The gates can be read off the page.
+ *
+ * Place 0 asks for the first band. Each band gives the place of the next, and
+ * the last gives 0, so this writes a page that may be far longer than its
+ * circuit (35.6 megabytes at most):
+ *
+ *     uint64_t place = 0;
+ *     do {
+ *         foq_band band = foq_page_band(circuit, length, place, text,
+ *                                       sizeof text);
+ *         if (band.number != FOQ_SUCCESS)
+ *             return 1;
+ *         fwrite(text, 1, band.length, stdout);
+ *         place = band.next;
+ *     } while (place != 0);
+ *
+ * The text takes the whole band, and what stood behind it stays. A text that is
+ * shorter than the band is left as it was: the number is FOQ_SUCCESS, and the
+ * length says how many bytes it needs. FOQ_MOST_BAND bytes are always enough.
+ *
+ * At place 0 it reads the whole circuit and refuses with FOQ_NOT_WELL_FORMED
+ * exactly where foq_circuit_read does. At another place it reads the gates of
+ * one band, over the header's wires, and refuses with FOQ_NOT_WELL_FORMED where
+ * no such gates stand there; the places that the bands of a well-formed circuit
+ * give, up to its end, are never refused. A refusal leaves the text as it was.
+ */
+foq_band foq_page_band(const uint8_t *circuit, size_t length, uint64_t place,
+                       uint8_t *text, size_t text_length);
 
 #ifdef __cplusplus
 }

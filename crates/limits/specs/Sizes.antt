@@ -74,10 +74,6 @@ blockBits = 8 * blockLength
 abbrev pub lineColumns : ℕ
 lineColumns = numberColumns + 4 * bandGates
 
--- the longest band of a page: a line and its newline for each wire
-abbrev pub mostBand : ℕ
-mostBand = mostWires * (lineColumns + 1)
-
 -- the marks of a band as the code keeps them: a column for each gate, a byte for each number of a wire
 abbrev pub marksLength : ℕ
 marksLength = bandGates * wireCount

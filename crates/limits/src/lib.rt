@@ -3,7 +3,7 @@ ghost use mathlib.Core.Path.{_≡_};
 ghost use mathlib.Core.List.{[], _∷_};
 ghost use Rattle.model.specs.Limits.{
   tableEdition, mostProcedures, mostRecords, mostDepth, mostRemovals, mostQubits, mostWires, circuitEdition, headerLength, mostCircuit,
-  blockLength, leastWorkspace,
+  mostBand, blockLength, leastWorkspace,
 };
 ghost use Rattle.model.specs.Limits.{
   tableStops, wrongEdition, manyProcedures, wrongKind, wrongMap, wrongField, tooDeep, bytesLeft, wrongQubits, noRemoval, tooWide,
@@ -12,7 +12,7 @@ ghost use Rattle.model.specs.Limits.{
 ghost use Rattle.model.specs.Page.{bandGates};
 ghost use Rattle.limits.specs.Sizes.{
   bodyCount, matrixLength, lengthCount, rowCount, endsAt, rootsAt, indexLength, placeCount, mostControls, slotLength, mostCalls, kindCount,
-  firstCondition, mostConstant, wireCount, marksLength, lineColumns, mostBand,
+  firstCondition, mostConstant, wireCount, marksLength, lineColumns,
 };
 
 // "Byte 0 is the edition, 1." "Byte 1 is p, the number of procedures, 0 to 16."

@@ -1,4 +1,4 @@
--- Every limit and every refusal of document 01, by name.
+-- Every limit and every refusal of document 01, by name, and those of document 02 that C is to know.
 use Prim.Native.Nat.{ℕ}
 
 -- "Byte 0 is the edition, 1." "Byte 1 is p, the number of procedures, 0 to 16."
@@ -35,6 +35,10 @@ headerLength = 7
 
 abbrev pub mostCircuit : ℕ
 mostCircuit = 65536
+
+-- document 02, S-1: the longest band of a page, a line of 80 columns and a newline for each wire
+abbrev pub mostBand : ℕ
+mostBand = 20655
 
 -- "one block of 32 bytes"
 abbrev pub blockLength : ℕ

@@ -8,8 +8,7 @@ use native.Mathlib.Omega.{arith}
 use borrow.Author.Tests.{leb-true}
 use lib.ListN.{length}
 use lib.Dec.{leb}
-use Rattle.limits.specs.Sizes.{mostBand}
-use Rattle.model.specs.Limits.{mostWires, headerLength, notWellFormed}
+use Rattle.model.specs.Limits.{mostWires, mostBand, headerLength, notWellFormed}
 use Rattle.model.specs.Reading.{inputAt, Parsed, parsed, refused}
 use Rattle.model.specs.Gates.{Gate}
 use Rattle.model.specs.Circuit.{Circuit}

@@ -7,8 +7,7 @@ use borrow.Author.Needs.{needs}
 use borrow.Author.Tests.{le-leb}
 use lib.ListN.{length, take, drop, length-append, take-append-drop}
 use lib.Seq.{take-all, take-append-seam, length-take-le}
-use Rattle.limits.specs.Sizes.{mostBand}
-use Rattle.model.specs.Limits.{mostCircuit, notWellFormed}
+use Rattle.model.specs.Limits.{mostCircuit, mostBand, notWellFormed}
 use Rattle.model.specs.Answers.{Outcome, gives, refuses}
 use Rattle.model.specs.Listing.{newline, decimal, refusalLine}
 use Rattle.model.specs.Page.{Band, pageBand, lentAfter, textAfter}

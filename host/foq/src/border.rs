@@ -9,6 +9,10 @@ pub const BLOCK_LENGTH: usize = 32;
 /// The length of the longest circuit in bytes: a room that is always enough.
 pub const MOST_CIRCUIT: usize = 65_536;
 
+/// The length of the longest band of a page in bytes: a text that is always
+/// enough.
+pub const MOST_BAND: usize = 20_655;
+
 /// The shortest workspace that is enough.
 pub const LEAST_WORKSPACE: usize = 32_768;
 
@@ -50,9 +54,21 @@ pub struct Block {
     pub bits: [u8; BLOCK_LENGTH],
 }
 
+/// `foq_band`.
+#[repr(C)]
+#[derive(Clone, Copy, Debug, Default, PartialEq, Eq)]
+pub struct Band {
+    /// 0 or a refusal's number.
+    pub number: u32,
+    /// The band's length in bytes.
+    pub length: u64,
+    /// The place where the next band begins; 0 behind the last one.
+    pub next: u64,
+}
+
 /// As `foq.h` declares them.
 mod declared {
-    use super::{Answer, Block, Circuit};
+    use super::{Answer, Band, Block, Circuit};
 
     extern "C" {
         pub fn foq_verdict(
@@ -81,6 +97,13 @@ mod declared {
         ) -> Answer;
         pub fn foq_circuit_read(circuit: *const u8, length: usize) -> Circuit;
         pub fn foq_circuit_run(circuit: *const u8, length: usize, word: u64) -> Block;
+        pub fn foq_page_band(
+            circuit: *const u8,
+            length: usize,
+            place: u64,
+            text: *mut u8,
+            text_length: usize,
+        ) -> Band;
     }
 }
 
@@ -151,4 +174,19 @@ pub fn circuit_read(circuit: &[u8]) -> Circuit {
 pub fn circuit_run(circuit: &[u8], word: u64) -> Block {
     // SAFETY: as above; the circuit is only read.
     unsafe { declared::foq_circuit_run(circuit.as_ptr(), circuit.len(), word) }
+}
+
+/// One band of a circuit's page, into the text: the first for place 0.
+#[must_use]
+pub fn page_band(circuit: &[u8], place: u64, text: &mut [u8]) -> Band {
+    // SAFETY: as above; the circuit is only read.
+    unsafe {
+        declared::foq_page_band(
+            circuit.as_ptr(),
+            circuit.len(),
+            place,
+            text.as_mut_ptr(),
+            text.len(),
+        )
+    }
 }

@@ -12,6 +12,7 @@
 //! | [`compile`], [`compile_to_vec`] | translates a table into its circuit |
 //! | [`circuit_read`] | reads a circuit: its qubits, ancillas and gates |
 //! | [`circuit_run`] | runs a circuit from a start word |
+//! | [`page_band`], [`write_page`] | draws a circuit on a page of 80 columns |
 //!
 //! [`PAIRS`] is a table to try. Its circuit ends as its run does, whatever the
 //! word:
@@ -41,8 +42,9 @@
 pub mod border;
 mod refusal;
 
-pub use border::{BLOCK_LENGTH, LEAST_WORKSPACE, MOST_CIRCUIT};
+pub use border::{BLOCK_LENGTH, LEAST_WORKSPACE, MOST_BAND, MOST_CIRCUIT};
 pub use refusal::Refusal;
+use std::io::{self, Write};
 
 /// A table to try, PAIRS of document 01. Its procedure flips its qubit where it
 /// has one; otherwise it calls itself without its first two qubits where these
@@ -102,6 +104,15 @@ impl Block {
         let bits = wires.map(|wire| u64::from(self.holds(wire)) << (wire - 1));
         bits.sum()
     }
+}
+
+/// One band of a circuit's page.
+#[derive(Clone, Copy, Debug, PartialEq, Eq)]
+pub struct Band {
+    /// The band's length in bytes.
+    pub length: usize,
+    /// The place where the next band begins; 0 behind the last one.
+    pub next: u64,
 }
 
 /// The verdict: whether a table is accepted for n qubits. The workspace is zero
@@ -235,4 +246,65 @@ pub fn circuit_run(circuit: &[u8], word: u64) -> Result<Block, Refusal> {
         ancillas: answer.ancillas,
         bits: answer.bits,
     })
+}
+
+/// One band of a circuit's page, into a text: place 0 asks for the first band,
+/// and each band says where the next one begins. A text of [`MOST_BAND`] bytes
+/// takes every band; one that is too short for a band is left as it was, and
+/// the band's length says how long it must be.
+///
+/// ```
+/// use foq::{page_band, Band, Refusal, MOST_BAND};
+///
+/// // A NOT of wire 2 under wire 1: two qubits, no ancilla, one gate.
+/// let circuit = [1, 2, 0, 1, 0, 0, 0, 1, 2, 1, 1];
+/// let mut text = [0; MOST_BAND];
+/// let band = page_band(&circuit, 0, &mut text)?;
+/// assert_eq!(&text[..band.length], b"   1+---\n   2X---\n");
+/// assert_eq!(band.next, 0);
+///
+/// assert_eq!(page_band(&circuit, 0, &mut [0; 17])?, Band { length: 18, next: 0 });
+/// assert_eq!(page_band(&circuit[1..], 0, &mut text), Err(Refusal::NOT_WELL_FORMED));
+/// # Ok::<(), Refusal>(())
+/// ```
+///
+/// # Errors
+/// [`Refusal::NOT_WELL_FORMED`], at place 0 exactly where [`circuit_read`]
+/// refuses; at another place where the gates of a band do not stand there.
+pub fn page_band(circuit: &[u8], place: u64, text: &mut [u8]) -> Result<Band, Refusal> {
+    let band = border::page_band(circuit, place, text);
+    Refusal::unless_success(band.number)?;
+    Ok(Band {
+        length: usize::try_from(band.length).expect("a band is short"),
+        next: band.next,
+    })
+}
+
+/// The whole page of a circuit, written band by band.
+///
+/// ```
+/// let circuit = foq::compile_to_vec(foq::PAIRS, 1)?;
+/// let mut page = Vec::new();
+/// foq::write_page(&circuit, &mut page).expect("a vector takes all")?;
+/// assert_eq!(page, b"   1----X-------\n   2X---+---X---\n");
+/// # Ok::<(), foq::Refusal>(())
+/// ```
+///
+/// # Errors
+/// Those of the writer; within, [`Refusal::NOT_WELL_FORMED`] where
+/// [`circuit_read`] refuses, before anything is written.
+pub fn write_page(circuit: &[u8], out: &mut impl Write) -> io::Result<Result<(), Refusal>> {
+    let mut text = [0; MOST_BAND];
+    let mut place = 0;
+    loop {
+        let band = match page_band(circuit, place, &mut text) {
+            Ok(band) => band,
+            Err(refusal) => return Ok(Err(refusal)),
+        };
+        out.write_all(&text[..band.length])?;
+        if band.next == 0 {
+            return Ok(Ok(()));
+        }
+        place = band.next;
+    }
 }
