@@ -19,3 +19,4 @@ pub mod PageMarks
 pub mod PageReadBack
 pub mod PageBands
 pub mod WorkedPrograms
+pub mod WorkedPages
