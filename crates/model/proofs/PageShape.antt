@@ -1,6 +1,6 @@
 -- The page's measures: how long a row and a band are, that no line passes 80 columns, and how many lines there are.
 use mathlib.Core.Path.{_≡_, refl, ap, _∙_}
-use mathlib.Core.List.{List, [], _∷_, _++_, map}
+use mathlib.Core.List.{List, [], _∷_, _++_, append-nil, map}
 use Prim.Native.Nat.{ℕ, zero, suc, _+_, _*_, _-_, _/_, _≤_, _<_, zero-le}
 use native.Mathlib.Omega.{arith}
 use lib.ListN.{length, length-append, length-map, length-replicate, length-take, replicate, take, drop}
@@ -9,7 +9,7 @@ use Rattle.model.specs.Lists.{range}
 use Rattle.model.specs.Gates.{Gate}
 use Rattle.model.specs.Circuit.{Circuit}
 use Rattle.model.specs.Listing.{space, newline, decimal}
-use Rattle.model.specs.Page.{numberColumns, bandGates, marks, rightAligned, row, rows, band, bandCount, page, linesOf}
+use Rattle.model.specs.Page.{numberColumns, bandGates, marks, rightAligned, row, rows, band, bands, bandCount, page, linesOf}
 use Rattle.model.proofs.ListLaws.{range-length}
 use Rattle.model.proofs.RoundTrip.{WellFormed}
 use Rattle.model.proofs.DecimalDigits.{decimal-few}
@@ -101,3 +101,15 @@ unfolding page
 lines-counted c w =
     let most = c .dataWires + c .ancillas in let k = bandCount (length (c .gates)) in
     ap length (lines-of-bands most k (c .gates)) ∙ page-counted most k (c .gates)
+
+-- "A circuit without gates is one band of wire numbers."
+pub no-gates : (n a : ℕ) → page (record { dataWires = n; ancillas = a; gates = [] }) ≡ band (n + a) []
+unfolding page bands
+no-gates n a = append-nil (band (n + a) [])
+
+-- the bands take all gates, and all but the last one would not
+pub bands-enough : (gates : ℕ) → gates ≤ bandGates * bandCount gates
+bands-enough gates = omega arith
+
+pub bands-needed : (gates : ℕ) → 0 < gates → bandGates * (bandCount gates - 1) < gates
+bands-needed gates h = omega arith
