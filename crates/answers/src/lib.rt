@@ -1,4 +1,5 @@
-// The answers that C gets. What each says is `answerOf`, `lengthAnswer`, `headerOf`, `blockAnswer` and `bandAnswer` in specs/Structs.antt. This crate has no function.
+// The answers that C gets. What each says is `answerOf`, `lengthAnswer`, `headerOf`, `blockAnswer` and `bandAnswer` in specs/Structs.antt. This crate has
+// no function.
 use limits::BLOCK_LENGTH;
 
 // A number, and beside 0 the value: a run's end word, or the length of what was written into a room.

@@ -88,7 +88,8 @@ module _ (bs : List ℕ) (at most : ℕ) (few : most < 2 ^ 8) (r : BandRead) (ke
             let c = counted f in
             let count : end .count ≡ length gs = c .0 ∙ zero-add (length gs) in
             let rows : rowsAt kept (end .count) most 1 ≡ band most gs =
-                rw (c .2, count) (band-kept most (omega arith) gs (band-formed most bandGates (inputAt bs at) gs j q) (band-most most bandGates (inputAt bs at) gs j q)) in
+                rw (c .2, count) (band-kept most (omega arith) gs (band-formed most bandGates (inputAt bs at) gs j q)
+                  (band-most most bandGates (inputAt bs at) gs j q)) in
             rw (rows, c .1)
         go (refused k) q f = banded-unread f
 

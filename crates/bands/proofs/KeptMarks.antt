@@ -295,7 +295,8 @@ marked-read most (suc k) column i kept = byEq (length (i .bytes)) 0
       (go (readGate most i) (λ g j. marked-read most k (suc column) j (markGate column g kept))))
   where
     go : (x : Parsed Gate) →
-        ((g : Gate) (j : Input) → markFrom most k (suc column) j (markGate column g kept) ≡ markRead (suc column) (markGate column g kept) (readBand most k j)) →
+        ((g : Gate) (j : Input) → markFrom most k (suc column) j (markGate column g kept) ≡
+          markRead (suc column) (markGate column g kept) (readBand most k j)) →
         markThen column kept x (markFrom most k (suc column)) ≡
         markRead column kept (andThen x (λ g j. andThen (readBand most k j) (λ gs l. parsed (g ∷ gs) l)))
     go (parsed g j) later = later g j ∙ mark-first column g kept (readBand most k j)

@@ -1,4 +1,4 @@
--- Document 02, S-1, "Circuits drawn on an 80-column page": the bytes of a circuit's page, one band of them at a time, and the gates read off a page.
+-- Document 02, S-1, "Circuits drawn on an 80-column page": the bytes of a circuit's page, the gates read off a page, and a page one band at a time.
 use Prim.Native.Nat.{ℕ, zero, suc, _+_, _*_, _-_, _/_, min, max}
 use mathlib.Core.Bool.{Bool, true, false, _&&_}
 use mathlib.Core.List.{List, [], _∷_, _++_, map}
@@ -108,52 +108,6 @@ paged (refuses k) = refusalLine k
 abbrev pub pageOf : List ℕ → List ℕ
 pageOf input = paged (circuitRead input)
 
--- The page one band at a time, since a whole page may have 33 megabytes. That the bands make up the page is `page-drawn` in proofs/PageBands.antt.
-
--- a band, and the place in the circuit's bytes where the next one's first gate stands: 0 behind the last band
-pub record Band : Type 0 where
-  pub text : List ℕ
-  pub next : ℕ
-
--- at most k gates over wires 1 to `most`, as many as there are
-unfoldable pub readBand : ℕ → ℕ → Input → Parsed (List Gate)
-readBand most zero i = parsed [] i
-readBand most (suc k) i = elim (eqb (length (i .bytes)) 0) [ true ↦ parsed [] i | false ↦
-    andThen (readGate most i) (λ g j. andThen (readBand most k j) (λ gs l. parsed (g ∷ gs) l)) ]
-
--- where what is left begins; 0 where nothing is left
-abbrev pub placeOf : List ℕ → Input → ℕ
-placeOf bytes i = elim (eqb (length (i .bytes)) 0) [ true ↦ 0 | false ↦ length bytes - length (i .bytes) ]
-
--- the band of the gates that were read; 14 where they are none
-unfoldable pub drawn : List ℕ → ℕ → Parsed (List Gate) → Outcome Band
-drawn bytes most (parsed gs i) = gives (record { text = band most gs; next = placeOf bytes i })
-drawn bytes most (refused k) = refuses notWellFormed
-
--- "wires are 1 to n plus ancillas", as the header says
-abbrev pub headerWires : List ℕ → ℕ
-headerWires bytes = getD bytes 1 0 + getD bytes 2 0
-
--- the band of the gates that stand from a place on
-abbrev pub bandAt : List ℕ → ℕ → Outcome Band
-bandAt bytes at =
-    require (leb (headerWires bytes) mostWires) notWellFormed
-    (drawn bytes (headerWires bytes) (readBand (headerWires bytes) bandGates (inputAt bytes at 0)))
-
--- place 0 asks for the first band, and the whole circuit is read before it: "14 alone where it is not well formed". A later band begins behind the first gate, where
--- the one before it said; its own gates alone are read again.
-unfoldable pub pageBand : List ℕ → ℕ → Outcome Band
-pageBand bytes zero = after (circuitRead bytes) (λ c. bandAt bytes headerLength)
-pageBand bytes (suc k) = require (leb (length bytes) mostCircuit && ltb headerLength (suc k) && ltb (suc k) (length bytes)) notWellFormed (bandAt bytes (suc k))
-
--- a lent text takes all the bytes, its rest unchanged, or nothing where it is too short for them
-abbrev pub lentAfter : List ℕ → List ℕ → List ℕ
-lentAfter bytes text = elim (leb (length bytes) (length text)) [ true ↦ bytes ++ drop (length bytes) text | false ↦ text ]
-
-unfoldable pub textAfter : Outcome Band → List ℕ → List ℕ
-textAfter (gives b) text = lentAfter (b .text) text
-textAfter (refuses k) text = text
-
 -- Reading: "Reading the marks off the page gives the gates that went in, in order."
 
 -- a byte before the first line
@@ -243,3 +197,50 @@ gatesOfBands (b ∷ bs) = gatesOfBand b ++ gatesOfBands bs
 -- the gates on a page, by its bytes alone
 unfoldable pub gatesOn : List ℕ → List Gate
 gatesOn bytes = gatesOfBands (bandsOf (map rowOn (linesOf bytes)))
+
+-- The page one band at a time, since a whole page may have 35.6 megabytes. That the bands make up the page is `page-drawn` in proofs/PageBands.antt.
+
+-- a band, and the place in the circuit's bytes where the next one's first gate stands: 0 behind the last band
+pub record Band : Type 0 where
+  pub text : List ℕ
+  pub next : ℕ
+
+-- at most k gates over wires 1 to `most`, as many as there are
+unfoldable pub readBand : ℕ → ℕ → Input → Parsed (List Gate)
+readBand most zero i = parsed [] i
+readBand most (suc k) i = elim (eqb (length (i .bytes)) 0) [ true ↦ parsed [] i | false ↦
+    andThen (readGate most i) (λ g j. andThen (readBand most k j) (λ gs l. parsed (g ∷ gs) l)) ]
+
+-- where what is left begins; 0 where nothing is left
+abbrev pub placeOf : List ℕ → Input → ℕ
+placeOf bytes i = elim (eqb (length (i .bytes)) 0) [ true ↦ 0 | false ↦ length bytes - length (i .bytes) ]
+
+-- the band of the gates that were read; 14 where they are none
+unfoldable pub drawn : List ℕ → ℕ → Parsed (List Gate) → Outcome Band
+drawn bytes most (parsed gs i) = gives (record { text = band most gs; next = placeOf bytes i })
+drawn bytes most (refused k) = refuses notWellFormed
+
+-- "wires are 1 to n plus ancillas", as the header says
+abbrev pub headerWires : List ℕ → ℕ
+headerWires bytes = getD bytes 1 0 + getD bytes 2 0
+
+-- the band of the gates that stand from a place on
+abbrev pub bandAt : List ℕ → ℕ → Outcome Band
+bandAt bytes at =
+    require (leb (headerWires bytes) mostWires) notWellFormed
+    (drawn bytes (headerWires bytes) (readBand (headerWires bytes) bandGates (inputAt bytes at 0)))
+
+-- place 0 asks for the first band, and the whole circuit is read before it: "14 alone where it is not well formed". A later band begins behind the header's
+-- first gate, where the one before it said; its own gates alone are read again.
+unfoldable pub pageBand : List ℕ → ℕ → Outcome Band
+pageBand bytes zero = after (circuitRead bytes) (λ c. bandAt bytes headerLength)
+pageBand bytes (suc k) =
+    require (leb (length bytes) mostCircuit && ltb headerLength (suc k) && ltb (suc k) (length bytes)) notWellFormed (bandAt bytes (suc k))
+
+-- a lent text takes all the bytes, its rest unchanged, or nothing where it is too short for them
+abbrev pub lentAfter : List ℕ → List ℕ → List ℕ
+lentAfter bytes text = elim (leb (length bytes) (length text)) [ true ↦ bytes ++ drop (length bytes) text | false ↦ text ]
+
+unfoldable pub textAfter : Outcome Band → List ℕ → List ℕ
+textAfter (gives b) text = lentAfter (b .text) text
+textAfter (refuses k) text = text

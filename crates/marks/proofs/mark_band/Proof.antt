@@ -11,7 +11,9 @@ use Rattle.marks.proofs.mark_band.Statement.{statement}
 use Rattle.marks.proofs.mark_band.Tie as tie
 
 abbrev Inv-loop : tie.InvT-loop
-Inv-loop marks₀ bytes from most at₀ column₀ marks at column = (column ≤ bandGates) × (length marks ≡ length marks₀) × (markFrom most bandGates 0 (inputAt bytes from) marks₀ ≡ markFrom most (bandGates - column) column (inputAt bytes at) marks)
+Inv-loop marks₀ bytes from most at₀ column₀ marks at column =
+    (column ≤ bandGates) × (length marks ≡ length marks₀) ×
+    (markFrom most bandGates 0 (inputAt bytes from) marks₀ ≡ markFrom most (bandGates - column) column (inputAt bytes at) marks)
 
 abbrev μ-loop : tie.MeasureT-loop
 μ-loop marks₀ bytes from most at₀ column₀ marks at column = bandGates - column

@@ -10,7 +10,8 @@ use Rattle.marks.proofs.mark_bars.Statement.{statement}
 use Rattle.marks.proofs.mark_bars.Tie as tie
 
 abbrev Inv-loop : tie.InvT-loop
-Inv-loop marks₀ column low high wire₀ marks wire = (length marks ≡ length marks₀) × (markAll bar column (inside low high) marks₀ ≡ markAll bar column (inside wire high) marks)
+Inv-loop marks₀ column low high wire₀ marks wire =
+    (length marks ≡ length marks₀) × (markAll bar column (inside low high) marks₀ ≡ markAll bar column (inside wire high) marks)
 
 abbrev μ-loop : tie.MeasureT-loop
 μ-loop marks₀ column low high wire₀ marks wire = high - wire

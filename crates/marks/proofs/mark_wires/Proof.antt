@@ -9,7 +9,8 @@ use Rattle.marks.proofs.mark_wires.Statement.{statement}
 use Rattle.marks.proofs.mark_wires.Tie as tie
 
 abbrev Inv-loop : tie.InvT-loop
-Inv-loop marks₀ column bytes from count sign at₀ left₀ marks at left = (length marks ≡ length marks₀) × (markAll sign column (part bytes from count) marks₀ ≡ markAll sign column (part bytes at left) marks)
+Inv-loop marks₀ column bytes from count sign at₀ left₀ marks at left =
+    (length marks ≡ length marks₀) × (markAll sign column (part bytes from count) marks₀ ≡ markAll sign column (part bytes at left) marks)
 
 abbrev μ-loop : tie.MeasureT-loop
 μ-loop marks₀ column bytes from count sign at₀ left₀ marks at left = left

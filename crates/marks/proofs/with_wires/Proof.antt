@@ -8,7 +8,8 @@ use Rattle.marks.proofs.with_wires.Statement.{statement}
 use Rattle.marks.proofs.with_wires.Tie as tie
 
 abbrev Inv-loop : tie.InvT-loop
-Inv-loop bytes from count low high lowest₀ highest₀ at₀ left₀ lowest highest at left = spanFrom low high (part bytes from count) ≡ spanFrom lowest highest (part bytes at left)
+Inv-loop bytes from count low high lowest₀ highest₀ at₀ left₀ lowest highest at left =
+    spanFrom low high (part bytes from count) ≡ spanFrom lowest highest (part bytes at left)
 
 abbrev μ-loop : tie.MeasureT-loop
 μ-loop bytes from count low high lowest₀ highest₀ at₀ left₀ lowest highest at left = left
