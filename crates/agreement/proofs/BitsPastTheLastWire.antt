@@ -13,30 +13,23 @@ use Rattle.model.specs.Limits.{blockLength, highBit}
 use Rattle.model.specs.Syntax.{Program}
 use Rattle.model.specs.Lists.{member}
 use Rattle.model.specs.Meaning.{State, bit, stateOf, wordOf, endState, endWord}
-use Rattle.model.specs.Gates.{Gate, flip, swap, act, acts}
+use Rattle.model.specs.Gates.{Gate, flip, swap, act, acts, targets}
 use Rattle.model.specs.Circuit.{Circuit, wires, within, blockOf, circuitBlock}
 use Rattle.model.specs.Answers.{Outcome, gives, refuses, after, require, Block, circuitRead, circuitRun}
 use Rattle.model.proofs.BooleanLaws.{and-left, and-right}
 use Rattle.model.proofs.OutcomeLaws.{not-both}
 use Rattle.model.proofs.ListLaws.{member-head, member-tail, member-cases, member-skip, member-nil, not-in-nil}
-use Rattle.model.proofs.GateLaws.{targets, act-frame}
+use Rattle.model.proofs.AscendingWires.{within-member}
+use Rattle.model.proofs.GateLaws.{act-frame}
 use Rattle.model.proofs.WordBits.{past-bit, word-below, word-zero, word-wire, same-block, block-bit}
 use Rattle.model.proofs.RoundTrip.{AllWellFormed, WellFormed, formed, write-circuitRead}
 use Rattle.agreement.proofs.ProgramFacts.{Zero}
-
--- of wires 1 to m none is above m
-within-member : (m v : ℕ) (l : List ℕ) → within m l ≡ true → member v l ≡ true → v ≤ m
-unfolding within
-within-member m v [] h i = not-in-nil v i
-within-member m v (x ∷ l) h i = member-cases v x l i
-    (λ e. rw e (leb-true x m (and-right (leb 1 x) (leb x m) (and-left (leb 1 x && leb x m) (within m l) h))))
-    (λ j. within-member m v l (and-right (leb 1 x && leb x m) (within m l) h) j)
 
 -- a wire w past wire m
 module _ (m w : ℕ) (past : m < w) where
   -- it is none of them
   past-differs : (v : ℕ) (l : List ℕ) → within m l ≡ true → member v l ≡ true → w ≢ v
-  past-differs v l h i e = let low = within-member m v l h i in omega arith
+  past-differs v l h i e = let low : v ≤ m = within-member m v l h i .1 in omega arith
 
   -- a gate over wires 1 to m has no target past them
   past-targets : (g : Gate) → within m (wires g) ≡ true → member w (targets g) ≡ false

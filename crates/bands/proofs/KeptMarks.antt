@@ -14,14 +14,14 @@ use Rattle.limits.specs.Sizes.{wireCount, marksLength}
 use Rattle.model.specs.Limits.{mostWires}
 use Rattle.model.specs.Reading.{Input, Parsed, parsed, refused, andThen}
 use Rattle.model.specs.Lists.{member, range}
-use Rattle.model.specs.Gates.{Controls, Gate, flip, swap}
-use Rattle.model.specs.Circuit.{wires, controlsOf, ascends, distinct, within, lowerFirst, gateIsWellFormed, readGate}
+use Rattle.model.specs.Gates.{Controls, Gate, flip, swap, targets}
+use Rattle.model.specs.Circuit.{wires, controlsOf, within, gateIsWellFormed, readGate}
 use Rattle.model.specs.Listing.{plus, newline}
-use Rattle.model.specs.Page.{bandGates, bar, dash, letterO, targets, letter, lowest, highest, between, mark, marks, rightAligned, row, rows, band, readBand}
+use Rattle.model.specs.Page.{bandGates, bar, dash, letterO, letter, lowest, highest, between, mark, marks, rightAligned, row, rows, band, readBand}
 use Rattle.model.proofs.BooleanLaws.{byBool, byEq, byLt, and-left, and-right, or-right}
 use Rattle.model.proofs.ListLaws.{member-head, member-tail, member-cases, member-skip, member-append, member-nil, not-in-nil}
-use Rattle.model.proofs.AscendingWires.{within-head, within-tail}
-use Rattle.model.proofs.RoundTrip.{AllWellFormed}
+use Rattle.model.proofs.AscendingWires.{within-head, within-tail, within-member}
+use Rattle.model.proofs.RoundTrip.{AllWellFormed, formed}
 use Rattle.model.proofs.PageBands.{band-end, band-gate}
 use Rattle.marks.specs.Columns.{spanOf, inside, markAll, markBars, markControls, markGate, Banded, banded, unread, markThen, markFrom}
 use Rattle.marks.proofs.MarkedBand.{from-end, from-more}
@@ -170,12 +170,6 @@ gate-apart column g kept k ts os zs top off =
 
 -- The wires of a well-formed gate.
 
-within-below : (most : ℕ) (l : List ℕ) → within most l ≡ true → Below (suc most) l
-within-below most [] h v m = not-in-nil v m
-within-below most (x ∷ l) h v m = member-cases v x l m
-    (λ e. let both = within-head most x l h in omega arith)
-    (λ i. within-below most l (within-tail most x l h) v i)
-
 highest-below : (most v : ℕ) (l : List ℕ) → v ≤ most → within most l ≡ true → highest v l ≤ most
 unfolding highest
 highest-below most v [] h ok = h
@@ -187,14 +181,6 @@ span-below : (most : ℕ) (l : List ℕ) → within most l ≡ true → spanOf l
 unfolding spanOf
 span-below most [] ok = zero-le
 span-below most (v ∷ l) ok = highest-below most v l (within-head most v l ok .1) (within-tail most v l ok)
-
--- its wires are within the bound
-formed-within : (most : ℕ) (g : Gate) → gateIsWellFormed most g ≡ true → within most (wires g) ≡ true
-unfolding gateIsWellFormed
-formed-within most g ok =
-    let cs = controlsOf g in
-    let a : Bool = ascends (cs .ones) && ascends (cs .zeros) && distinct (wires g) in
-    and-right a (within most (wires g)) (and-left (a && within most (wires g)) (lowerFirst g) ok)
 
 -- its targets and controls are wires of it
 target-wire : (g : Gate) (v : ℕ) → member v (targets g) ≡ true → member v (wires g) ≡ true
@@ -219,8 +205,8 @@ module _ (most : ℕ) (few : most ≤ mostWires) where
   formed-apart : (column : ℕ) (g : Gate) (kept : List ℕ) (k : ℕ) → gateIsWellFormed most g ≡ true →
       (k < keptAt column 0) ⊎ (keptAt (suc column) 0 ≤ k) → getD (markGate column g kept) k 0 ≡ getD kept k 0
   formed-apart column g kept k ok off =
-      let inside-all = formed-within most g ok in
-      let below : Below wireCount (wires g) = λ v m. let b = within-below most (wires g) inside-all v m in omega arith in
+      let inside-all = formed most g ok .inside in
+      let below : Below wireCount (wires g) = λ v m. let low : v ≤ most = within-member most v (wires g) inside-all m .1 in omega arith in
       let top = span-below most (wires g) inside-all in
       gate-apart column g kept k (λ v m. below v (target-wire g v m)) (λ v m. below v (one-wire g v m)) (λ v m. below v (zero-wire g v m)) (omega arith) off
 

@@ -11,10 +11,10 @@ use borrow.Author.Tests.{not-true, not-false}
 use lib.ListN.{length, getD, set}
 use Rattle.limits.specs.Sizes.{wireCount}
 use Rattle.model.specs.Lists.{range}
-use Rattle.model.specs.Gates.{Controls}
+use Rattle.model.specs.Gates.{Controls, targets}
 use Rattle.model.specs.Circuit.{wires, controlsOf}
 use Rattle.model.specs.Listing.{plus, letterX, letterS}
-use Rattle.model.specs.Page.{bar, letterO, targets, letter}
+use Rattle.model.specs.Page.{bar, letterO, letter}
 use Rattle.circuit.specs.GatesInBytes.{part, controlsIn, gateWith, gateIn}
 use Rattle.circuit.specs.declared.GateAt.{GateAt}
 use Rattle.circuit.proofs.LoopsOverWires.{part-step, part-none, part-past}

@@ -6,9 +6,9 @@ use Prim.Native.Nat.{ℕ, _+_, _-_, _≤_, _<_, min, max}
 use borrow.Author.Needs.{needs}
 use borrow.Author.Tests.{not-true, not-false}
 use lib.ListN.{length, getD}
-use Rattle.model.specs.Gates.{Controls, noControls}
+use Rattle.model.specs.Gates.{Controls, noControls, targets}
 use Rattle.model.specs.Circuit.{wires}
-use Rattle.model.specs.Page.{targets, lowest, highest}
+use Rattle.model.specs.Page.{lowest, highest}
 use Rattle.circuit.specs.GatesInBytes.{part, listIn, controlsIn, gateWith, gateIn}
 use Rattle.circuit.specs.declared.GateAt.{GateAt}
 use Rattle.circuit.proofs.LoopsOverWires.{part-step, part-none, part-past}

@@ -8,10 +8,10 @@ use lib.Dec.{eqb}
 use Rattle.limits.specs.Sizes.{wireCount}
 use Rattle.model.specs.Reading.{Input, Parsed, parsed, refused}
 use Rattle.model.specs.Lists.{range}
-use Rattle.model.specs.Gates.{Controls, Gate}
+use Rattle.model.specs.Gates.{Controls, Gate, targets}
 use Rattle.model.specs.Circuit.{wires, controlsOf, readGate}
 use Rattle.model.specs.Listing.{plus}
-use Rattle.model.specs.Page.{bar, letterO, targets, letter, lowest, highest}
+use Rattle.model.specs.Page.{bar, letterO, letter, lowest, highest}
 use Rattle.circuit.specs.GatesInBytes.{inputAt}
 use Rattle.marks.specs.declared.Span.{Span}
 use Rattle.marks.specs.declared.BandRead.{BandRead}

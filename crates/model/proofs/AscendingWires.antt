@@ -46,6 +46,12 @@ pub within-tail : (most w : ℕ) (l : List ℕ) → within most (w ∷ l) ≡ tr
 unfolding within
 within-tail most w l h = and-right (leb 1 w && leb w most) (within most l) h
 
+pub within-member : (most w : ℕ) (l : List ℕ) → within most l ≡ true → member w l ≡ true → (1 ≤ w) × (w ≤ most)
+within-member most w [] h m = not-in-nil w m
+within-member most w (x ∷ l) h m = member-cases w x l m
+    (λ e. rw e (within-head most x l h))
+    (λ i. within-member most w l (within-tail most x l h) i)
+
 pub within-append : (most : ℕ) (l m : List ℕ) → within most (l ++ m) ≡ within most l && within most m
 unfolding within
 within-append most [] m = refl

@@ -9,7 +9,9 @@ use borrow.Author.Tests.{ne-eqb}
 use lib.Dec.{ltb}
 use Rattle.model.specs.Lists.{member}
 use Rattle.model.specs.Meaning.{State, update, flipped}
-use Rattle.model.specs.Gates.{Controls, noControls, insert, withControl, Gate, flip, swap, swapOf, exchange, renamed, allOne, allZero, fires, act}
+use Rattle.model.specs.Gates.{
+  Controls, noControls, insert, withControl, Gate, flip, swap, targets, swapOf, exchange, renamed, allOne, allZero, fires, act,
+}
 use Rattle.model.proofs.BooleanLaws.{byBool, byEq, byLt, eqb-same, not-not, or-cases, or-left, or-right}
 use Rattle.model.proofs.ListLaws.{member-head, member-tail, member-nil, member-cases, not-head, not-tail}
 
@@ -209,11 +211,6 @@ swapOf-fires cs u v s h = swap-fires cs (min u v) (max u v) s h ∙ exchange-ord
 pub swapOf-rests : (cs : Controls) (u v : ℕ) (s : State) → fires cs s ≡ false → act (swapOf cs u v) s ≡ s
 unfolding swapOf
 swapOf-rests cs u v s h = swap-rests cs (min u v) (max u v) s h
-
--- the wires that a gate can change
-unfoldable pub targets : Gate → List ℕ
-targets (flip cs t) = t ∷ []
-targets (swap cs u v) = u ∷ v ∷ []
 
 pub act-frame : (g : Gate) (s : State) (w : ℕ) → member w (targets g) ≡ false → act g s w ≡ s w
 unfolding targets

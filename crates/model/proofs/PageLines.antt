@@ -8,10 +8,10 @@ use native.Mathlib.Omega.{arith}
 use borrow.Author.Tests.{ne-eqb}
 use lib.ListN.{length, take, drop, replicate}
 use Rattle.model.specs.Lists.{member, range}
-use Rattle.model.specs.Gates.{Gate, flip, swap}
+use Rattle.model.specs.Gates.{Gate, flip, swap, targets}
 use Rattle.model.specs.Circuit.{wires, controlsOf}
 use Rattle.model.specs.Listing.{newline, space, plus, digitZero, digitsWithin, decimal}
-use Rattle.model.specs.Page.{bar, dash, letterO, numberColumns, bandGates, targets, letter, between, mark, marks, rightAligned, row, rows, bands}
+use Rattle.model.specs.Page.{bar, dash, letterO, numberColumns, bandGates, letter, between, mark, marks, rightAligned, row, rows, bands}
 use Rattle.model.specs.Page.{onFirst, linesOf}
 use Rattle.model.proofs.BooleanLaws.{byBool, byLt}
 use Rattle.model.proofs.DecimalDigits.{digits-one, digits-more}

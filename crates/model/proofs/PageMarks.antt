@@ -8,13 +8,13 @@ use native.Mathlib.Omega.{arith}
 use borrow.Author.Tests.{ne-eqb, not-true}
 use lib.Dec.{eqb, ltb}
 use Rattle.model.specs.Lists.{member}
-use Rattle.model.specs.Gates.{Gate, flip, swap}
+use Rattle.model.specs.Gates.{Gate, flip, swap, targets}
 use Rattle.model.specs.Circuit.{wires, controlsOf, ascends, distinct, within, lowerFirst, gateIsWellFormed}
 use Rattle.model.specs.Listing.{plus, letterS, letterX}
-use Rattle.model.specs.Page.{bar, dash, letterO, targets, letter, mark}
+use Rattle.model.specs.Page.{bar, dash, letterO, letter, mark}
 use Rattle.model.proofs.BooleanLaws.{byEq, not-true-false, and-left, and-right, and-both, or-left, or-right, or-false-left, or-false-right}
 use Rattle.model.proofs.ListLaws.{member-head, member-tail, member-nil, member-cases, member-append, not-in-nil}
-use Rattle.model.proofs.AscendingWires.{ascends-tail, ascends-larger, within-head, within-tail}
+use Rattle.model.proofs.AscendingWires.{ascends-tail, ascends-larger, within-member}
 use Rattle.model.proofs.RoundTrip.{formed}
 use Rattle.model.proofs.PageLines.{mark-cases}
 
@@ -194,10 +194,7 @@ tells-exchanged (swap cs u v) s w = mark-alone (swap cs u v) s w (λ m. eqb m le
 
 -- a gate's wires are 1 to most
 within-bounded : (most : ℕ) (l : List ℕ) → within most l ≡ true → Bounded most 1 l
-within-bounded most [] h w m = not-in-nil w m
-within-bounded most (x ∷ l) h w m = member-cases w x l m
-    (λ e. let both = within-head most x l h in (omega arith, omega arith))
-    (λ i. within-bounded most l (within-tail most x l h) w i)
+within-bounded most l h w m = let both = within-member most w l h m in (omega arith, omega arith)
 
 -- a list's bounds hold for its three parts
 part-bounded : (n a : ℕ) (l m k : List ℕ) → Bounded n a (l ++ (m ++ k)) → Bounded n a l × Bounded n a m × Bounded n a k

@@ -4,13 +4,14 @@ use mathlib.Core.List.{List, [], _∷_}
 use Prim.Native.Nat.{ℕ}
 use Rattle.model.specs.Reading.{andThen, provided, byteOf, optional}
 use Rattle.model.specs.Lists.{member}
+use Rattle.model.specs.Gates.{targets}
 use Rattle.model.specs.Circuit.{
   wires, controlsOf, ascends, distinct, within, lowerFirst, gateIsWellFormed, bytes, wireList, gateOf, readGate, readGates, fourByteNumber, circuitOf,
   readCircuit,
 }
 use Rattle.model.specs.Answers.{wellFormed}
 use Rattle.model.specs.Listing.{digitsWithin}
-use Rattle.model.specs.Page.{targets, letter, lowest, highest, between, mark, marks, rows, bands, page, paged, pageOf}
+use Rattle.model.specs.Page.{letter, lowest, highest, between, mark, marks, rows, bands, page, paged, pageOf}
 use Rattle.model.specs.Examples.{pairsCircuit, pairsPage, twentyNots, twentyPage}
 
 pub record Facts : Type 0 where

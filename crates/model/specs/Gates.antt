@@ -28,6 +28,11 @@ pub data Gate : Type 0 where
   flip : Controls → ℕ → Gate
   swap : Controls → ℕ → ℕ → Gate
 
+-- the wires that a gate flips or exchanges
+unfoldable pub targets : Gate → List ℕ
+targets (flip cs t) = t ∷ []
+targets (swap cs u v) = u ∷ v ∷ []
+
 -- "a swap's target is its lower wire"
 unfoldable pub swapOf : Controls → ℕ → ℕ → Gate
 swapOf cs u v = swap cs (min u v) (max u v)

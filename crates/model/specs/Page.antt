@@ -7,7 +7,7 @@ use lib.Dec.{eqb, ltb, leb}
 use Rattle.model.specs.Limits.{mostWires, mostCircuit, headerLength, notWellFormed}
 use Rattle.model.specs.Reading.{Input, inputAt, Parsed, parsed, refused, andThen}
 use Rattle.model.specs.Lists.{member}
-use Rattle.model.specs.Gates.{Controls, Gate, flip, swap}
+use Rattle.model.specs.Gates.{Controls, Gate, flip, swap, targets}
 use Rattle.model.specs.Circuit.{Circuit, wires, controlsOf, readGate}
 use Rattle.model.specs.Answers.{Outcome, gives, refuses, after, require, circuitRead}
 use Rattle.model.specs.Listing.{newline, space, plus, hyphen, digitZero, letterS, letterX, decimal, refusalLine}
@@ -30,11 +30,6 @@ abbrev pub bandGates : ℕ
 bandGates = 19
 
 -- A mark.
-
--- the wires that a gate flips or exchanges
-unfoldable pub targets : Gate → List ℕ
-targets (flip cs t) = t ∷ []
-targets (swap cs u v) = u ∷ v ∷ []
 
 -- "X for a NOT's target, S for each swapped wire"
 unfoldable pub letter : Gate → ℕ
