@@ -2,13 +2,13 @@
 -- block is zero. An end word of n qubits has no bit from n on, nor has its block.
 use mathlib.Core.Path.{_≡_, refl, _∙_, subst}
 use mathlib.Core.Logic.{_≢_}
-use mathlib.Core.Bool.{Bool, true, false, _&&_}
+use mathlib.Core.Bool.{Bool, true, false}
 use mathlib.Core.List.{List, [], _∷_, _++_}
 use Prim.Native.Nat.{ℕ, suc, _+_, _*_, _^_, _≤_, _<_}
 use native.Mathlib.Omega.{arith}
-use borrow.Author.Tests.{leb-true, ltb-true}
+use borrow.Author.Tests.{ltb-true}
 use lib.ListN.{getD}
-use lib.Dec.{leb, ltb}
+use lib.Dec.{ltb}
 use Rattle.model.specs.Limits.{blockLength, highBit}
 use Rattle.model.specs.Syntax.{Program}
 use Rattle.model.specs.Lists.{member}
@@ -16,9 +16,8 @@ use Rattle.model.specs.Meaning.{State, bit, stateOf, wordOf, endState, endWord}
 use Rattle.model.specs.Gates.{Gate, flip, swap, act, acts, targets}
 use Rattle.model.specs.Circuit.{Circuit, wires, within, blockOf, circuitBlock}
 use Rattle.model.specs.Answers.{Outcome, gives, refuses, after, require, Block, circuitRead, circuitRun}
-use Rattle.model.proofs.BooleanLaws.{and-left, and-right}
 use Rattle.model.proofs.OutcomeLaws.{not-both}
-use Rattle.model.proofs.ListLaws.{member-head, member-tail, member-cases, member-skip, member-nil, not-in-nil}
+use Rattle.model.proofs.ListLaws.{member-head, member-tail, member-skip, member-nil}
 use Rattle.model.proofs.AscendingWires.{within-member}
 use Rattle.model.proofs.GateLaws.{act-frame}
 use Rattle.model.proofs.WordBits.{past-bit, word-below, word-zero, word-wire, same-block, block-bit}

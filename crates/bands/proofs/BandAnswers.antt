@@ -1,22 +1,20 @@
 -- The ways out of `draw`, `draw_from` and `page_band`: the answer and the text are those of the band that document 02 asks for.
 use mathlib.Core.Path.{_≡_, refl, sym, ap, _∙_}
-use mathlib.Core.Bool.{Bool, true, false, _&&_}
+use mathlib.Core.Bool.{true, false, _&&_}
 use mathlib.Core.List.{List, []}
-use Prim.Native.Nat.{ℕ, zero, suc, _+_, _-_, _^_, _≤_, _<_}
+use Prim.Native.Nat.{ℕ, zero, suc, _-_, _^_, _≤_, _<_}
 use native.Mathlib.Nat.{zero-add}
 use native.Mathlib.Omega.{arith}
-use mir.Syntax.{w8}
-use mir.Val.{Fits}
 use borrow.Author.Needs.{needs}
 use borrow.Author.Tests.{le-leb, lt-leb, lt-ltb, le-ltb}
-use lib.ListN.{length, getD, replicate}
+use lib.ListN.{length, replicate}
 use lib.Dec.{ltb, leb}
 use Rattle.limits.specs.Sizes.{marksLength}
 use Rattle.model.specs.Limits.{mostWires, mostCircuit, headerLength, notWellFormed}
 use Rattle.model.specs.Reading.{Input, Parsed, parsed, refused}
 use Rattle.model.specs.Gates.{Gate}
-use Rattle.model.specs.Circuit.{Circuit, readCircuit}
-use Rattle.model.specs.Answers.{Outcome, gives, refuses, after, require, wellFormed, circuitRead}
+use Rattle.model.specs.Circuit.{Circuit}
+use Rattle.model.specs.Answers.{Outcome, gives, refuses, after, require, circuitRead}
 use Rattle.model.specs.Page.{bandGates, dash, band, Band, readBand, placeOf, drawn, headerWires, bandAt, pageBand, lentAfter, textAfter}
 use Rattle.model.proofs.BooleanLaws.{byLt, and-false-right}
 use Rattle.model.proofs.PageBands.{band-most, band-formed, page-refused, refused-number}
@@ -31,7 +29,7 @@ use Rattle.marks.specs.declared.BandRead.{BandRead}
 use Rattle.marks.specs.declared.BandRead.the-variants.{Gates, NoBand}
 use Rattle.marks.specs.Columns.{Banded, banded, unread, markFrom, bandedIn}
 use Rattle.bands.specs.MarkedRows.{rowsAt}
-use Rattle.bands.proofs.KeptMarks.{markGates, band-kept, markRead, marked-read}
+use Rattle.bands.proofs.KeptMarks.{band-kept, markRead, marked-read}
 
 -- what was counted, what is left and what was kept
 counted : {k l : ℕ} {i j : Input} {a b : List ℕ} → banded k i a ≡ banded l j b → (k ≡ l) × (i ≡ j) × (a ≡ b)

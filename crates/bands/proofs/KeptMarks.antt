@@ -1,31 +1,31 @@
 -- What is kept of a band's gates are their marks: so the rows put from it are the rows of the gates.
 use mathlib.Core.Path.{_≡_, refl, sym, ap, ap₂, _∙_}
 use mathlib.Core.Logic.{_≢_, _⊎_, inl, inr}
-use mathlib.Core.Bool.{Bool, true, false, _&&_, true≢false}
+use mathlib.Core.Bool.{true, false, _&&_, true≢false}
 use mathlib.Core.List.{List, [], _∷_, _++_}
-use Prim.Native.Nat.{ℕ, zero, suc, _+_, _-_, _*_, _≤_, _<_, zero-le, min, max}
+use Prim.Native.Nat.{ℕ, zero, suc, _+_, _-_, _*_, _≤_, _<_, zero-le, max}
 use native.Mathlib.Nat.{add-zero}
 use native.Mathlib.Omega.{arith}
-use borrow.Author.Tests.{eq-eqb, ne-eqb, lt-ltb, le-ltb, ltb-true}
+use borrow.Author.Tests.{lt-ltb, le-ltb, ltb-true}
 use lib.ListN.{length, getD, set, length-set, replicate, length-replicate, getD-replicate}
 use lib.Seq.{getD-set-same, getD-set-other}
-use lib.Dec.{eqb, ltb}
+use lib.Dec.{ltb}
 use Rattle.limits.specs.Sizes.{wireCount, marksLength}
 use Rattle.model.specs.Limits.{mostWires}
 use Rattle.model.specs.Reading.{Input, Parsed, parsed, refused, andThen}
 use Rattle.model.specs.Lists.{member, range}
-use Rattle.model.specs.Gates.{Controls, Gate, flip, swap, targets}
+use Rattle.model.specs.Gates.{Gate, flip, swap, targets}
 use Rattle.model.specs.Circuit.{wires, controlsOf, within, gateIsWellFormed, readGate}
 use Rattle.model.specs.Listing.{plus, newline}
-use Rattle.model.specs.Page.{bandGates, bar, dash, letterO, letter, lowest, highest, between, mark, marks, rightAligned, row, rows, band, readBand}
-use Rattle.model.proofs.BooleanLaws.{byBool, byEq, byLt, and-left, and-right, or-right}
+use Rattle.model.specs.Page.{bandGates, bar, dash, letterO, letter, lowest, highest, between, mark, marks, rightAligned, rows, band, readBand}
+use Rattle.model.proofs.BooleanLaws.{byBool, byEq, byLt, and-right, or-right}
 use Rattle.model.proofs.ListLaws.{member-head, member-tail, member-cases, member-skip, member-append, member-nil, not-in-nil}
 use Rattle.model.proofs.AscendingWires.{within-head, within-tail, within-member}
 use Rattle.model.proofs.RoundTrip.{AllWellFormed, formed}
 use Rattle.model.proofs.PageBands.{band-end, band-gate}
-use Rattle.marks.specs.Columns.{spanOf, inside, markAll, markBars, markControls, markGate, Banded, banded, unread, markThen, markFrom}
+use Rattle.marks.specs.Columns.{spanOf, inside, markAll, markBars, markGate, Banded, banded, unread, markThen, markFrom}
 use Rattle.marks.proofs.MarkedBand.{from-end, from-more}
-use Rattle.bands.specs.MarkedRows.{marked, marksAt, rowAt, rowsAt}
+use Rattle.bands.specs.MarkedRows.{marked, marksAt, rowsAt}
 
 -- where the mark of a column on a wire's row is kept
 abbrev keptAt : ℕ → ℕ → ℕ

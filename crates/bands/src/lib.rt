@@ -1,6 +1,5 @@
 // Document 02, S-1: one band of a circuit's page, its rows put from the marks of its gates.
 ghost use mathlib.Core.Path.{_≡_};
-ghost use mathlib.Core.List.{[], _∷_, _++_};
 ghost use Prim.Native.Nat.{_+_, _-_, _*_, _≤_};
 ghost use lib.ListN.{length, getD, replicate};
 ghost use Rattle.limits.specs.Sizes.{wireCount};

@@ -1,5 +1,5 @@
 -- The listing of a circuit: what the loop over its gates keeps, and the ways out of `list_circuit`.
-use mathlib.Core.Path.{_≡_, refl, sym, ap, _∙_}
+use mathlib.Core.Path.{_≡_, refl, ap}
 use mathlib.Core.List.{List, [], _∷_, _++_}
 use Prim.Native.Nat.{ℕ, zero, suc, _+_, _-_, _≤_, _<_}
 use native.Mathlib.Numerals.{add-one, sub-one}
@@ -11,8 +11,8 @@ use lib.ListN.{length, getD}
 use Rattle.model.specs.Limits.{notWellFormed, mostWires, headerLength}
 use Rattle.model.specs.Reading.{Input, Parsed, parsed, refused}
 use Rattle.model.specs.Gates.{Gate}
-use Rattle.model.specs.Circuit.{Circuit, readGate, readCircuit, fourBytes, encodeAll, write}
-use Rattle.model.specs.Answers.{Outcome, gives, refuses, wellFormed, circuitRead}
+use Rattle.model.specs.Circuit.{Circuit, readGate, fourBytes, encodeAll, write}
+use Rattle.model.specs.Answers.{Outcome, gives, refuses, circuitRead}
 use Rattle.model.specs.Listing.{gateLine, gateLines, firstLine, refusalLine, listed}
 use Rattle.model.proofs.RoundTrip.{AllWellFormed, left, read-encode, write-circuitRead}
 use Rattle.circuit.specs.GatesInBytes.{inputAt, settled, gateIn, gateParsed}

@@ -1,7 +1,7 @@
 // "Worked programs", on the listing: its lines, put into a text one behind the other. Each function takes the place from which it puts its
 // bytes and gives the place behind them; where the text ends, it stops.
 ghost use mathlib.Core.Path.{_≡_};
-ghost use mathlib.Core.List.{[], _∷_, _++_};
+ghost use mathlib.Core.List.{_∷_, _++_};
 ghost use Rattle.model.specs.Answers.{circuitRead};
 ghost use Rattle.model.specs.Listing.{space, plus, decimal, signed, hyphens, controlText, gateLine, firstLine, listed};
 ghost use Rattle.circuit.specs.GatesInBytes.{part, inputAt, listIn, gateIn};

@@ -1,13 +1,12 @@
 -- The gates of a band, one column for each: what the loop of `mark_band` keeps.
 use mathlib.Core.Path.{_≡_, refl, sym, _∙_}
-use mathlib.Core.List.{List, []}
+use mathlib.Core.List.{List}
 use Prim.Native.Nat.{ℕ, zero, suc, _+_, _-_, _≤_, _<_}
 use native.Mathlib.Numerals.{add-one}
 use native.Mathlib.Omega.{arith}
 use borrow.Author.Needs.{needs}
 use borrow.Author.Tests.{eq-eqb, ne-eqb}
 use lib.ListN.{length, length-drop}
-use lib.Dec.{eqb}
 use Rattle.model.specs.Limits.{notWellFormed}
 use Rattle.model.specs.Reading.{Input, Parsed, parsed, refused}
 use Rattle.model.specs.Gates.{Gate}
@@ -18,7 +17,6 @@ use Rattle.circuit.specs.declared.GateAt.{GateAt}
 use Rattle.circuit.specs.declared.GateRead.{GateRead}
 use Rattle.circuit.specs.declared.GateRead.the-variants.{Found, NoGate}
 use Rattle.circuit.proofs.GateReading.{settled-parsed}
-use Rattle.marks.specs.declared.BandRead.{BandRead}
 use Rattle.marks.specs.declared.BandRead.the-variants.{Gates, NoBand}
 use Rattle.marks.specs.Columns.{markGate, Banded, banded, unread, markThen, markFrom, bandedIn}
 

@@ -1,7 +1,6 @@
 -- Worked pages: PAIRS at n = 3, a circuit of twenty gates in two bands, and bytes that are no circuit.
 use mathlib.Core.Path.{_≡_, refl}
-use mathlib.Core.List.{List, [], _∷_}
-use Prim.Native.Nat.{ℕ}
+use mathlib.Core.List.{[], _∷_}
 use Rattle.model.specs.Reading.{andThen, provided, byteOf, optional}
 use Rattle.model.specs.Lists.{member}
 use Rattle.model.specs.Gates.{targets}

@@ -1,9 +1,8 @@
 -- What the program writes is the page: the parts for place 0 and then for each next place, until it is 0, make up the page of the whole input.
-use mathlib.Core.Path.{_≡_, refl, sym, ap, _∙_}
-use mathlib.Core.List.{List, [], _++_}
+use mathlib.Core.Path.{_≡_, refl}
+use mathlib.Core.List.{List, _++_}
 use Prim.Native.Nat.{ℕ, _≤_, _<_}
 use native.Mathlib.Omega.{arith}
-use lib.ListN.{length}
 use Rattle.model.specs.Answers.{Outcome, gives, refuses, circuitRead}
 use Rattle.model.specs.Circuit.{Circuit}
 use Rattle.model.specs.Listing.{refusalLine}

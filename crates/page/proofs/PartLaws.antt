@@ -5,7 +5,7 @@ use Prim.Native.Nat.{ℕ, suc, _+_, _≤_, _<_}
 use native.Mathlib.Omega.{arith}
 use borrow.Author.Needs.{needs}
 use borrow.Author.Tests.{le-leb}
-use lib.ListN.{length, take, drop, length-append, take-append-drop}
+use lib.ListN.{length, take, drop, length-append}
 use lib.Seq.{take-all, take-append-seam, length-take-le}
 use Rattle.model.specs.Limits.{mostCircuit, mostBand, notWellFormed}
 use Rattle.model.specs.Answers.{Outcome, gives, refuses}

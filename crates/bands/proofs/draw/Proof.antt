@@ -1,5 +1,4 @@
 -- `draw` meets its contract.
-use borrow.Author.Needs.{needs}
 use Rattle.bands.proofs.BandAnswers.{drawing}
 use Rattle.bands.proofs.draw.Statement.{statement}
 use Rattle.bands.proofs.draw.Tie as tie

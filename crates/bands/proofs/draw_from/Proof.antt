@@ -1,5 +1,4 @@
 -- `draw_from` meets its contract.
-use borrow.Author.Needs.{needs}
 use Rattle.bands.proofs.BandAnswers.{heading}
 use Rattle.bands.proofs.draw_from.Statement.{statement}
 use Rattle.bands.proofs.draw_from.Tie as tie

@@ -1,5 +1,4 @@
 -- `page_band` meets its contract.
-use borrow.Author.Needs.{needs}
 use Rattle.bands.proofs.BandAnswers.{paging}
 use Rattle.bands.proofs.page_band.Statement.{statement}
 use Rattle.bands.proofs.page_band.Tie as tie

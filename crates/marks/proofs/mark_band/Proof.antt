@@ -5,7 +5,6 @@ use lib.ListN.{length}
 use Rattle.model.specs.Page.{bandGates}
 use Rattle.circuit.specs.GatesInBytes.{inputAt}
 use Rattle.marks.specs.Columns.{markFrom}
-use borrow.Author.Needs.{needs}
 use Rattle.marks.proofs.MarkedBand.{banding}
 use Rattle.marks.proofs.mark_band.Statement.{statement}
 use Rattle.marks.proofs.mark_band.Tie as tie

@@ -4,7 +4,6 @@ use mathlib.Core.Path.{_≡_}
 use lib.ListN.{length}
 use Rattle.model.specs.Page.{bar}
 use Rattle.marks.specs.Columns.{inside, markAll}
-use borrow.Author.Needs.{needs}
 use Rattle.marks.proofs.MarkedWires.{barring}
 use Rattle.marks.proofs.mark_bars.Statement.{statement}
 use Rattle.marks.proofs.mark_bars.Tie as tie

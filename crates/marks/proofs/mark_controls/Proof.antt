@@ -1,5 +1,4 @@
 -- `mark_controls` meets its contract.
-use borrow.Author.Needs.{needs}
 use Rattle.marks.proofs.MarkedWires.{controlling}
 use Rattle.marks.proofs.mark_controls.Statement.{statement}
 use Rattle.marks.proofs.mark_controls.Tie as tie

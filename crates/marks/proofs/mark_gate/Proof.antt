@@ -1,5 +1,4 @@
 -- `mark_gate` meets its contract.
-use borrow.Author.Needs.{needs}
 use Rattle.marks.proofs.MarkedWires.{gating}
 use Rattle.marks.proofs.mark_gate.Statement.{statement}
 use Rattle.marks.proofs.mark_gate.Tie as tie

@@ -3,7 +3,6 @@ use mathlib.Core.Path.{_≡_}
 use lib.ListN.{length}
 use Rattle.circuit.specs.GatesInBytes.{part}
 use Rattle.marks.specs.Columns.{markAll}
-use borrow.Author.Needs.{needs}
 use Rattle.marks.proofs.MarkedWires.{marking}
 use Rattle.marks.proofs.mark_wires.Statement.{statement}
 use Rattle.marks.proofs.mark_wires.Tie as tie

@@ -1,5 +1,4 @@
 -- `outermost` meets its contract.
-use borrow.Author.Needs.{needs}
 use Rattle.marks.proofs.OutermostWires.{outer}
 use Rattle.marks.proofs.outermost.Statement.{statement}
 use Rattle.marks.proofs.outermost.Tie as tie

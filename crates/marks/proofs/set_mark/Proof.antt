@@ -1,5 +1,4 @@
 -- `set_mark` meets its contract.
-use borrow.Author.Needs.{needs}
 use Rattle.marks.proofs.MarkedWires.{setting}
 use Rattle.marks.proofs.set_mark.Statement.{statement}
 use Rattle.marks.proofs.set_mark.Tie as tie

@@ -1,5 +1,4 @@
 -- `target_span` meets its contract.
-use borrow.Author.Needs.{needs}
 use Rattle.marks.proofs.OutermostWires.{targeting}
 use Rattle.marks.proofs.target_span.Statement.{statement}
 use Rattle.marks.proofs.target_span.Tie as tie

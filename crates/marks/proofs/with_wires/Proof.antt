@@ -2,7 +2,6 @@
 use mathlib.Core.Path.{_≡_}
 use Rattle.circuit.specs.GatesInBytes.{part}
 use Rattle.marks.specs.Columns.{spanFrom}
-use borrow.Author.Needs.{needs}
 use Rattle.marks.proofs.OutermostWires.{spanning}
 use Rattle.marks.proofs.with_wires.Statement.{statement}
 use Rattle.marks.proofs.with_wires.Tie as tie

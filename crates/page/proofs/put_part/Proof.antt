@@ -1,5 +1,4 @@
 -- `put_part` meets its contract.
-use borrow.Author.Needs.{needs}
 use Rattle.page.proofs.PartLaws.{parts}
 use Rattle.page.proofs.put_part.Statement.{statement}
 use Rattle.page.proofs.put_part.Tie as tie
