@@ -19,6 +19,9 @@
  *     $ foq_tool circuit pairs.circuit 0
  *     3 qubits, 3 ancillas, 9 gates
  *     ..
+ *     $ foq_tool page pairs.circuit
+ *        1----o---+---------------+---o-------
+ *     ..
  *
  * A gate is its number, X or S for NOT or swap, its wires and its controls: + on
  * 1, - on 0. Where a function refuses, the line is "refused" and its number.
@@ -37,6 +40,7 @@
 static uint8_t table[LONGEST_TABLE];
 /* One byte more than a circuit can have: what is longer is refused too. */
 static uint8_t circuit[FOQ_MOST_CIRCUIT + 1];
+static uint8_t text[FOQ_MOST_BAND];
 static uint8_t workspace[FOQ_LEAST_WORKSPACE];
 
 /* Says whether an answer is a success; otherwise prints the refusal. */
@@ -100,6 +104,20 @@ static void show_circuit(size_t length, uint64_t word)
         print_wires(&block);
 }
 
+/* Prints a circuit's page, band by band. */
+static void show_page(size_t length)
+{
+    uint64_t place = 0;
+    do {
+        foq_band band =
+            foq_page_band(circuit, length, place, text, sizeof text);
+        if (!succeeds(band.number))
+            return;
+        fwrite(text, 1, band.length, stdout);
+        place = band.next;
+    } while (place != 0);
+}
+
 static void write_circuit(const char *name, size_t length)
 {
     FILE *file = fopen(name, "wb");
@@ -142,8 +160,13 @@ int main(int count, char **arguments)
         show_circuit(read_file(arguments[2], circuit, sizeof circuit), word);
         return EXIT_SUCCESS;
     }
+    if (count == 3 && strcmp(arguments[1], "page") == 0) {
+        show_page(read_file(arguments[2], circuit, sizeof circuit));
+        return EXIT_SUCCESS;
+    }
     fputs("usage: foq_tool table FILE N WORD [CIRCUIT]\n"
-          "       foq_tool circuit FILE WORD\n",
+          "       foq_tool circuit FILE WORD\n"
+          "       foq_tool page FILE\n",
           stderr);
     return EXIT_FAILURE;
 }

@@ -6,7 +6,7 @@ mod programs;
 use foq::border::{self, Answer};
 use foq::{circuit_read, circuit_run, compile_to_vec, run, verdict, Refusal};
 use foq::{LEAST_WORKSPACE, MOST_CIRCUIT, PAIRS};
-use foq_generator::circuits::{circuit, circuit_of, sizes};
+use foq_generator::circuits::{circuit, circuit_of, crowded_circuit, sizes};
 use foq_generator::damage::damaged;
 use foq_generator::programs::{program, SMALL};
 use foq_generator::tables::{
@@ -15,7 +15,7 @@ use foq_generator::tables::{
 };
 use foq_generator::tree::{encode, not, table, Statement};
 use foq_generator::Random;
-use foq_reference::{read_circuit, Action, Control, Gate};
+use foq_reference::{page, read_circuit, Action, Control, Gate};
 use programs::{compiled, example, flags, output, printed, scratch, C11, CPP, SANITIZED};
 use std::collections::BTreeMap;
 use std::fs;
@@ -61,6 +61,27 @@ fn circuits() -> Vec<(Vec<u8>, u64)> {
         inputs.push((bytes, word));
     }
     inputs
+}
+
+/// Circuits to draw: without a gate, with one, about the end of a band and of
+/// two; on one wire, on few and on all; with gates that name every wire; cut
+/// off, and no circuit at all.
+fn drawn() -> Vec<Vec<u8>> {
+    let mut random = Random::from_seed(43);
+    let counts = [0, 1, 18, 19, 20, 38, 39, 57];
+    let mut circuits = Vec::from(counts.map(|gates| circuit(&mut random, 3, 2, gates)));
+    circuits.extend([
+        pairs(3),
+        circuit(&mut random, 1, 0, 20),
+        circuit(&mut random, 32, 223, 39),
+        crowded_circuit(&mut random, 32, 223, 20),
+        circuit_of(32, 223, &[[0, 255]; 0]),
+        circuit_of(32, 224, &[[0, 1]; 20]),
+        vec![],
+    ]);
+    let cut_off = circuits[6].split_last().map(|(_, rest)| rest.to_vec());
+    circuits.extend(cut_off);
+    circuits
 }
 
 /// Tables, numbers of qubits and words of every answer, and some at random.
@@ -147,6 +168,15 @@ fn circuit_lines(circuit: &[u8], word: u64) -> String {
         Err(refusal) => refused_line(refusal),
     };
     read + &ran
+}
+
+/// What the tool is to print of a circuit's page: what the second interpreter
+/// draws.
+fn page_lines(circuit: &[u8]) -> String {
+    match read_circuit(circuit) {
+        Ok(_) => String::from_utf8(page(circuit)).unwrap(),
+        Err(_) => refused_line(Refusal::NOT_WELL_FORMED),
+    }
 }
 
 /// What the tool is to print of a table.
@@ -250,12 +280,43 @@ fn the_tool_shows_circuits_as_the_bindings_do() {
     }
     println!("{blocks} blocks, refusals {refusals:?}");
     assert!(blocks >= 30 && refusals[&13] >= 20 && refusals[&14] >= 30);
+}
+
+#[test]
+fn the_tool_draws_circuits_as_the_second_interpreter_does() {
+    let tools = Tools::compiled("page-tool");
+    let (mut longer, mut refusals) = (0, Numbers::new());
+    let kept = circuits().into_iter().map(|(circuit, _)| circuit);
+    for circuit in kept.chain(drawn()) {
+        let expected = page_lines(&circuit);
+        // The wire numbers start again with each band.
+        longer += usize::from(expected.matches("   1").count() > 1);
+        count_refusals(&expected, &mut refusals);
+        tools.assert_print(&["page", "/dev/stdin"], &circuit, &expected);
+    }
+    println!("{longer} pages of several bands, refusals {refusals:?}");
+    assert!(longer >= 10 && refusals[&14] >= 30);
+    // The longest page: as many gates as there can be, on every wire.
+    let longest = circuit_of(32, 223, &vec![[0, 1]; (MOST_CIRCUIT - 7) / 2]);
+    let expected = page(&longest);
+    assert_eq!(expected.len(), 35_618_655);
+    for tool in &tools.0 {
+        assert!(printed(tool, &["page", "/dev/stdin"], &longest) == expected);
+    }
+}
+
+#[test]
+fn the_tool_refuses_wrong_arguments() {
+    let tools = Tools::compiled("wrong-tool");
     for arguments in [
         &["circuit", "/dev/stdin"][..],
         &["circuit", "/dev/stdin", "-1"],
         &["circuit", "/dev/stdin", "18446744073709551616"],
         &["circuit", "/dev/stdin", "0", "0"],
         &["circuit", "/nowhere", "0"],
+        &["page"],
+        &["page", "/dev/stdin", "0"],
+        &["page", "/nowhere"],
         &["table", "/dev/stdin", "3", "x"],
         &["table", "/dev/stdin", "4294967296", "0"],
         &["table", "/dev/stdin", "3", "0", "/nowhere/circuit"],
