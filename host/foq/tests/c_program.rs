@@ -16,7 +16,8 @@ use foq_generator::tables::{
 use foq_generator::tree::{encode, not, table, Statement};
 use foq_generator::Random;
 use foq_reference::{page, read_circuit, Action, Control, Gate};
-use programs::{compiled, example, flags, output, printed, scratch, C11, CPP, SANITIZED};
+use programs::{compiled, example, flags, output, page_example, printed, scratch};
+use programs::{C11, CPP, SANITIZED};
 use std::collections::BTreeMap;
 use std::fs;
 use std::path::{Path, PathBuf};
@@ -27,6 +28,24 @@ fn the_example_of_the_header_runs() {
     for (compiler, name) in [(C11, "example-c"), (CPP, "example-cpp")] {
         let program = programs::compile(&source, compiler, name, &flags());
         assert_eq!(printed(&program, &[], &[]), b"7 and 7\n");
+    }
+}
+
+#[test]
+fn the_loop_of_the_header_writes_pages() {
+    let source = page_example("page-example.c");
+    for (compiler, name) in [(C11, "page-example-c"), (CPP, "page-example-cpp")] {
+        let program = programs::compile(&source, compiler, name, &flags());
+        for circuit in drawn() {
+            match read_circuit(&circuit) {
+                Ok(_) => assert_eq!(printed(&program, &[], &circuit), page(&circuit)),
+                Err(_) => {
+                    let output = output(&program, &[], &circuit);
+                    assert_eq!(output.status.code(), Some(1));
+                    assert_eq!(output.stdout, b"");
+                }
+            }
+        }
     }
 }
 

@@ -113,16 +113,43 @@ pub fn printed(program: &Path, arguments: &[&str], input: &[u8]) -> Vec<u8> {
     output.stdout
 }
 
-/// Writes the program of the header's first comment to a file.
-pub fn example(name: &str) -> PathBuf {
+/// The code in a comment of the header, from the line that begins so to the
+/// next line that is this one.
+fn commented(beginning: &str, last: &str) -> String {
     const INDENT: &str = " *     ";
-    let start = HEADER.find(&format!("{INDENT}#include")).unwrap();
-    let (code, _) = HEADER[start..].split_once("\n *     }\n").unwrap();
+    let start = HEADER.find(&format!("{INDENT}{beginning}")).unwrap();
+    let end = format!("\n{INDENT}{last}\n");
+    let (code, _) = HEADER[start..].split_once(&end).unwrap();
     let lines = code
         .lines()
         .map(|line| line.strip_prefix(INDENT).unwrap_or(""));
-    let lines: Vec<&str> = lines.chain(["}\n"]).collect();
+    let lines: Vec<&str> = lines.chain([last, ""]).collect();
+    lines.join("\n")
+}
+
+/// Writes the program of the header's first comment to a file.
+pub fn example(name: &str) -> PathBuf {
     let file = scratch(name);
-    fs::write(&file, lines.join("\n")).unwrap();
+    fs::write(&file, commented("#include", "}")).unwrap();
+    file
+}
+
+/// Writes a program to a file that prints the page of the circuit which it
+/// reads, with the loop that the header shows.
+pub fn page_example(name: &str) -> PathBuf {
+    const BEFORE: &str = "\
+#include <stdio.h>
+#include \"foq.h\"
+
+static uint8_t circuit[FOQ_MOST_CIRCUIT + 1];
+static uint8_t text[FOQ_MOST_BAND];
+
+int main(void)
+{
+    size_t length = fread(circuit, 1, sizeof circuit, stdin);
+";
+    let page = commented("uint64_t place", "} while (place != 0);");
+    let file = scratch(name);
+    fs::write(&file, [BEFORE, &page, "    return 0;\n}\n"].concat()).unwrap();
     file
 }
