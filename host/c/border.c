@@ -1,18 +1,18 @@
 /*
  * Calls every function once for each case on standard input. A case is a line
- * "N WORD ROOM WORKSPACE LENGTH" and that many bytes, which are taken as a table
- * and as a circuit. What is printed is a line
+ * "N WORD ROOM WORKSPACE PLACE TEXT LENGTH" and that many bytes, which are taken
+ * as a table and as a circuit. What is printed is a line
  *
  *     verdict | number end-word | number length | number qubits ancillas gates |
- *     number data ancillas bits-in-hexadecimal
+ *     number data ancillas bits-in-hexadecimal | number length next
  *
- * and behind it the bytes that compile wrote.
+ * and behind it the bytes that compile wrote and those of a band.
  *
  * A slice stands just before a fence, so that reading or writing past its end
  * stops the program, and so does writing into the table or circuit. An empty
- * slice is null. The bytes before a slice, a refused room and what follows a
- * circuit must stay as they are, a workspace must come back as zeros: otherwise
- * the program stops too.
+ * slice is null. The bytes before a slice, a refused room or text, a text that
+ * is too short for its band, and what follows a circuit or a band must stay as
+ * they are, a workspace must come back as zeros: otherwise the program stops too.
  */
 #define _DEFAULT_SOURCE
 #include <string.h>
@@ -27,8 +27,8 @@
 
 #define DIRT 0xA5
 
-/* The ends of the three slices, where their fences begin. */
-static uint8_t *bytes_end, *room_end, *workspace_end;
+/* The ends of the four slices, where their fences begin. */
+static uint8_t *bytes_end, *room_end, *workspace_end, *text_end;
 
 /* Memory that ends at a fence; gives its end. */
 static uint8_t *before_a_fence(void)
@@ -107,7 +107,21 @@ static void call_circuit(const uint8_t *circuit, size_t length, uint64_t word)
     printf(" | %" PRIu32 " %d %d ", block.number, block.data, block.ancillas);
     for (unsigned i = 0; i < FOQ_BLOCK_LENGTH; i++)
         printf("%02x", block.bits[i]);
-    putchar('\n');
+}
+
+/* Gives the length of what then stands in the text: the band, or nothing. */
+static size_t call_page_band(const uint8_t *circuit, size_t length,
+                             uint64_t place, size_t text)
+{
+    foq_band band =
+        foq_page_band(circuit, length, place, lent(text_end, text), text);
+    const uint8_t *start = text_end - text;
+    size_t put = band.length <= text ? band.length : 0;
+    expect(all_are(start + put, text_end, DIRT), "the text's rest changed");
+    expect(all_are(text_end - MOST, start, DIRT), "bytes before the text changed");
+    printf(" | %" PRIu32 " %" PRIu64 " %" PRIu64 "\n", band.number, band.length,
+           band.next);
+    return put;
 }
 
 /* Reads the bytes of a case, which then can only be read. */
@@ -125,22 +139,25 @@ static const uint8_t *read_bytes(size_t length)
 int main(void)
 {
     uint32_t n;
-    uint64_t word;
-    size_t room, space, length;
+    uint64_t word, place;
+    size_t room, space, text, length;
     bytes_end = before_a_fence();
     room_end = before_a_fence();
     workspace_end = before_a_fence();
-    while (scanf("%" SCNu32 " %" SCNu64 " %zu %zu %zu", &n, &word, &room, &space,
-                 &length) == 5) {
+    text_end = before_a_fence();
+    while (scanf("%" SCNu32 " %" SCNu64 " %zu %zu %" SCNu64 " %zu %zu", &n, &word,
+                 &room, &space, &place, &text, &length) == 7) {
         expect(getchar() == '\n' && room <= MOST && space <= MOST &&
-                   length <= MOST,
+                   text <= MOST && length <= MOST,
                "a case is not one");
         const uint8_t *bytes = read_bytes(length);
         call_verdict(bytes, length, n, space);
         call_run(bytes, length, n, word, space);
         size_t compiled = call_compile(bytes, length, n, room, space);
         call_circuit(bytes, length, word);
+        size_t drawn = call_page_band(bytes, length, place, text);
         fwrite(room_end - room, 1, compiled, stdout);
+        fwrite(text_end - text, 1, drawn, stdout);
     }
     expect(feof(stdin), "a case is not one");
     return EXIT_SUCCESS;

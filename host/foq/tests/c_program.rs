@@ -1,11 +1,13 @@
 //! The C programs of `host/c`, compiled as C11 and as C++ and run, say what the
 //! bindings say.
 
+mod counts;
 mod programs;
 
-use foq::border::{self, Answer};
+use counts::{assert_reached, count, Counts};
+use foq::border::{self, Answer, Band};
 use foq::{circuit_read, circuit_run, compile_to_vec, run, verdict, Refusal};
-use foq::{LEAST_WORKSPACE, MOST_CIRCUIT, PAIRS};
+use foq::{LEAST_WORKSPACE, MOST_BAND, MOST_CIRCUIT, PAIRS};
 use foq_generator::circuits::{circuit, circuit_of, crowded_circuit, sizes};
 use foq_generator::damage::damaged;
 use foq_generator::programs::{program, SMALL};
@@ -18,8 +20,9 @@ use foq_generator::Random;
 use foq_reference::{page, read_circuit, Action, Control, Gate};
 use programs::{compiled, example, flags, output, page_example, printed, scratch};
 use programs::{C11, CPP, SANITIZED};
-use std::collections::BTreeMap;
+use std::collections::{BTreeMap, BTreeSet};
 use std::fs;
+use std::iter::successors;
 use std::path::{Path, PathBuf};
 
 #[test]
@@ -83,10 +86,12 @@ fn circuits() -> Vec<(Vec<u8>, u64)> {
 }
 
 /// Circuits to draw: without a gate, with one, about the end of a band and of
-/// two; on one wire, on few and on all; with gates that name every wire; cut
-/// off, and no circuit at all.
+/// two; on one wire, on few and on all; with gates that name every wire; of the
+/// longest length and one byte longer; cut off, and no circuit at all.
 fn drawn() -> Vec<Vec<u8>> {
     let mut random = Random::from_seed(43);
+    let nots = |gates| vec![&[0, 1][..]; gates];
+    let swap: &[u8] = &[4, 1, 2];
     let counts = [0, 1, 18, 19, 20, 38, 39, 57];
     let mut circuits = Vec::from(counts.map(|gates| circuit(&mut random, 3, 2, gates)));
     circuits.extend([
@@ -94,8 +99,10 @@ fn drawn() -> Vec<Vec<u8>> {
         circuit(&mut random, 1, 0, 20),
         circuit(&mut random, 32, 223, 39),
         crowded_circuit(&mut random, 32, 223, 20),
-        circuit_of(32, 223, &[[0, 255]; 0]),
-        circuit_of(32, 224, &[[0, 1]; 20]),
+        circuit_of(32, 223, &nots(0)),
+        circuit_of(32, 224, &nots(20)),
+        circuit_of(2, 0, &[nots(32_763), vec![swap]].concat()),
+        circuit_of(2, 0, &nots(32_765)),
         vec![],
     ]);
     let cut_off = circuits[6].split_last().map(|(_, rest)| rest.to_vec());
@@ -353,15 +360,38 @@ struct Case {
     word: u64,
     room: usize,
     workspace: usize,
+    place: u64,
+    text: usize,
 }
 
 impl Case {
+    /// A circuit, which no table's function is lent anything for.
+    fn of_circuit(bytes: Vec<u8>, word: u64, place: u64, text: usize) -> Case {
+        Case {
+            bytes,
+            n: 3,
+            word,
+            room: 0,
+            workspace: 0,
+            place,
+            text,
+        }
+    }
+
     /// As the program reads it.
     fn encoded(&self) -> Vec<u8> {
-        let Case { n, word, room, .. } = self;
-        let (workspace, length) = (self.workspace, self.bytes.len());
-        let line = format!("{n} {word} {room} {workspace} {length}\n");
-        [line.as_bytes(), &self.bytes].concat()
+        let Case {
+            bytes,
+            n,
+            word,
+            room,
+            workspace,
+            place,
+            text,
+        } = self;
+        let length = bytes.len();
+        let line = format!("{n} {word} {room} {workspace} {place} {text} {length}\n");
+        [line.as_bytes(), bytes].concat()
     }
 
     /// The answer of compile, and what stands in the room.
@@ -371,6 +401,16 @@ impl Case {
         let answer = border::compile(&self.bytes, self.n, &mut room, workspace);
         room.truncate(answer.value as usize);
         (answer, room)
+    }
+
+    /// The answer of a call for a band, and what stands in the text: the band
+    /// as a long text takes it, where this text is long enough.
+    fn band(&self) -> (Band, Vec<u8>) {
+        let mut text = vec![2; MOST_BAND];
+        let band = border::page_band(&self.bytes, self.place, &mut text);
+        let length = band.length as usize;
+        text.truncate(if length <= self.text { length } else { 0 });
+        (band, text)
     }
 
     /// What the program is to print.
@@ -387,8 +427,9 @@ impl Case {
             .iter()
             .map(|byte| format!("{byte:02x}"))
             .collect();
+        let (band, text) = self.band();
         let line = format!(
-            "{judged} | {} {} | {} {} | {} {} {} {} | {} {} {} {bits}\n",
+            "{judged} | {} {} | {} {} | {} {} {} {} | {} {} {} {bits} | {} {} {}\n",
             ran.number,
             ran.value,
             compiled.number,
@@ -400,8 +441,11 @@ impl Case {
             block.number,
             block.data,
             block.ancillas,
+            band.number,
+            band.length,
+            band.next,
         );
-        [line.as_bytes(), &circuit].concat()
+        [line.as_bytes(), &circuit, &text].concat()
     }
 }
 
@@ -417,6 +461,54 @@ fn lengths(circuit: usize) -> Vec<(usize, usize)> {
     spaces.into_iter().chain(rooms).collect()
 }
 
+/// The places of a page's bands.
+fn band_places(circuit: &[u8]) -> Vec<u64> {
+    let next = |place: &u64| {
+        let band = border::page_band(circuit, *place, &mut []);
+        Some(band.next).filter(|next| *next > 0)
+    };
+    successors(Some(0), next).collect()
+}
+
+/// Places to ask a circuit at: those of its first and last bands and beside
+/// them, those in the header, those about the circuit's end and far behind it;
+/// in a short circuit every place.
+fn places(circuit: &[u8]) -> BTreeSet<u64> {
+    let end = circuit.len() as u64;
+    let mut places: BTreeSet<u64> = (0..=if end <= 120 { end } else { 8 }).collect();
+    let bands = band_places(circuit);
+    for place in bands.iter().take(3).chain(bands.iter().rev().take(2)) {
+        places.extend([place.saturating_sub(1), *place, place + 1, place | 1 << 32]);
+    }
+    places.extend([end.saturating_sub(1), end, end + 1, 1 << 63, u64::MAX]);
+    places
+}
+
+/// Texts to try a band with: none, one byte, about the band's length, and two
+/// that are always long enough; fewer where the band is refused.
+fn texts(band: Band) -> BTreeSet<usize> {
+    let mut texts = BTreeSet::from([0, MOST_BAND]);
+    if band.number == 0 {
+        let length = band.length as usize;
+        texts.extend([1, length - 1, length, length + 1, MOST_BAND + 9]);
+    }
+    texts
+}
+
+/// Circuits with many places and texts.
+fn band_cases() -> Vec<Case> {
+    let mut cases = Vec::new();
+    for circuit in drawn() {
+        for place in places(&circuit) {
+            let band = border::page_band(&circuit, place, &mut []);
+            for text in texts(band) {
+                cases.push(Case::of_circuit(circuit.clone(), 0, place, text));
+            }
+        }
+    }
+    cases
+}
+
 /// Tables with many rooms and workspaces, and circuits.
 fn cases() -> Vec<Case> {
     let mut cases = Vec::new();
@@ -430,16 +522,14 @@ fn cases() -> Vec<Case> {
                 word,
                 room,
                 workspace,
+                place: 0,
+                text: MOST_BAND,
             });
         }
     }
-    cases.extend(circuits().into_iter().map(|(bytes, word)| Case {
-        bytes,
-        n: 3,
-        word,
-        room: 0,
-        workspace: 0,
-    }));
+    let circuits = circuits().into_iter();
+    cases.extend(circuits.map(|(bytes, word)| Case::of_circuit(bytes, word, 0, MOST_BAND)));
+    cases.extend(band_cases());
     cases
 }
 
@@ -461,9 +551,43 @@ fn assert_border(program: &Path, arguments: &[&str], cases: &[Case]) {
     assert!(rest.is_empty());
 }
 
+/// Asserts that calls for a band of each sort are among the cases.
+fn assert_bands_reached(cases: &[Case]) {
+    let mut counts = Counts::new();
+    for case in cases {
+        let (band, _) = case.band();
+        let (drawn, length) = (band.number == 0, band.length as usize);
+        count(&mut counts, "14 at place 0", !drawn && case.place == 0);
+        count(&mut counts, "14 at a place", !drawn && case.place > 0);
+        count(&mut counts, "first band", drawn && case.place == 0);
+        count(&mut counts, "band at a place", drawn && case.place > 0);
+        count(&mut counts, "last band", drawn && band.next == 0);
+        count(&mut counts, "longest band", length == MOST_BAND);
+        count(&mut counts, "text exact", drawn && case.text == length);
+        count(&mut counts, "one less", drawn && case.text + 1 == length);
+        count(&mut counts, "one more", drawn && case.text == length + 1);
+        count(&mut counts, "null", drawn && case.text == 0);
+    }
+    let least = [
+        ("14 at place 0", 1_000),
+        ("14 at a place", 1_000),
+        ("first band", 100),
+        ("band at a place", 500),
+        ("last band", 200),
+        ("longest band", 20),
+        ("text exact", 100),
+        ("one less", 100),
+        ("one more", 100),
+        ("null", 100),
+    ];
+    assert_reached(&counts, &least);
+}
+
 #[test]
 fn every_function_answers_at_the_border_as_the_bindings_say() {
     let cases = cases();
+    println!("{} cases", cases.len());
+    assert_bands_reached(&cases);
     for (compiler, name) in [
         (C11, "border-c"),
         (CPP, "border-cpp"),
