@@ -23,6 +23,7 @@
 
 static uint8_t table[FOQ_MOST_CIRCUIT];
 static uint8_t circuit[FOQ_MOST_CIRCUIT];
+static uint8_t text[FOQ_MOST_BAND];
 static uint8_t workspace[FOQ_LEAST_WORKSPACE];
 static size_t table_length, circuit_length;
 static uint32_t n;
@@ -65,6 +66,12 @@ static void *circuit_run(void *unused)
     return unused;
 }
 
+static void *page_band(void *unused)
+{
+    foq_page_band(circuit, circuit_length, 0, text, sizeof text);
+    return unused;
+}
+
 /* A stack with a fence below it: what goes further down stops the program. */
 static uint8_t *new_stack(void)
 {
@@ -102,7 +109,8 @@ int main(int count, char **arguments)
                      {"foq_run", run},
                      {"foq_compile", compile},
                      {"foq_circuit_read", circuit_read},
-                     {"foq_circuit_run", circuit_run}};
+                     {"foq_circuit_run", circuit_run},
+                     {"foq_page_band", page_band}};
     uint64_t qubits;
     if (count != 4 || !read_number(arguments[2], UINT32_MAX, &qubits) ||
         !read_number(arguments[3], UINT64_MAX, &word)) {

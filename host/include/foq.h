@@ -61,6 +61,7 @@
  *     foq_compile      317 KiB
  *     foq_circuit_read   1 KiB
  *     foq_circuit_run    1 KiB
+ *     foq_page_band      6 KiB
  */
 #ifndef FOQ_H
 #define FOQ_H

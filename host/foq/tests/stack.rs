@@ -3,6 +3,7 @@
 
 mod programs;
 
+use foq::{compile_to_vec, page_band, MOST_BAND};
 use foq_generator::tables::{deepest, leaning_left, leaning_right};
 use foq_generator::tree::{call, choose, longer_than, qcase, table, Number, Statement};
 use programs::{compiled, printed, C11, HEADER};
@@ -70,6 +71,15 @@ fn said() -> BTreeMap<&'static str, usize> {
 }
 
 #[test]
+fn the_deepest_tables_have_a_longest_band() {
+    for lean in [leaning_left, leaning_right] {
+        let circuit = compile_to_vec(&most_bodies(lean), 30).unwrap();
+        let band = page_band(&circuit, 0, &mut []).unwrap();
+        assert_eq!(band.length, MOST_BAND);
+    }
+}
+
+#[test]
 fn the_deepest_tables_take_the_stack_that_the_header_says() {
     let program = compiled("stack.c", C11, "stack");
     let mut most = Taken::new();
@@ -84,7 +94,7 @@ fn the_deepest_tables_take_the_stack_that_the_header_says() {
         }
     }
     println!("{most:?}");
-    assert_eq!(most.len(), 5);
+    assert_eq!(most.len(), 6);
     for (function, taken) in most {
         let (kib, said) = (taken.div_ceil(1024), said()[&*function]);
         // Another compiler may lay out the frames a little differently.
