@@ -1,11 +1,12 @@
-//! The examples: each text assembles to its table, each table lists as stored,
-//! and each program computes what its text says.
+//! The examples: each text assembles to its table, each table lists and is drawn
+//! as stored, and each program computes what its text says.
 
 use foq::{LEAST_WORKSPACE, MOST_CIRCUIT};
 use foq_command::bytes::encode;
 use foq_command::circuit;
 use foq_command::listing::listing;
 use foq_command::text::parse;
+use foq_reference::{gates_on, read_circuit};
 use std::collections::BTreeSet;
 use std::fs;
 use std::path::PathBuf;
@@ -38,8 +39,25 @@ fn listed(table: &[u8], n: u32) -> String {
     listing(&circuit::read(bytes).unwrap())
 }
 
+/// The page of a circuit.
+fn drawn(circuit: &[u8]) -> Vec<u8> {
+    let mut page = Vec::new();
+    foq::write_page(circuit, &mut page).unwrap().unwrap();
+    page
+}
+
+/// Asserts that this is the page of a table on n qubits, that the second
+/// interpreter draws it too, and that the gates can be read off it.
+fn assert_page(table: &[u8], n: u32, page: &[u8]) {
+    let circuit = foq::compile_to_vec(table, n).unwrap();
+    assert_eq!(drawn(&circuit), page);
+    assert_eq!(foq_reference::page(&circuit), page);
+    let gates = read_circuit(&circuit).unwrap().gates;
+    assert_eq!(gates_on(page), Some(gates));
+}
+
 #[test]
-fn text_table_and_listing_say_the_same() {
+fn text_table_listing_and_page_say_the_same() {
     let names = names();
     let known = [
         "adder",
@@ -56,6 +74,8 @@ fn text_table_and_listing_say_the_same() {
         let stored = fs::read_to_string(example(&format!("{name}.listing"))).unwrap();
         let n = stored.split(' ').next().unwrap().parse().unwrap();
         assert_eq!(listed(&table(&name), n), stored, "{name}");
+        let page = fs::read(example(&format!("{name}.page"))).unwrap();
+        assert_page(&table(&name), n, &page);
     }
 }
 
