@@ -1,9 +1,9 @@
 //! `foq`: verdict, run and circuit of a FOQ program, for people at a shell.
 //!
-//! Verdict, run, compile and the circuit run are the proved functions of
-//! `libfoq.a`. This program stands outside of what is proved: it reads files,
-//! turns texts into tables and circuits into listings, and says refusals in
-//! words.
+//! Verdict, run, compile, the circuit run and the bands of a page are the proved
+//! functions of `libfoq.a`. This program stands outside of what is proved: it
+//! reads files, turns texts into tables and circuits into listings, and says
+//! refusals in words.
 
 #![deny(clippy::unwrap_used, clippy::expect_used, clippy::panic)]
 
@@ -33,11 +33,13 @@ foq: verdict, run and circuit of a FOQ program
     foq run FILE N WORD          the word that a run from WORD ends with
     foq compile FILE N [OUT]     the circuit, into OUT or to standard output
     foq list FILE N              the circuit as a listing
+    foq page FILE N              the circuit drawn on a page of 80 columns
     foq qasm FILE N              the circuit in OpenQASM 3
     foq assemble FILE OUT        the table of a text, into OUT
     foq disassemble FILE         the text of a table
     foq circuit run FILE WORD    the word that a kept circuit ends with
     foq circuit list FILE        a kept circuit as a listing
+    foq circuit page FILE        a kept circuit drawn on a page
     foq circuit qasm FILE        a kept circuit in OpenQASM 3
     foq --help                   this text
 
@@ -46,8 +48,9 @@ docs/TEXT.md says how a text is written. WORD is decimal, or behind 0x or 0b;
 its lowest bit is qubit 1. A refusal ends with status 1; wrong arguments, a
 wrong text or a file that cannot be read or written with status 2.
 
-Verdict, run, compile and the run of a circuit are proved. Texts, OpenQASM and
-the listings of this command are not; the listing program is.
+Verdict, run, compile, the run of a circuit and each band of a page are proved.
+Texts, OpenQASM and the listings of this command are not; the listing program
+is.
 ";
 
 fn main() -> ExitCode {
@@ -73,10 +76,12 @@ fn command(arguments: &[&OsStr]) -> Result<(), Failure> {
         (Some("compile"), &[file, n]) => say(&compiled(file, n)?),
         (Some("compile"), &[file, n, out]) => write(out, &compiled(file, n)?),
         (Some("list"), &[file, n]) => list(file, &compiled(file, n)?),
+        (Some("page"), &[file, n]) => print_page(file, &compiled(file, n)?),
         (Some("qasm"), &[file, n]) => print_qasm(file, &compiled(file, n)?),
         (Some("assemble"), &[file, out]) => assemble(file, out),
         (Some("disassemble"), &[file]) => disassemble(file),
         (Some("circuit"), &[what, file]) if what == "list" => list(file, &contents(file)?),
+        (Some("circuit"), &[what, file]) if what == "page" => print_page(file, &contents(file)?),
         (Some("circuit"), &[what, file]) if what == "qasm" => print_qasm(file, &contents(file)?),
         (Some("circuit"), &[what, file, word]) if what == "run" => run_circuit(file, word),
         (Some("--help"), &[]) => say(HELP.as_bytes()),
@@ -132,6 +137,17 @@ fn gates(file: &OsStr, circuit: &[u8]) -> Result<Circuit, Failure> {
 /// `foq list FILE N` and `foq circuit list FILE`, with the circuit's bytes.
 fn list(file: &OsStr, circuit: &[u8]) -> Result<(), Failure> {
     say(listing(&gates(file, circuit)?).as_bytes())
+}
+
+/// `foq page FILE N` and `foq circuit page FILE`, with the circuit's bytes. A
+/// page may be long: it is written band by band, as far as it is read.
+fn print_page(file: &OsStr, circuit: &[u8]) -> Result<(), Failure> {
+    let mut output = io::stdout().lock();
+    match foq::write_page(circuit, &mut output) {
+        Ok(Ok(())) => as_far_as_read(output.flush()),
+        Ok(Err(refusal)) => Err(refused(file)(refusal)),
+        Err(error) => as_far_as_read(Err(error)),
+    }
 }
 
 /// `foq qasm FILE N` and `foq circuit qasm FILE`, with the circuit's bytes.
@@ -208,7 +224,12 @@ fn usage(argument: &OsStr, words: &str) -> Failure {
 /// Writes to standard output, as far as it is read.
 fn say(bytes: &[u8]) -> Result<(), Failure> {
     let mut output = io::stdout().lock();
-    match output.write_all(bytes).and_then(|()| output.flush()) {
+    as_far_as_read(output.write_all(bytes).and_then(|()| output.flush()))
+}
+
+/// What came of writing to standard output. That nobody reads on is no failure.
+fn as_far_as_read(written: io::Result<()>) -> Result<(), Failure> {
+    match written {
         Err(error) if error.kind() != ErrorKind::BrokenPipe => {
             Err(Failure::File(PathBuf::from("standard output"), error))
         }

@@ -1,10 +1,11 @@
 //! The program `foq` at work: what it prints and writes, and its exit status.
 
+use foq_generator::circuits::circuit_of;
 use foq_generator::tables::{two_in_sequence, without_removal};
 use foq_generator::PAIRS;
-use std::fs;
+use std::fs::{self, File};
 use std::path::{Path, PathBuf};
-use std::process::{Command, Output};
+use std::process::{Command, Output, Stdio};
 
 /// The path of an example, as an argument.
 fn example(file: &str) -> String {
@@ -59,6 +60,7 @@ fn fails(arguments: &[&str], status: i32, words: &str) {
 #[test]
 fn tables_and_texts_are_judged_run_and_compiled_alike() {
     let listing = fs::read(example("pairs.listing")).unwrap();
+    let page = fs::read(example("pairs.page")).unwrap();
     let qasm = fs::read(example("pairs.qasm")).unwrap();
     for pairs in &[example("pairs.foq"), example("pairs.foq.txt")] {
         prints(&["verdict", pairs, "3"], b"accepted\n");
@@ -66,6 +68,7 @@ fn tables_and_texts_are_judged_run_and_compiled_alike() {
         prints(&["run", pairs, "3", "0x3"], b"0x7\n");
         prints(&["run", pairs, "3", "0b111"], b"0b011\n");
         prints(&["list", pairs, "3"], &listing);
+        prints(&["page", pairs, "3"], &page);
         prints(&["qasm", pairs, "3"], &qasm);
     }
 }
@@ -82,12 +85,14 @@ fn circuits_go_to_a_file_or_to_standard_output() {
 }
 
 #[test]
-fn kept_circuits_are_listed_and_run_without_their_table() {
+fn kept_circuits_are_listed_drawn_and_run_without_their_table() {
     let out = fresh("kept.circuit");
     let kept = out.to_str().unwrap();
     prints(&["compile", &example("pairs.foq"), "3", kept], b"");
     let listing = fs::read(example("pairs.listing")).unwrap();
     prints(&["circuit", "list", kept], &listing);
+    let page = fs::read(example("pairs.page")).unwrap();
+    prints(&["circuit", "page", kept], &page);
     let qasm = fs::read(example("pairs.qasm")).unwrap();
     prints(&["circuit", "qasm", kept], &qasm);
     prints(&["circuit", "run", kept, "0"], b"4\n");
@@ -98,6 +103,19 @@ fn kept_circuits_are_listed_and_run_without_their_table() {
         &["circuit", "run", dirty, "0x1"],
         b"0x1\nancilla 3 ends at 1\n",
     );
+}
+
+#[test]
+fn pages_go_on_in_further_bands() {
+    let long = example("chained_substring.foq");
+    let page = fs::read(example("chained_substring.page")).unwrap();
+    // 93 gates on 21 wires.
+    let lines = page.iter().filter(|byte| **byte == b'\n').count();
+    assert_eq!(lines, 5 * 21);
+    prints(&["page", &long, "6"], &page);
+    // One qubit, an ancilla and no gate.
+    let bare = &file("bare.circuit", &[1, 1, 1, 0, 0, 0, 0]);
+    prints(&["circuit", "page", bare], b"   1\n   2\n");
 }
 
 #[test]
@@ -128,9 +146,14 @@ fn help_is_printed() {
         "run",
         "compile",
         "list",
+        "page",
         "qasm",
         "assemble",
         "disassemble",
+        "circuit run",
+        "circuit list",
+        "circuit page",
+        "circuit qasm",
     ] {
         assert!(help.contains(&format!("foq {command} FILE")), "{command}");
     }
@@ -159,7 +182,8 @@ fn refusals_end_with_status_1_in_words() {
     refused(&["qasm", wide, "3"], "refusal 11: ");
     let long = &example("chained_substring.foq");
     refused(&["compile", long, "32"], "refusal 23: ");
-    for what in ["list", "qasm"] {
+    refused(&["page", long, "32"], "refusal 23: ");
+    for what in ["list", "page", "qasm"] {
         let words = "pairs.foq: refusal 14: the circuit is not well formed";
         refused(&["circuit", what, pairs], words);
     }
@@ -194,7 +218,7 @@ fn wrong_arguments_end_with_status_2() {
     );
     misused(
         &["circuit", pairs],
-        "circuit takes other arguments: foq circuit run FILE WORD, foq circuit list FILE, foq circuit qasm FILE; ",
+        "circuit takes other arguments: foq circuit run FILE WORD, foq circuit list FILE, foq circuit page FILE, foq circuit qasm FILE; ",
     );
     misused(&["--help", pairs], "takes other arguments: foq --help; ");
     misused(&["verdict", pairs, "three"], "three is no number of qubits");
@@ -214,6 +238,44 @@ fn files_that_cannot_be_read_or_written_end_with_status_2() {
     let pairs = &example("pairs.foq.txt");
     misused(&["compile", pairs, "3", missing], "missing/file: ");
     misused(&["assemble", pairs, missing], "missing/file: ");
+}
+
+/// A circuit that is long in every form: as many gates as there can be, on all
+/// wires.
+fn long_circuit(name: &str) -> String {
+    file(name, &circuit_of(32, 223, &vec![[0, 1]; 32_764]))
+}
+
+#[test]
+fn what_nobody_reads_on_is_no_failure() {
+    let long = &long_circuit("unread.circuit");
+    for what in ["list", "page", "qasm"] {
+        let mut child = Command::new(env!("CARGO_BIN_EXE_foq"))
+            .args(["circuit", what, long])
+            .stdout(Stdio::piped())
+            .stderr(Stdio::piped())
+            .spawn()
+            .unwrap();
+        drop(child.stdout.take());
+        let output = child.wait_with_output().unwrap();
+        assert_eq!(output.status.code(), Some(0), "{what}: {output:?}");
+        assert_eq!(output.stderr, b"", "{what}");
+    }
+}
+
+#[test]
+fn what_cannot_be_written_ends_with_status_2() {
+    let long = &long_circuit("unwritten.circuit");
+    for what in ["list", "page", "qasm"] {
+        let full = File::options().write(true).open("/dev/full").unwrap();
+        let output = Command::new(env!("CARGO_BIN_EXE_foq"))
+            .args(["circuit", what, long])
+            .stdout(full)
+            .output()
+            .unwrap();
+        assert_eq!(output.status.code(), Some(2), "{what}: {output:?}");
+        assert!(output.stderr.starts_with(b"foq: standard output: "));
+    }
 }
 
 #[test]
