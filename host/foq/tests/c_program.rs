@@ -87,26 +87,31 @@ fn circuits() -> Vec<(Vec<u8>, u64)> {
 
 /// Circuits to draw: without a gate, with one, about the end of a band and of
 /// two; on one wire, on few and on all; with gates that name every wire; of the
-/// longest length and one byte longer; cut off, and no circuit at all.
+/// longest length and one byte longer; cut off, with a false count, with a wire
+/// too many, and no circuit at all.
 fn drawn() -> Vec<Vec<u8>> {
     let mut random = Random::from_seed(43);
     let nots = |gates| vec![&[0, 1][..]; gates];
     let swap: &[u8] = &[4, 1, 2];
+    let on_one_wire = circuit_of(1, 0, &nots(39));
+    let cut_off = on_one_wire[..on_one_wire.len() - 1].to_vec();
+    let mut false_count = on_one_wire.clone();
+    false_count[3] += 1;
     let counts = [0, 1, 18, 19, 20, 38, 39, 57];
     let mut circuits = Vec::from(counts.map(|gates| circuit(&mut random, 3, 2, gates)));
     circuits.extend([
         pairs(3),
-        circuit(&mut random, 1, 0, 20),
+        on_one_wire,
         circuit(&mut random, 32, 223, 39),
         crowded_circuit(&mut random, 32, 223, 20),
         circuit_of(32, 223, &nots(0)),
-        circuit_of(32, 224, &nots(20)),
         circuit_of(2, 0, &[nots(32_763), vec![swap]].concat()),
         circuit_of(2, 0, &nots(32_765)),
+        cut_off,
+        false_count,
+        circuit_of(32, 224, &nots(20)),
         vec![],
     ]);
-    let cut_off = circuits[6].split_last().map(|(_, rest)| rest.to_vec());
-    circuits.extend(cut_off);
     circuits
 }
 
@@ -365,7 +370,7 @@ struct Case {
 }
 
 impl Case {
-    /// A circuit, which no table's function is lent anything for.
+    /// A circuit: the functions of tables are lent nothing.
     fn of_circuit(bytes: Vec<u8>, word: u64, place: u64, text: usize) -> Case {
         Case {
             bytes,
@@ -561,6 +566,8 @@ fn assert_bands_reached(cases: &[Case]) {
         count(&mut counts, "14 at a place", !drawn && case.place > 0);
         count(&mut counts, "first band", drawn && case.place == 0);
         count(&mut counts, "band at a place", drawn && case.place > 0);
+        let refused = circuit_read(&case.bytes).is_err();
+        count(&mut counts, "band of a refused circuit", drawn && refused);
         count(&mut counts, "last band", drawn && band.next == 0);
         count(&mut counts, "longest band", length == MOST_BAND);
         count(&mut counts, "text exact", drawn && case.text == length);
@@ -572,13 +579,14 @@ fn assert_bands_reached(cases: &[Case]) {
         ("14 at place 0", 1_000),
         ("14 at a place", 1_000),
         ("first band", 100),
-        ("band at a place", 500),
-        ("last band", 200),
+        ("band at a place", 1_000),
+        ("band of a refused circuit", 300),
+        ("last band", 500),
         ("longest band", 20),
-        ("text exact", 100),
-        ("one less", 100),
-        ("one more", 100),
-        ("null", 100),
+        ("text exact", 200),
+        ("one less", 200),
+        ("one more", 200),
+        ("null", 200),
     ];
     assert_reached(&counts, &least);
 }
