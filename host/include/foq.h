@@ -338,10 +338,13 @@ foq_block foq_circuit_run(const uint8_t *circuit, size_t length, uint64_t word);
  * length says how many bytes it needs. FOQ_MOST_BAND bytes are always enough.
  *
  * At place 0 it reads the whole circuit and refuses with FOQ_NOT_WELL_FORMED
- * exactly where foq_circuit_read does. At another place it reads the gates of
- * one band, over the header's wires, and refuses with FOQ_NOT_WELL_FORMED where
- * no such gates stand there; the places that the bands of a well-formed circuit
- * give, up to its end, are never refused. A refusal leaves the text as it was.
+ * exactly where foq_circuit_read does. Of a circuit that it does not refuse
+ * there, no place that a band gives is refused. At any other place it reads the
+ * gates of one band from there on, over the header's n and ancilla count, and no
+ * more of the circuit: it refuses with FOQ_NOT_WELL_FORMED where no such gates
+ * stand, at places 1 to FOQ_HEADER_LENGTH, at and past the circuit's end, and
+ * where the circuit is longer than FOQ_MOST_CIRCUIT. A refusal leaves the text as
+ * it was.
  */
 foq_band foq_page_band(const uint8_t *circuit, size_t length, uint64_t place,
                        uint8_t *text, size_t text_length);
