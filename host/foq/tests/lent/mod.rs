@@ -1,5 +1,8 @@
 //! Bytes that are lent dirty and looked at afterwards.
 
+// Each test uses a part of this.
+#![allow(dead_code)]
+
 use foq_generator::Random;
 
 /// Lengths at and about the shortest workspace that is enough.
