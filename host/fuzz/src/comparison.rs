@@ -2,7 +2,8 @@
 
 use crate::input::{Circuit, Input, Table};
 use crate::operations::Operations;
-use foq::border::{self, Answer};
+use foq::border::{self, Answer, Band};
+use foq::MOST_BAND;
 use foq_expected as expected;
 use foq_reference::{read_circuit, Gate, LONGEST_CIRCUIT};
 use std::fmt::Debug;
@@ -56,6 +57,15 @@ fn same<T: PartialEq + Debug>(what: &str, product: T, second: T) -> Result<T, Di
         return Ok(product);
     }
     Err(format!("{what}: {product:?} instead of {second:?}"))
+}
+
+/// The same of two texts.
+fn same_text(what: &str, product: &[u8], second: &[u8]) -> Result<(), Difference> {
+    if product == second {
+        return Ok(());
+    }
+    let [product, second] = [product, second].map(String::from_utf8_lossy);
+    same(what, product, second).map(drop)
 }
 
 /// A byte that stands where nothing is written.
@@ -149,6 +159,55 @@ fn run_circuit(
     same("circuit run", product.circuit_run(circuit, word), block)
 }
 
+/// One band of a page and its text: asked for first with a text that has no byte,
+/// then with one that is just long enough.
+fn band(
+    product: &impl Operations,
+    circuit: &[u8],
+    place: u64,
+) -> Result<(Band, Vec<u8>), Difference> {
+    let measured = product.page_band(circuit, place, &mut []);
+    let length = usize::try_from(measured.length).unwrap_or(usize::MAX);
+    same("page's band is short", length <= MOST_BAND, true)?;
+    let (band, text) = lend(length, |text| product.page_band(circuit, place, text))?;
+    same("page's band", band, measured)?;
+    Ok((band, text))
+}
+
+/// What a band has on the page: its text, or the number of a refusal alone, beside
+/// which there is nothing.
+fn drawn(band: Band, text: Vec<u8>) -> Result<Vec<u8>, Difference> {
+    let number = band.number;
+    if number == 0 {
+        return Ok(text);
+    }
+    let alone = Band {
+        number,
+        ..Band::default()
+    };
+    same("page's refusal", band, alone)?;
+    Ok(format!("{number}\n").into_bytes())
+}
+
+/// The bands from place 0 on make up the page.
+fn draw(product: &impl Operations, circuit: &[u8]) -> Result<(), Difference> {
+    let page = foq_reference::page(circuit);
+    let mut rest = &page[..];
+    let mut place = 0;
+    loop {
+        let (band, text) = band(product, circuit, place)?;
+        let ours = drawn(band, text)?;
+        let (theirs, behind) = rest.split_at(ours.len().min(rest.len()));
+        same_text("page", &ours, theirs)?;
+        rest = behind;
+        if band.next == 0 {
+            return same_text("page's end", &[], rest);
+        }
+        same("page's places ascend", place < band.next, true)?;
+        place = band.next;
+    }
+}
+
 /// The circuit of a table ends as its run does, with nothing but the end word
 /// in the block.
 fn runs_alike(
@@ -168,7 +227,7 @@ fn runs_alike(
 
 /// A table is judged, compiled into a room that is always enough and into one of
 /// the length at hand, and run. Where it has a circuit it is also compiled into
-/// a room of just that length and of one byte less. Where its circuit does not
+/// a room of just that length and of one byte less, and the circuit is drawn. Where its circuit does not
 /// fit it is not run: that could take for ever.
 fn compare_table(product: &impl Operations, table: &Table) -> Result<Class, Difference> {
     let judged = verdict(product, table)?;
@@ -185,6 +244,7 @@ fn compare_table(product: &impl Operations, table: &Table) -> Result<Class, Diff
         compile(product, table, circuit.len())?;
         compile(product, table, circuit.len() - 1)?;
         class.run = runs_alike(product, table, &circuit)?.number;
+        draw(product, &circuit)?;
         class = class.with_circuit(&circuit, read(product, &circuit)?);
         class.ancillas = circuit[2].into();
     } else if judged != 0 {
@@ -197,6 +257,7 @@ fn compare_circuit(product: &impl Operations, circuit: &Circuit) -> Result<Class
     let Circuit { bytes, word } = circuit;
     let gates = read(product, bytes)?;
     let run = run_circuit(product, bytes, *word)?.number;
+    draw(product, bytes)?;
     let class = Class {
         run,
         ..Class::default()
@@ -228,8 +289,6 @@ pub fn compare_listing(product: &impl Operations, table: &Table) -> Result<bool,
     let Some(ours) = product.listing(&input) else {
         return Ok(false);
     };
-    let theirs = foq_reference::listing(&input);
-    let text = |bytes: &[u8]| String::from_utf8_lossy(bytes).into_owned();
-    same("listing", text(&ours), text(&theirs))?;
+    same_text("listing", &ours, &foq_reference::listing(&input))?;
     Ok(true)
 }

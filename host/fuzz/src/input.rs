@@ -5,9 +5,9 @@ use std::fmt::{self, Display, Formatter};
 /// A table or a circuit, with the numbers that go beside it.
 #[derive(Clone, Debug, PartialEq, Eq)]
 pub enum Input {
-    /// For verdict, run, compile and listing.
+    /// For verdict, run, compile and listing; its circuit for all others.
     Table(Table),
-    /// For the circuit reader and the circuit run.
+    /// For the circuit reader, the circuit run and the page.
     Circuit(Circuit),
 }
 

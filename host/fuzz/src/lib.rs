@@ -18,6 +18,7 @@ mod trees;
 use comparison::{compare, compare_listing, Class, Difference};
 use corpus::Corpus;
 use foq_generator::Random;
+use foq_reference::refusal;
 use input::Input;
 use operations::Operations;
 
@@ -30,6 +31,8 @@ pub struct Tried {
     pub compiled: u64,
     /// Circuits.
     pub circuits: u64,
+    /// Circuits that are well formed, those of tables too: each has a page.
+    pub drawn: u64,
     /// Tables that were listed too.
     pub listed: u64,
     /// Classes of answers, of which each has an input that is kept.
@@ -42,8 +45,10 @@ impl Tried {
         if class.is_table {
             self.tables += 1;
             self.compiled += u64::from(class.compile == 0);
+            self.drawn += u64::from(class.compile == 0);
         } else {
             self.circuits += 1;
+            self.drawn += u64::from(class.run != refusal::CIRCUIT);
         }
     }
 }

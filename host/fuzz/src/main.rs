@@ -3,7 +3,8 @@
 //!
 //!     $ fuzz 60 1
 //!     seed 1, 60 seconds, .. classes of answers:
-//!     .. tables, of which .. gave a circuit and .. were listed; .. circuits
+//!     .. tables, of which .. gave a circuit and .. were listed; .. circuits;
+//!     .. pages
 //!     no mismatch
 //!
 //! On a mismatch it prints the input, made as small as it went, and what
@@ -51,8 +52,10 @@ fn print_counts(tried: &Tried) {
         compiled,
         circuits,
         listed,
+        drawn,
         ..
     } = tried;
     print!("{tables} tables, of which {compiled} gave a circuit ");
-    println!("and {listed} were listed; {circuits} circuits");
+    println!("and {listed} were listed; {circuits} circuits;");
+    println!("{drawn} pages");
 }

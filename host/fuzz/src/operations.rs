@@ -1,11 +1,11 @@
 //! The product's side of the comparison.
 
-use foq::border::{self, Answer, Block, Circuit};
+use foq::border::{self, Answer, Band, Block, Circuit};
 use std::io::Write;
 use std::path::PathBuf;
 use std::process::{Command, Stdio};
 
-/// The six operations, as C sees them. A test that plants a fault changes one.
+/// The seven operations, as C sees them. A test that plants a fault changes one.
 pub trait Operations {
     /// The verdict on a table.
     fn verdict(&self, table: &[u8], n: u32, workspace: &mut [u8]) -> u32 {
@@ -30,6 +30,11 @@ pub trait Operations {
     /// The circuit run.
     fn circuit_run(&self, circuit: &[u8], word: u64) -> Block {
         border::circuit_run(circuit, word)
+    }
+
+    /// One band of a circuit's page, into the text.
+    fn page_band(&self, circuit: &[u8], place: u64, text: &mut [u8]) -> Band {
+        border::page_band(circuit, place, text)
     }
 
     /// What the listing program prints, where there is one.

@@ -2,7 +2,7 @@
 
 use crate::input::{Circuit, Input, Table};
 use crate::trees::{replaced, trees, Tree};
-use foq_reference::{circuit_bytes, read_circuit, SHORTEST_WORKSPACE};
+use foq_reference::{circuit_bytes, read_circuit, Action, Gate, SHORTEST_WORKSPACE};
 use std::iter::successors;
 use std::ops::Range;
 
@@ -115,7 +115,9 @@ fn smaller_words(word: u64) -> Vec<u64> {
 }
 
 fn smaller_circuits(circuit: &Circuit) -> impl Iterator<Item = Circuit> + '_ {
-    let shorter = with_fewer_gates(&circuit.bytes).chain(with_pieces_cut(&circuit.bytes));
+    let bytes = &circuit.bytes;
+    let shorter = with_fewer_gates(bytes).chain(with_smaller_gates(bytes));
+    let shorter = shorter.chain(with_pieces_cut(bytes));
     let shorter = shorter.map(|bytes| Circuit {
         bytes,
         ..circuit.clone()
@@ -138,4 +140,36 @@ fn with_fewer_gates(bytes: &[u8]) -> impl Iterator<Item = Vec<u8>> {
             circuit_bytes(&fewer)
         })
     })
+}
+
+/// A well-formed circuit with one of its gates made smaller.
+fn with_smaller_gates(bytes: &[u8]) -> impl Iterator<Item = Vec<u8>> {
+    let circuit = read_circuit(bytes).ok().into_iter();
+    circuit.flat_map(|circuit| {
+        let places = 0..circuit.gates.len();
+        places.flat_map(move |place| {
+            let with = |gate| {
+                let mut changed = circuit.clone();
+                changed.gates[place] = gate;
+                circuit_bytes(&changed)
+            };
+            let gates = smaller_gates(&circuit.gates[place]).into_iter();
+            gates.map(with).collect::<Vec<_>>()
+        })
+    })
+}
+
+/// A NOT of the gate's target, and the gate without one of its controls.
+fn smaller_gates(gate: &Gate) -> Vec<Gate> {
+    let (Action::Not { target } | Action::Swap { lower: target, .. }) = gate.action;
+    let mut gates = vec![Gate {
+        action: Action::Not { target },
+        controls: vec![],
+    }];
+    for control in 0..gate.controls.len() {
+        let mut fewer = gate.clone();
+        fewer.controls.remove(control);
+        gates.push(fewer);
+    }
+    gates
 }

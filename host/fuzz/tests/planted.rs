@@ -1,7 +1,7 @@
 //! A fault planted in one operation is found and shown on a small input; the
 //! product itself has none among as many inputs.
 
-use foq::border::{self, Answer, Block, Circuit};
+use foq::border::{self, Answer, Band, Block, Circuit};
 use foq_fuzz::input::Input;
 use foq_fuzz::operations::{Operations, Product};
 use foq_fuzz::{fuzz, Tried};
@@ -16,12 +16,17 @@ fn found(product: &impl Operations) -> Option<(Input, String)> {
     mismatch.map(|found| (found.input, found.difference))
 }
 
-/// Asserts that a fault is found, on an input of few bytes.
-fn assert_found(product: &impl Operations, operation: &str) {
+/// Asserts that a fault is found, on an input of at most so many bytes.
+fn assert_found_within(product: &impl Operations, operation: &str, most: usize) {
     let (input, difference) = found(product).expect(operation);
     println!("{difference}: {input}");
     assert!(difference.starts_with(operation));
-    assert!(input.bytes().len() <= 40);
+    assert!(input.bytes().len() <= most);
+}
+
+/// Asserts that a fault is found, on an input of few bytes.
+fn assert_found(product: &impl Operations, operation: &str) {
+    assert_found_within(product, operation, 40);
 }
 
 #[test]
@@ -106,6 +111,37 @@ impl Operations for Short {
     }
 }
 
+/// Draws controls on 1 as controls on 0, and the other way round.
+struct Twisted;
+
+impl Operations for Twisted {
+    fn page_band(&self, circuit: &[u8], place: u64, text: &mut [u8]) -> Band {
+        let band = border::page_band(circuit, place, text);
+        let written = text.get_mut(..band.length as usize).unwrap_or_default();
+        for mark in written {
+            *mark = match *mark {
+                b'+' => b'o',
+                b'o' => b'+',
+                other => other,
+            };
+        }
+        band
+    }
+}
+
+/// Leaves the last band of a page out.
+struct Hasty;
+
+impl Operations for Hasty {
+    fn page_band(&self, circuit: &[u8], place: u64, text: &mut [u8]) -> Band {
+        let mut band = border::page_band(circuit, place, text);
+        if border::page_band(circuit, band.next, &mut []).next == 0 {
+            band.next = 0;
+        }
+        band
+    }
+}
+
 /// Prints nothing.
 struct Mute;
 
@@ -123,5 +159,8 @@ fn planted_faults_are_found() {
     assert_found(&Forgetful, "workspace");
     assert_found(&Careless, "circuit read");
     assert_found(&Short, "circuit run");
+    assert_found(&Twisted, "page");
+    // Twenty gates of two bytes are the least that go on in a second band.
+    assert_found_within(&Hasty, "page's end", 47);
     assert_found(&Mute, "listing");
 }
