@@ -28,6 +28,17 @@ pub fn print_rest<const CALLS: usize>(
     println!("{title:44}{product:10.2}{second:10.2}");
 }
 
+/// Prints how many megabytes a second both give, at so many bytes a call.
+pub fn print_rates<const CALLS: usize>(
+    title: &str,
+    rounds: &[Round<CALLS>],
+    calls: [usize; 2],
+    bytes: usize,
+) {
+    let [product, second] = calls.map(|call| bytes as f64 / median(rounds, |round| round[call]));
+    println!("{title:44}{product:10.0}{second:10.0}");
+}
+
 /// What was timed, of which input, on how many qubits, and the bytes of the
 /// table or circuit.
 pub fn title(what: &str, name: &str, n: u32, bytes: usize) -> String {
