@@ -174,23 +174,23 @@ impl Drawing {
 fn well_formed_circuits_are_drawn_alike() {
     let mut random = Random::from_seed(71);
     let mut drawing = Drawing::new();
-    for _ in 0..12_000 {
+    for _ in 0..20_000 {
         drawing.compare(&any_circuit(&mut random));
     }
     let least = [
-        ("well formed", 12_000),
-        ("no gate", 500),
-        ("more than one band", 7_000),
-        ("last band of 18 gates", 1_000),
-        ("last band full", 1_500),
-        ("last band of one gate", 1_000),
-        ("more than ten bands", 300),
-        ("swap", 9_000),
-        ("255 wires", 1_000),
-        ("32 qubits", 300),
+        ("well formed", 20_000),
+        ("no gate", 1_000),
+        ("more than one band", 12_000),
+        ("last band of 18 gates", 2_000),
+        ("last band full", 3_000),
+        ("last band of one gate", 2_000),
+        ("more than ten bands", 600),
+        ("swap", 15_000),
+        ("255 wires", 1_500),
+        ("32 qubits", 500),
         ("one wire", 20),
-        ("text too short", 10_000),
-        ("text as long as the band", 7_000),
+        ("text too short", 20_000),
+        ("text as long as the band", 10_000),
     ];
     assert_reached(&drawing.counts, &least);
 }

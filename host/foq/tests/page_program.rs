@@ -15,6 +15,8 @@ use std::fs;
 use std::io::Write;
 use std::path::{Path, PathBuf};
 use std::process::{Command, Stdio};
+use std::thread;
+use std::time::Duration;
 
 fn page_program() -> PathBuf {
     let program = repository("target/bin/page");
@@ -96,7 +98,8 @@ fn long_inputs_are_printed_alike() {
     assert_eq!((counts["a page"], counts["14"]), (3, 11));
 }
 
-/// The input comes a byte at a time, so that each read gives few of them.
+/// The input comes in pieces, so that a read gives no more than one of them:
+/// the program has the time to ask for the next one.
 #[test]
 fn an_input_in_pieces_is_printed_alike() {
     let circuit = pairs(32);
@@ -106,8 +109,9 @@ fn an_input_in_pieces_is_printed_alike() {
         .spawn()
         .unwrap();
     let mut pipe = child.stdin.take().unwrap();
-    for byte in &circuit {
-        pipe.write_all(&[*byte]).unwrap();
+    for piece in circuit.chunks(100) {
+        pipe.write_all(piece).unwrap();
+        thread::sleep(Duration::from_millis(20));
     }
     drop(pipe);
     let output = child.wait_with_output().unwrap();
