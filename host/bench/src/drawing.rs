@@ -59,7 +59,8 @@ fn print_case(name: &str, circuit: &[u8], text: &mut [u8]) {
     let circuit = || black_box(circuit);
     let rounds = rounds([&mut || draw(circuit(), text), &mut || used(page(circuit()))]);
     print_row(&title("page", name, 32, bytes), &rounds, [0, 1]);
-    print_rates(&title(" MB/s", name, 32, bytes), &rounds, [0, 1], length);
+    let drawn = format!("page of {length} bytes");
+    print_rates(&title(" MB/s", &drawn, 32, bytes), &rounds, [0, 1], length);
 }
 
 /// Prints the rows of every circuit.

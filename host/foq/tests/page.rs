@@ -373,7 +373,7 @@ fn a_text_takes_the_whole_band_or_nothing() {
 /// The length of a circuit's header.
 const HEADER: usize = 7;
 
-/// What `foq.h` says of a place.
+/// What is to be given at a place.
 fn band_said(bytes: &[u8], place: u64) -> Given {
     let said = gates_at(bytes, place).and_then(|at| band_from(bytes, at));
     let (answer, text) = said.unwrap_or((REFUSED, vec![]));
@@ -385,8 +385,9 @@ fn band_said(bytes: &[u8], place: u64) -> Given {
 }
 
 /// Where the gates of a band are read. For place 0 it is behind the header, if
-/// the whole circuit is well formed. Another place is itself, if it is behind
-/// the first gate's and within a circuit that is not too long.
+/// the whole circuit is well formed. Another place is where it says, if that is
+/// behind the first gate's and within a circuit that is not too long: `foq.h`
+/// leaves these two open, and the definition, `pageBand`, refuses them.
 fn gates_at(bytes: &[u8], place: u64) -> Option<usize> {
     if place == 0 {
         return read_circuit(bytes).ok().map(|_| HEADER);
@@ -491,7 +492,7 @@ impl Drawing {
 }
 
 #[test]
-fn places_that_no_band_gave_are_answered_as_the_header_says() {
+fn places_that_no_band_gave_are_answered_as_defined() {
     let mut random = Random::from_seed(79);
     let mut drawing = Drawing::new();
     drawing.compare_places(&pairs(32));
