@@ -320,8 +320,8 @@ foq_block foq_circuit_run(const uint8_t *circuit, size_t length, uint64_t word);
  * wires. Every line ends with a newline. The gates can be read off the page.
  *
  * Place 0 asks for the first band. Each band gives the place of the next, and
- * the last gives 0, so this writes a page that may be far longer than its
- * circuit (35.6 megabytes at most):
+ * the last gives 0, so this, with a text of FOQ_MOST_BAND bytes, writes a page
+ * that may be far longer than its circuit (35.6 megabytes at most):
  *
  *     uint64_t place = 0;
  *     do {

@@ -62,6 +62,7 @@ fn print_page(fd: i32) {
         let part = put_part_read(&mut text, &buffer, count, at);
         let length = part.length;
         if !io::write_all(STDOUT_FILENO, &text[..length]) {
+            os::fail(b"standard output");
             return;
         }
         if part.next <= at {
