@@ -1,4 +1,4 @@
--- Rows as the code puts them, from the marks that it keeps.
+-- Rows as the code puts them, from the marks that it keeps. That they are the rows of the gates is `band-kept` in proofs/KeptMarks.antt.
 use Prim.Native.Nat.{ℕ, zero, suc, _+_, _*_}
 use mathlib.Core.List.{List, [], _∷_, _++_}
 use lib.ListN.{getD}

@@ -190,7 +190,7 @@ fn sizes() -> [usize; 11]
     [BODY_COUNT, MATRIX_LENGTH, LENGTH_COUNT, ROW_COUNT, ENDS_AT, ROOTS_AT, INDEX_LENGTH, PLACE_COUNT, CONTROLS_LENGTH, SLOT_LENGTH, MOST_CALLS as usize]
 }
 
-// So is each number of a page.
+// Each number of a page is the definition's, or follows from it.
 fn page_sizes() -> [usize; 5]
     ensures { λ r. ⌜ r ≡ bandGates ∷ lineColumns ∷ mostBand ∷ wireCount ∷ marksLength ∷ [] ⌝ }
 {

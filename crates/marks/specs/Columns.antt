@@ -1,5 +1,5 @@
 -- The marks of a band as the code keeps them: a column for each gate, a byte for each number of a wire. That what is kept there are the marks of the gates is
--- `band-kept` in proofs/KeptMarks.antt.
+-- `band-kept` in crates/bands/proofs/KeptMarks.antt.
 use Prim.Native.Nat.{ℕ, zero, suc, _+_, _-_, _*_}
 use mathlib.Core.Bool.{true, false}
 use mathlib.Core.List.{List, [], _∷_}

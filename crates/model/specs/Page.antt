@@ -210,7 +210,7 @@ readBand most (suc k) i = elim (eqb (length (i .bytes)) 0) [ true ↦ parsed [] 
 abbrev pub placeOf : List ℕ → Input → ℕ
 placeOf bytes i = elim (eqb (length (i .bytes)) 0) [ true ↦ 0 | false ↦ length bytes - length (i .bytes) ]
 
--- the band of the gates that were read; 14 where they are none
+-- the band of the gates that were read; 14 where what stands there is no gate
 unfoldable pub drawn : List ℕ → ℕ → Parsed (List Gate) → Outcome Band
 drawn bytes most (parsed gs i) = gives (record { text = band most gs; next = placeOf bytes i })
 drawn bytes most (refused k) = refuses notWellFormed

@@ -1,4 +1,4 @@
--- What the listing program has read of its input.
+-- What a program has read of its input.
 use Prim.Native.Nat.{ℕ}
 use mathlib.Core.Path.{_≡_}
 use mathlib.Core.List.{List}
