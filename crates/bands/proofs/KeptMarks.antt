@@ -1,7 +1,7 @@
 -- What is kept of a band's gates are their marks: so the rows put from it are the rows of the gates.
 use mathlib.Core.Path.{_≡_, refl, sym, ap, ap₂, _∙_}
 use mathlib.Core.Logic.{_≢_, _⊎_, inl, inr}
-use mathlib.Core.Bool.{true, false, _&&_, true≢false}
+use mathlib.Core.Bool.{true, false, _&&_, _||_, true≢false}
 use mathlib.Core.List.{List, [], _∷_, _++_}
 use Prim.Native.Nat.{ℕ, zero, suc, _+_, _-_, _*_, _≤_, _<_, zero-le, max}
 use native.Mathlib.Nat.{add-zero}
@@ -14,14 +14,15 @@ use Rattle.limits.specs.Sizes.{wireCount, marksLength}
 use Rattle.model.specs.Limits.{mostWires}
 use Rattle.model.specs.Reading.{Input, Parsed, parsed, refused, andThen}
 use Rattle.model.specs.Lists.{member, range}
-use Rattle.model.specs.Gates.{Gate, flip, swap, targets}
+use Rattle.model.specs.Gates.{Gate, targets}
 use Rattle.model.specs.Circuit.{wires, controlsOf, within, gateIsWellFormed, readGate}
 use Rattle.model.specs.Listing.{plus, newline}
 use Rattle.model.specs.Page.{bandGates, bar, dash, letterO, letter, lowest, highest, between, mark, marks, rightAligned, rows, band, readBand}
-use Rattle.model.proofs.BooleanLaws.{byBool, byEq, byLt, and-right, or-right}
-use Rattle.model.proofs.ListLaws.{member-head, member-tail, member-cases, member-skip, member-append, member-nil, not-in-nil}
+use Rattle.model.proofs.BooleanLaws.{byBool, byEq, byLt, and-right, or-left, or-right, not-true-false}
+use Rattle.model.proofs.ListLaws.{member-head, member-tail, member-cases, member-append, member-nil, not-in-nil, range-bounds}
 use Rattle.model.proofs.AscendingWires.{within-head, within-tail, within-member}
 use Rattle.model.proofs.RoundTrip.{AllWellFormed, formed}
+use Rattle.model.proofs.PageMarks.{wires-are}
 use Rattle.model.proofs.PageBands.{band-end, band-gate}
 use Rattle.marks.specs.Columns.{spanOf, inside, markAll, markBars, markGate, Banded, banded, unread, markThen, markFrom}
 use Rattle.marks.proofs.MarkedBand.{from-end, from-more}
@@ -84,18 +85,16 @@ range-has (suc n) a w h l = byEq w a
     (λ e. rw e (member-head a (range n (suc a))))
     (λ f. member-tail w a (range n (suc a)) (range-has n (suc a) w (omega arith) (omega arith)))
 
-range-lacks : (n a w : ℕ) → (w < a) ⊎ (a + n ≤ w) → member w (range n a) ≡ false
-unfolding range
-range-lacks zero a w h = member-nil w
-range-lacks (suc n) a w (inl h) = member-skip w a (range n (suc a)) (omega arith) (range-lacks n (suc a) w (inl (omega arith)))
-range-lacks (suc n) a w (inr h) = member-skip w a (range n (suc a)) (omega arith) (range-lacks n (suc a) w (inr (omega arith)))
+range-lacks : (n a w : ℕ) → (a ≤ w → a + n ≤ w) → member w (range n a) ≡ false
+range-lacks n a w out = not-true-false (member w (range n a)) (λ m.
+    let r = range-bounds n a w m in let h : a + n ≤ w = out (r .0) in let l : w < a + n = r .1 in absurd (omega arith))
 
 inside-is : (low high w : ℕ) → member w (inside low high) ≡ ltb low w && ltb w high
 inside-is low high w = byLt low w
     (λ h. byLt w high
       (λ l. rw (lt-ltb low w h, lt-ltb w high l) (range-has (high - suc low) (suc low) w (omega arith) (omega arith)))
-      (λ l. rw (lt-ltb low w h, le-ltb w high l) (range-lacks (high - suc low) (suc low) w (inr (omega arith)))))
-    (λ h. rw (le-ltb low w h) (range-lacks (high - suc low) (suc low) w (inl (omega arith))))
+      (λ l. rw (lt-ltb low w h, le-ltb w high l) (range-lacks (high - suc low) (suc low) w (λ a. omega arith))))
+    (λ h. rw (le-ltb low w h) (range-lacks (high - suc low) (suc low) w (λ a. absurd (omega arith))))
 
 between-is : (ws : List ℕ) (w : ℕ) → member w (inside (spanOf ws .low) (spanOf ws .high)) ≡ between ws w
 unfolding spanOf between range
@@ -184,21 +183,19 @@ span-below most (v ∷ l) ok = highest-below most v l (within-head most v l ok .
 
 -- its targets and controls are wires of it
 target-wire : (g : Gate) (v : ℕ) → member v (targets g) ≡ true → member v (wires g) ≡ true
-unfolding targets wires
-target-wire (flip cs t) v m = member-cases v t [] m (λ e. rw e (member-head t (cs .ones ++ cs .zeros))) (λ i. not-in-nil v i)
-target-wire (swap cs t u) v m = member-cases v t (u ∷ []) m (λ e. rw e (member-head t (u ∷ (cs .ones ++ cs .zeros))))
-    (λ i. member-tail v t (u ∷ (cs .ones ++ cs .zeros)) (member-cases v u [] i (λ e. rw e (member-head u (cs .ones ++ cs .zeros))) (λ j. not-in-nil v j)))
+target-wire g v m = rw (wires-are g, member-append v (targets g) (controlsOf g .ones ++ controlsOf g .zeros), m)
 
-control-wire : (g : Gate) (v : ℕ) → member v (controlsOf g .ones ++ controlsOf g .zeros) ≡ true → member v (wires g) ≡ true
-unfolding controlsOf wires
-control-wire (flip cs t) v m = member-tail v t (cs .ones ++ cs .zeros) m
-control-wire (swap cs t u) v m = member-tail v t (u ∷ (cs .ones ++ cs .zeros)) (member-tail v u (cs .ones ++ cs .zeros) m)
+control-wire : (g : Gate) (v : ℕ) → member v (controlsOf g .ones) || member v (controlsOf g .zeros) ≡ true → member v (wires g) ≡ true
+control-wire g v m =
+    let ones = controlsOf g .ones in let zeros = controlsOf g .zeros in
+    rw (wires-are g, member-append v (targets g) (ones ++ zeros), member-append v ones zeros)
+    (or-right (member v (targets g)) (member v ones || member v zeros) m)
 
 one-wire : (g : Gate) (v : ℕ) → member v (controlsOf g .ones) ≡ true → member v (wires g) ≡ true
-one-wire g v m = control-wire g v (rw (member-append v (controlsOf g .ones) (controlsOf g .zeros), m))
+one-wire g v m = control-wire g v (or-left (member v (controlsOf g .ones)) (member v (controlsOf g .zeros)) m)
 
 zero-wire : (g : Gate) (v : ℕ) → member v (controlsOf g .zeros) ≡ true → member v (wires g) ≡ true
-zero-wire g v m = control-wire g v (member-append v (controlsOf g .ones) (controlsOf g .zeros) ∙ or-right (member v (controlsOf g .ones)) _ m)
+zero-wire g v m = control-wire g v (or-right (member v (controlsOf g .ones)) (member v (controlsOf g .zeros)) m)
 
 module _ (most : ℕ) (few : most ≤ mostWires) where
   -- a well-formed gate leaves every other column as it was

@@ -11,10 +11,10 @@ use lib.ListN.{length, getD}
 use Rattle.model.specs.Limits.{notWellFormed, mostWires, headerLength}
 use Rattle.model.specs.Reading.{Input, Parsed, parsed, refused}
 use Rattle.model.specs.Gates.{Gate}
-use Rattle.model.specs.Circuit.{Circuit, readGate, fourBytes, encodeAll, write}
+use Rattle.model.specs.Circuit.{Circuit, readGate, encodeAll, write}
 use Rattle.model.specs.Answers.{Outcome, gives, refuses, circuitRead}
 use Rattle.model.specs.Listing.{gateLine, gateLines, firstLine, refusalLine, listed}
-use Rattle.model.proofs.RoundTrip.{AllWellFormed, left, read-encode, write-circuitRead}
+use Rattle.model.proofs.RoundTrip.{AllWellFormed, left, read-encode, write-gates, write-circuitRead}
 use Rattle.circuit.specs.GatesInBytes.{inputAt, settled, gateIn, gateParsed}
 use Rattle.answers.specs.Structs.{headerOf}
 use Rattle.answers.specs.declared.CircuitHeader.{CircuitHeader}
@@ -74,8 +74,7 @@ lines-are most k (g ∷ gs) ok =
 
 -- behind its header a circuit's bytes are its gates
 gates-after : (bs : List ℕ) (c : Circuit) → write c ≡ bs → inputAt bs headerLength ≡ left (encodeAll (c .gates)) 0
-unfolding write fourBytes
-gates-after bs c e = rw (← e)
+gates-after bs c e = rw (← e, write-gates c)
 
 -- the ways out of `list_circuit`
 module _ (bs : List ℕ) (h : CircuitHeader) (is : h ≡ headerOf (circuitRead bs)) where

@@ -1,14 +1,14 @@
 -- One mark on each of some wires: the ways out of `set_mark`, and what the loops of `mark_bars` and `mark_wires` keep.
-use mathlib.Core.Path.{_≡_, refl, sym, ap}
+use mathlib.Core.Path.{_≡_, refl, sym}
 use mathlib.Core.Bool.{Bool, true, false}
 use mathlib.Core.List.{List, [], _∷_}
 use Prim.Native.Nat.{ℕ, zero, suc, _+_, _-_, _*_, _≤_, _<_}
 use native.Mathlib.Numerals.{add-one}
-use native.Mathlib.Nat.{le-of-suc-le-suc, not-suc-le-zero}
 use native.Mathlib.Omega.{arith}
 use borrow.Author.Needs.{needs}
 use borrow.Author.Tests.{not-true, not-false}
 use lib.ListN.{length, getD, set}
+use lib.Seq.{set-out}
 use Rattle.limits.specs.Sizes.{wireCount}
 use Rattle.model.specs.Lists.{range}
 use Rattle.model.specs.Gates.{Controls, targets}
@@ -22,13 +22,8 @@ use Rattle.marks.specs.declared.Span.{Span}
 use Rattle.marks.specs.Columns.{spanOf, inside, markAll, markBars, markControls, markGate}
 
 -- a store behind the end changes nothing
-set-past : (l : List ℕ) (i a : ℕ) → length l ≤ i → set l i a ≡ l
-set-past [] i a h = refl
-set-past (x ∷ l) zero a h = absurd (not-suc-le-zero h)
-set-past (x ∷ l) (suc i) a h = ap (λ r. x ∷ r) (set-past l i a (le-of-suc-le-suc h))
-
 pub mark-past : (marks : List ℕ) (at sign : ℕ) → length marks ≤ at → marks ≡ set marks at sign
-mark-past marks at sign h = sym (set-past marks at sign h)
+mark-past marks at sign h = sym (set-out marks at sign h)
 
 pub ruleset setting = (needs, mark-past)
 

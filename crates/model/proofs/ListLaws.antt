@@ -247,7 +247,7 @@ pub data-touched : (n : ℕ) (rs : List Number) (a : Number) (l : List ℕ) → 
 data-touched n rs a l d = member-cases (touched rs a l) 0 l (touched-member rs a l) (λ e. rw e zero-le) (λ m. d (touched rs a l) m .1)
 
 -- the qubits 1 to n
-range-bounds : (n a w : ℕ) → member w (range n a) ≡ true → (a ≤ w) × (w < a + n)
+pub range-bounds : (n a w : ℕ) → member w (range n a) ≡ true → (a ≤ w) × (w < a + n)
 unfolding range
 range-bounds zero a w m = not-in-nil w m
 range-bounds (suc n) a w m = member-cases w a (range n (suc a)) m

@@ -11,14 +11,14 @@ use lib.Dec.{leb}
 use Rattle.model.specs.Limits.{mostWires, mostCircuit, headerLength, notWellFormed}
 use Rattle.model.specs.Reading.{Input, inputAt, Parsed, parsed, refused, andThen, provided}
 use Rattle.model.specs.Gates.{Gate}
-use Rattle.model.specs.Circuit.{Circuit, encode, encodeAll, fourBytes, write, readGate, readCircuit}
+use Rattle.model.specs.Circuit.{Circuit, encode, encodeAll, write, readGate, readCircuit}
 use Rattle.model.specs.Answers.{gives, refuses, after, require, wellFormed, circuitRead}
 use Rattle.model.specs.Page.{bandGates, band, bands, page, paged, pageOf, Band, readBand, placeOf, drawn, headerWires, bandAt, pageBand}
 use Rattle.model.proofs.BooleanLaws.{byEq, byLt}
 use Rattle.model.proofs.OutcomeLaws.{not-both, gives-same, required, gave}
 use Rattle.model.proofs.ReadingLaws.{Reads, reads-then, Anyhow}
 use Rattle.model.proofs.RoundTrip.{left, AllWellFormed, read-encode, encode-length, encodeAll-length, Spells, GateRead, reads-gate, Bytes}
-use Rattle.model.proofs.RoundTrip.{write-circuitRead}
+use Rattle.model.proofs.RoundTrip.{formed-drop, write-gates, write-circuitRead}
 
 -- The reader of a band.
 
@@ -162,12 +162,6 @@ encodeAll-parts (suc k) [] = refl
 encodeAll-parts (suc k) (g ∷ gs) =
     ap (λ l. encode g ++ l) (encodeAll-parts k gs) ∙ sym (append-assoc (encode g) (encodeAll (take k gs)) (encodeAll (drop k gs)))
 
--- the gates that are left are well formed as all are
-drop-wellFormed : (most k : ℕ) (gs : List Gate) → AllWellFormed most gs → AllWellFormed most (drop k gs)
-drop-wellFormed most zero gs ok = ok
-drop-wellFormed most (suc k) [] ok = ok
-drop-wellFormed most (suc k) (g ∷ gs) ok = drop-wellFormed most k gs (ok .1)
-
 -- from the bytes of gates, the reader of a band reads as many of them as it may
 band-back : (most k : ℕ) (gs : List Gate) → AllWellFormed most gs →
     readBand most k (left (encodeAll gs) 0) ≡ parsed (take k gs) (left (encodeAll (drop k gs)) 0)
@@ -238,18 +232,13 @@ module _ (bytes : List ℕ) (most : ℕ) (wires : headerWires bytes ≡ most) (f
       let on = next-some place gs (omega arith) e in
       let later : place < next = on .0 in
       more at (bandOf gs) (bands most (suc k) others) (asks ∙ band-is place gs ok e) (omega arith)
-        (bands-drawn k others (omega arith) (drop-wellFormed most bandGates gs ok) next next (omega arith) (omega arith)
+        (bands-drawn k others (omega arith) (formed-drop most bandGates gs ok) next next (omega arith) (omega arith)
           (asks-band next (omega arith) (on .1)) (on .2))
 
 -- the wires that a circuit's header says
 wires-are : (c : Circuit) → headerWires (write c) ≡ c .dataWires + c .ancillas
 unfolding write
 wires-are c = refl
-
--- behind its header a circuit's bytes are its gates
-gates-behind : (c : Circuit) → drop headerLength (write c) ≡ encodeAll (c .gates)
-unfolding write fourBytes
-gates-behind c = refl
 
 -- The bands make up the page: asked from place 0 on, and then at each next place until that is 0.
 pub page-drawn : (bytes : List ℕ) (c : Circuit) → Bytes bytes → circuitRead bytes ≡ gives c → Drawn bytes 0 (page c)
@@ -258,4 +247,4 @@ page-drawn bytes c ok e =
     let w = write-circuitRead bytes e in
     let is : bytes ≡ write c = sym (w .1 ok) in
     bands-drawn bytes (c .dataWires + c .ancillas) (rw is (wires-are c)) (w .0 .few-wires) (rw is (w .0 .short))
-      ((length (c .gates) - 1) / bandGates) (c .gates) refl (w .0 .all-gates) 0 headerLength (omega arith) (omega arith) (rw e) (rw is (gates-behind c))
+      ((length (c .gates) - 1) / bandGates) (c .gates) refl (w .0 .all-gates) 0 headerLength (omega arith) (omega arith) (rw e) (rw is (write-gates c))

@@ -1,7 +1,7 @@
 -- A gate's marks, over all wires, are those of no other gate: its ones, its zeros and its targets can be read off them.
 use mathlib.Core.Path.{_≡_, refl, sym, ap, _∙_}
 use mathlib.Core.Logic.{_≢_}
-use mathlib.Core.Bool.{Bool, true, false, not, _&&_}
+use mathlib.Core.Bool.{Bool, true, false, not}
 use mathlib.Core.List.{List, [], _∷_, _++_}
 use Prim.Native.Nat.{ℕ, zero, suc, _+_, _≤_, _<_}
 use native.Mathlib.Omega.{arith}
@@ -116,7 +116,7 @@ apart-right : (l a b : List ℕ) → Apart l (a ++ b) → Apart l b
 apart-right l a b h w m = or-false-right (member w a) (member w b) (sym (member-append w a b) ∙ h w m)
 
 -- a gate's wires are its targets and those of its controls
-wires-are : (g : Gate) → wires g ≡ targets g ++ (controlsOf g .ones ++ controlsOf g .zeros)
+pub wires-are : (g : Gate) → wires g ≡ targets g ++ (controlsOf g .ones ++ controlsOf g .zeros)
 unfolding wires targets controlsOf
 wires-are (flip cs t) = refl
 wires-are (swap cs u v) = refl
@@ -241,12 +241,10 @@ pub record Marked (most : ℕ) (g : Gate) : Type 0 where
 
 -- a well-formed gate is marked so
 pub marked : (most : ℕ) (g : Gate) → gateIsWellFormed most g ≡ true → Marked most g
-unfolding gateIsWellFormed
 marked most g ok =
     let f = formed most g ok in
     let s = separate g (f .apart) in
     let ones = controlsOf g .ones in let zeros = controlsOf g .zeros in
-    let lower = and-right (ascends ones && ascends zeros && distinct (wires g) && within most (wires g)) (lowerFirst g) ok in
     let all : Bounded most 1 (targets g ++ (ones ++ zeros)) = rw (wires-are g) at (within-bounded most (wires g) (f .inside)) in
     let b = part-bounded most 1 (targets g) ones zeros all in
     record {
@@ -254,5 +252,5 @@ marked most g ok =
       by-o = passing-list (λ w. eqb (mark g w) letterO) most 1 zeros (f .zeros-ascend) (b .2) (λ w h. tells-zeros g s w);
       by-x = passing-list (λ w. eqb (mark g w) letterX) most 1 (crossed g) (crossed-ascend g) (crossed-bounded most 1 g (b .0))
         (λ w h. tells-crossed g s w);
-      by-s = passing-list (λ w. eqb (mark g w) letterS) most 1 (exchanged g) (exchanged-ascend g lower) (exchanged-bounded most 1 g (b .0))
+      by-s = passing-list (λ w. eqb (mark g w) letterS) most 1 (exchanged g) (exchanged-ascend g (f .lower)) (exchanged-bounded most 1 g (b .0))
         (λ w h. tells-exchanged g s w) }

@@ -18,7 +18,7 @@ use Rattle.model.specs.Page.{letterO, numberColumns, bandGates, mark, ma
 use Rattle.model.specs.Page.{unspaced, spelled, marksIn, Row, rowOn, onBand, bandsOf, wiresMarked, notMarked, swapMarked}
 use Rattle.model.specs.Page.{gateMarked, gatesIn, gatesOfBand, gatesOfBands, gatesOn}
 use Rattle.model.proofs.BooleanLaws.{byBool}
-use Rattle.model.proofs.RoundTrip.{WellFormed, AllWellFormed, write-circuitRead}
+use Rattle.model.proofs.RoundTrip.{WellFormed, AllWellFormed, formed-drop, write-circuitRead}
 use Rattle.model.proofs.DecimalDigits.{decimal-spells}
 use Rattle.model.proofs.PageLines.{AllDigits, digits-are, line, pageLines, lines-of-bands}
 use Rattle.model.proofs.PageShape.{number-length}
@@ -182,16 +182,11 @@ band-gates : (n : ℕ) (gs : List Gate) → AllWellFormed (suc n) gs → gatesOf
 unfolding gatesOfBand range
 band-gates n gs ok = ap (λ k. gatesIn k 0 (rowsFor (suc n) 1 gs)) (length-map gs (λ g. mark g 1)) ∙ columns-gates (suc n) [] gs ok
 
--- the first gates of well-formed ones, and those behind them, are well formed
+-- the first gates of well-formed ones are well formed
 formed-take : (most k : ℕ) (gs : List Gate) → AllWellFormed most gs → AllWellFormed most (take k gs)
 formed-take most zero gs ok = tt
 formed-take most (suc k) [] ok = tt
 formed-take most (suc k) (g ∷ gs) ok = (ok .0, formed-take most k gs (ok .1))
-
-formed-drop : (most k : ℕ) (gs : List Gate) → AllWellFormed most gs → AllWellFormed most (drop k gs)
-formed-drop most zero gs ok = ok
-formed-drop most (suc k) [] ok = tt
-formed-drop most (suc k) (g ∷ gs) ok = formed-drop most k gs (ok .1)
 
 -- enough bands have all gates
 bands-gates : (n k : ℕ) (gs : List Gate) → AllWellFormed (suc n) gs → length gs ≤ k * bandGates → gatesOfBands (pageBands (suc n) k gs) ≡ gs

@@ -6,7 +6,7 @@ use Prim.Native.Nat.{ℕ, zero, suc, _+_, _*_, _/_, _%_, _^_, _≤_, _<_, zero-l
 use native.Mathlib.Nat.{add-zero, div-div-eq-div-mul, div-eq-of-lt-le, mod-eq-of-lt, add-mul-mod-self-left}
 use native.Mathlib.Omega.{arith}
 use borrow.Author.Tests.{le-leb, leb-true, ltb-true, eqb-true}
-use lib.ListN.{length, getD, length-append}
+use lib.ListN.{length, getD, drop, length-append}
 use lib.Dec.{eqb, ltb, leb}
 use Rattle.model.specs.Limits.{mostQubits, mostWires, mostCircuit, headerLength, circuitEdition, notWellFormed}
 use Rattle.model.specs.Reading.{Input, Parsed, parsed, refused, andThen, provided, byteOf, optional, stands}
@@ -79,6 +79,12 @@ abbrev pub AllWellFormed : ℕ → List Gate → Type 0
 AllWellFormed most [] = Unit {0}
 AllWellFormed most (g ∷ gs) = (gateIsWellFormed most g ≡ true) × AllWellFormed most gs
 
+-- so are those that are left behind the first ones
+pub formed-drop : (most k : ℕ) (gs : List Gate) → AllWellFormed most gs → AllWellFormed most (drop k gs)
+formed-drop most zero gs ok = ok
+formed-drop most (suc k) [] ok = tt
+formed-drop most (suc k) (g ∷ gs) ok = formed-drop most k gs (ok .1)
+
 -- the bytes of gates are read back to the gates
 read-all : (most : ℕ) (gs : List Gate) → AllWellFormed most gs → (rest : List ℕ) (k : ℕ) →
     readGates most (length gs) (left (encodeAll gs ++ rest) k) ≡ parsed gs (left rest k)
@@ -117,6 +123,11 @@ encodeAll-length (g ∷ gs) = let a = encode-length g in let b = encodeAll-lengt
 pub write-length : (c : Circuit) → length (write c) ≡ headerLength + length (encodeAll (c .gates))
 unfolding write fourBytes
 write-length c = omega arith
+
+-- behind its header a circuit's bytes are its gates
+pub write-gates : (c : Circuit) → drop headerLength (write c) ≡ encodeAll (c .gates)
+unfolding write fourBytes
+write-gates c = refl
 
 -- what document 01 asks of a circuit. That its gate count fits four bytes follows from its length.
 pub record WellFormed (c : Circuit) : Type 0 where
@@ -330,6 +341,7 @@ pub record Formed (most : ℕ) (g : Gate) : Type 0 where
   pub zeros-ascend : ascends (controlsOf g .zeros) ≡ true
   pub apart : distinct (wires g) ≡ true
   pub inside : within most (wires g) ≡ true
+  pub lower : lowerFirst g ≡ true
 
 -- its test gives all of them
 pub formed : (most : ℕ) (g : Gate) → gateIsWellFormed most g ≡ true → Formed most g
@@ -344,4 +356,5 @@ formed most g ok =
       ones-ascend = and-left up₁ up₀ two;
       zeros-ascend = and-right up₁ up₀ two;
       apart = and-right (up₁ && up₀) d three;
-      inside = and-right (up₁ && up₀ && d) w four }
+      inside = and-right (up₁ && up₀ && d) w four;
+      lower = and-right (up₁ && up₀ && d && w) (lowerFirst g) ok }
