@@ -227,8 +227,8 @@ fn runs_alike(
 
 /// A table is judged, compiled into a room that is always enough and into one of
 /// the length at hand, and run. Where it has a circuit it is also compiled into
-/// a room of just that length and of one byte less, and the circuit is drawn. Where its circuit does not
-/// fit it is not run: that could take for ever.
+/// a room of just that length and of one byte less, and the circuit is drawn.
+/// Where its circuit does not fit it is not run: that could take for ever.
 fn compare_table(product: &impl Operations, table: &Table) -> Result<Class, Difference> {
     let judged = verdict(product, table)?;
     let Compiled { number, circuit } = compile(product, table, LONGEST_CIRCUIT)?;
