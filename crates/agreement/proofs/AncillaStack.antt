@@ -67,7 +67,7 @@ module _ (n : ℕ) where
     whole-stacked (NOT rs a) l cs next h = refl
     whole-stacked (sequence s t) l cs next h =
       stacked-append next next next (whole chains s l cs next) (whole chains t l cs next) (whole-stacked s l cs next h) (whole-stacked t l cs next h)
-    whole-stacked (if c s t) l cs next h = byBool (holds c (length l))
+    whole-stacked (if c s t) l cs next h = byBool (holds c l)
       (λ e. rw (whole-yes chains l cs next c s t e) (whole-stacked s l cs next h))
       (λ e. rw (whole-no chains l cs next c s t e) (whole-stacked t l cs next h))
     whole-stacked (qcase rs a s t) l cs next h =
@@ -93,7 +93,7 @@ module _ (n : ℕ) where
       (λ e. rw (left-thin chains r l cs next s t e, invocations-thin r l next s t e)
         (stacked-append next next (next + length (invocations r t l next)) (whole chains s l cs next) (left chains r t l cs next)
           (whole-stacked s l cs next h) (left-stacked r t l cs next h)))
-    left-stacked r (if c s t) l cs next h = byBool (holds c (length l))
+    left-stacked r (if c s t) l cs next h = byBool (holds c l)
       (λ e. rw (left-yes chains r l cs next c s t e, invocations-yes r l next c s t e) (left-stacked r s l cs next h))
       (λ e. rw (left-no chains r l cs next c s t e, invocations-no r l next c s t e) (left-stacked r t l cs next h))
     left-stacked r (qcase rs a s t) l cs next h =
@@ -128,7 +128,7 @@ module _ (n : ℕ) where
       (λ e. rw (right-wide chains r l cs next s t top e) (stacked-append top top top (right chains r s l cs next top) (whole chains t l cs top)
         (right-stacked r s l cs next top h) (whole-stacked t l cs top h)))
       (λ e. rw (right-thin chains r l cs next s t top e) (right-stacked r t l cs next top h))
-    right-stacked r (if c s t) l cs next top h = byBool (holds c (length l))
+    right-stacked r (if c s t) l cs next top h = byBool (holds c l)
       (λ e. rw (right-yes chains r l cs next c s t top e) (right-stacked r s l cs next top h))
       (λ e. rw (right-no chains r l cs next c s t top e) (right-stacked r t l cs next top h))
     right-stacked r (qcase rs a s t) l cs next top h =

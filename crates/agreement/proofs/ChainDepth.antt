@@ -53,7 +53,7 @@ module _ (Q : ℕ → Type 0) (chains chains′ : Chains) (A : Agree Q chains ch
   whole-agree skip l cs next q = refl
   whole-agree (NOT rs a) l cs next q = refl
   whole-agree (sequence s t) l cs next q = rw (whole-agree s l cs next (q .0), whole-agree t l cs next (q .1))
-  whole-agree (if c s t) l cs next q = byBool (holds c (length l))
+  whole-agree (if c s t) l cs next q = byBool (holds c l)
     (λ e. rw (whole-yes chains l cs next c s t e, whole-yes chains′ l cs next c s t e) (whole-agree s l cs next (q .0)))
     (λ e. rw (whole-no chains l cs next c s t e, whole-no chains′ l cs next c s t e) (whole-agree t l cs next (q .1)))
   whole-agree (qcase rs a s t) l cs next q =
@@ -70,7 +70,7 @@ module _ (Q : ℕ → Type 0) (chains chains′ : Chains) (A : Agree Q chains ch
       (λ e. rw (left-wide chains r l cs next s t e, left-wide chains′ r l cs next s t e) (left-agree s l cs next (o .0)))
       (λ e. rw (left-thin chains r l cs next s t e, left-thin chains′ r l cs next s t e,
         whole-agree s l cs next (thin-others Q r s (o .0) (thin-width r s e)), left-agree t l cs next (o .1)))
-    left-agree (if c s t) l cs next o = byBool (holds c (length l))
+    left-agree (if c s t) l cs next o = byBool (holds c l)
       (λ e. rw (left-yes chains r l cs next c s t e, left-yes chains′ r l cs next c s t e) (left-agree s l cs next (o .0)))
       (λ e. rw (left-no chains r l cs next c s t e, left-no chains′ r l cs next c s t e) (left-agree t l cs next (o .1)))
     left-agree (qcase rs a s t) l cs next o =
@@ -92,7 +92,7 @@ module _ (Q : ℕ → Type 0) (chains chains′ : Chains) (A : Agree Q chains ch
       (λ e. rw (right-wide chains r l cs next s t top e, right-wide chains′ r l cs next s t top e,
         right-agree s l cs next top (o .0) (parts .0), whole-agree t l cs top (thin-others Q r t (o .1) (parts .2 (wide-width r s e)))))
       (λ e. rw (right-thin chains r l cs next s t top e, right-thin chains′ r l cs next s t top e) (right-agree t l cs next top (o .1) (parts .1)))
-    right-agree (if c s t) l cs next top o w = byBool (holds c (length l))
+    right-agree (if c s t) l cs next top o w = byBool (holds c l)
       (λ e. rw (right-yes chains r l cs next c s t top e, right-yes chains′ r l cs next c s t top e)
         (right-agree s l cs next top (o .0) (width-if r c s t w .0)))
       (λ e. rw (right-no chains r l cs next c s t top e, right-no chains′ r l cs next c s t top e)
@@ -126,7 +126,7 @@ invocations-members Q r (NOT rs a) l next q = tt
 invocations-members Q r (sequence s t) l next q = byBool (isWide r s)
     (λ e. rw (invocations-wide r l next s t e) (invocations-members Q r s l next (q .0)))
     (λ e. rw (invocations-thin r l next s t e) (invocations-members Q r t l next (q .1)))
-invocations-members Q r (if c s t) l next q = byBool (holds c (length l))
+invocations-members Q r (if c s t) l next q = byBool (holds c l)
     (λ e. rw (invocations-yes r l next c s t e) (invocations-members Q r s l next (q .0)))
     (λ e. rw (invocations-no r l next c s t e) (invocations-members Q r t l next (q .1)))
 invocations-members Q r (qcase rs a s t) l next q =

@@ -17,11 +17,11 @@ use Rattle.model.proofs.BooleanLaws.{byBool, not-zero}
 use Rattle.model.proofs.ReachAndRank.{Ranked}
 
 module _ (chains : Chains) (l : List ℕ) (cs : Controls) (next : ℕ) where
-  pub whole-yes : (c : Condition) (s t : Statement) → holds c (length l) ≡ true → whole chains (if c s t) l cs next ≡ whole chains s l cs next
+  pub whole-yes : (c : Condition) (s t : Statement) → holds c l ≡ true → whole chains (if c s t) l cs next ≡ whole chains s l cs next
   unfolding whole
   whole-yes c s t e = rw (e, whole)
 
-  pub whole-no : (c : Condition) (s t : Statement) → holds c (length l) ≡ false → whole chains (if c s t) l cs next ≡ whole chains t l cs next
+  pub whole-no : (c : Condition) (s t : Statement) → holds c l ≡ false → whole chains (if c s t) l cs next ≡ whole chains t l cs next
   unfolding whole
   whole-no c s t e = rw (e, whole)
 
@@ -34,11 +34,11 @@ module _ (r : ℕ → Bool) (l : List ℕ) (next : ℕ) where
   unfolding invocations
   invocations-thin s t e = rw (e, invocations)
 
-  pub invocations-yes : (c : Condition) (s t : Statement) → holds c (length l) ≡ true → invocations r (if c s t) l next ≡ invocations r s l next
+  pub invocations-yes : (c : Condition) (s t : Statement) → holds c l ≡ true → invocations r (if c s t) l next ≡ invocations r s l next
   unfolding invocations
   invocations-yes c s t e = rw (e, invocations)
 
-  pub invocations-no : (c : Condition) (s t : Statement) → holds c (length l) ≡ false → invocations r (if c s t) l next ≡ invocations r t l next
+  pub invocations-no : (c : Condition) (s t : Statement) → holds c l ≡ false → invocations r (if c s t) l next ≡ invocations r t l next
   unfolding invocations
   invocations-no c s t e = rw (e, invocations)
 
@@ -59,11 +59,11 @@ module _ (chains : Chains) (r : ℕ → Bool) (l : List ℕ) (cs : Controls) (ne
   unfolding left
   left-thin s t e = rw (e, left)
 
-  pub left-yes : (c : Condition) (s t : Statement) → holds c (length l) ≡ true → left chains r (if c s t) l cs next ≡ left chains r s l cs next
+  pub left-yes : (c : Condition) (s t : Statement) → holds c l ≡ true → left chains r (if c s t) l cs next ≡ left chains r s l cs next
   unfolding left
   left-yes c s t e = rw (e, left)
 
-  pub left-no : (c : Condition) (s t : Statement) → holds c (length l) ≡ false → left chains r (if c s t) l cs next ≡ left chains r t l cs next
+  pub left-no : (c : Condition) (s t : Statement) → holds c l ≡ false → left chains r (if c s t) l cs next ≡ left chains r t l cs next
   unfolding left
   left-no c s t e = rw (e, left)
 
@@ -84,12 +84,12 @@ module _ (chains : Chains) (r : ℕ → Bool) (l : List ℕ) (cs : Controls) (ne
   unfolding right
   right-thin s t top e = rw (e, right)
 
-  pub right-yes : (c : Condition) (s t : Statement) (top : ℕ) → holds c (length l) ≡ true →
+  pub right-yes : (c : Condition) (s t : Statement) (top : ℕ) → holds c l ≡ true →
       right chains r (if c s t) l cs next top ≡ right chains r s l cs next top
   unfolding right
   right-yes c s t top e = rw (e, right)
 
-  pub right-no : (c : Condition) (s t : Statement) (top : ℕ) → holds c (length l) ≡ false →
+  pub right-no : (c : Condition) (s t : Statement) (top : ℕ) → holds c l ≡ false →
       right chains r (if c s t) l cs next top ≡ right chains r t l cs next top
   unfolding right
   right-no c s t top e = rw (e, right)

@@ -12,7 +12,7 @@ use Rattle.model.specs.Meaning.{State, flipped, CallDoes, callDoes, does, callD
 use Rattle.model.specs.Gates.{Controls, renamed, fires}
 use Rattle.model.proofs.BooleanLaws.{byBool, byEq, clash, not-true-false, or-false, or-false-left, or-false-right}
 use Rattle.model.proofs.ListLaws.{member-head, member-tail, member-cases, member-skip, member-differs, not-head, not-tail, Off, touched-member}
-use Rattle.model.proofs.ListLaws.{touched-off, touched-map, remaining-off, remaining-map, remaining-subset}
+use Rattle.model.proofs.ListLaws.{touched-off, touched-map, holds-same, remaining-off, remaining-map, remaining-subset}
 use Rattle.model.proofs.GateLaws.{flipped-same, flipped-other, renamed-at, fires-same}
 use Rattle.model.proofs.EnoughFuel.{does-yes, does-no, does-zero, does-one, faults-yes, faults-no}
 use Rattle.agreement.proofs.ProgramFacts.{Safely, SafeCall, Safe, Keeps, Stays, Outside, Renames, Same, Less, Weakens, AskedIn}
@@ -34,7 +34,7 @@ module _ (o : CallFaults) where
   safe-of (NOT rs a) l C h = h
   safe-of (sequence s t) l C h =
     (safe-of s l C (or-false-left (faults o s l C) (faults o t l C) h), safe-of t l C (or-false-right (faults o s l C) (faults o t l C) h))
-  safe-of (if c s t) l C h = byBool (holds c (length l))
+  safe-of (if c s t) l C h = byBool (holds c l)
     (λ e. rw e (safe-of s l C (rw (faults-yes o c s t l C e) at h)))
     (λ e. rw e (safe-of t l C (rw (faults-no o c s t l C e) at h)))
   safe-of (qcase rs a s t) l C h =
@@ -56,7 +56,7 @@ module _ (o : CallFaults) where
   no-fault skip l C h = refl
   no-fault (NOT rs a) l C h = h
   no-fault (sequence s t) l C h = or-false (faults o s l C) (faults o t l C) (no-fault s l C (h .0)) (no-fault t l C (h .1))
-  no-fault (if c s t) l C h = byBool (holds c (length l))
+  no-fault (if c s t) l C h = byBool (holds c l)
     (λ e. rw (faults-yes o c s t l C e) (no-fault s l C (rw e at h)))
     (λ e. rw (faults-no o c s t l C e) (no-fault t l C (rw e at h)))
   no-fault (qcase rs a s t) l C h =
@@ -81,7 +81,7 @@ module _ (o : CallDoes) (G : Safely) (K : Keeps o G) where
   does-keeps (NOT rs a) l C s w h m =
     let q = touched rs a l in flipped-other s q w (member-differs w q C m (not-tail q 0 C h))
   does-keeps (sequence t u) l C s w h m = does-keeps u l C (does o t l s) w (h .1) m ∙ does-keeps t l C s w (h .0) m
-  does-keeps (if c t u) l C s w h m = byBool (holds c (length l))
+  does-keeps (if c t u) l C s w h m = byBool (holds c l)
     (λ e. rw (does-yes o c t u l s e) (does-keeps t l C s w (rw e at h) m))
     (λ e. rw (does-no o c t u l s e) (does-keeps u l C s w (rw e at h) m))
   does-keeps (qcase rs a t u) l C s w h m =
@@ -115,7 +115,7 @@ unfolding does
 does-stays o K skip l s w h = refl
 does-stays o K (NOT rs a) l s w h = flipped-other s (touched rs a l) w (touched-off rs a l w h)
 does-stays o K (sequence t u) l s w h = does-stays o K u l (does o t l s) w h ∙ does-stays o K t l s w h
-does-stays o K (if c t u) l s w h = byBool (holds c (length l))
+does-stays o K (if c t u) l s w h = byBool (holds c l)
     (λ e. rw (does-yes o c t u l s e) (does-stays o K t l s w h))
     (λ e. rw (does-no o c t u l s e) (does-stays o K u l s w h))
 does-stays o K (qcase rs a t u) l s w h = byBool (s (touched rs a l))
@@ -154,7 +154,7 @@ unfolding does
 does-outside o K skip l s w h = refl
 does-outside o K (NOT rs a) l s w h = flipped-commutes (touched rs a l) w s
 does-outside o K (sequence t u) l s w h = rw (does-outside o K t l s w h) (does-outside o K u l (does o t l s) w h)
-does-outside o K (if c t u) l s w h = byBool (holds c (length l))
+does-outside o K (if c t u) l s w h = byBool (holds c l)
     (λ e. rw (does-yes o c t u l s e, does-yes o c t u l (flipped w s) e) (does-outside o K t l s w h))
     (λ e. rw (does-no o c t u l s e, does-no o c t u l (flipped w s) e) (does-outside o K u l s w h))
 does-outside o K (qcase rs a t u) l s w h =
@@ -191,8 +191,8 @@ module _ (π : ℕ → ℕ) (R : Renames π) (o : CallDoes) (K : Same π o) wher
   does-renamed (NOT rs a) l s = rw (touched-map π (R .none) rs a l) (flipped-renamed π R (touched rs a l) s)
   does-renamed (sequence t u) l s = rw (does-renamed t l s) (does-renamed u l (does o t (map π l) s))
   does-renamed (if c t u) l s =
-    let at : holds c (length (map π l)) ≡ holds c (length l) = ap (holds c) (length-map l π) in
-    byBool (holds c (length l))
+    let at : holds c (map π l) ≡ holds c l = holds-same c (map π l) l (length-map l π) in
+    byBool (holds c l)
       (λ e. rw (does-yes o c t u l (renamed π s) e, does-yes o c t u (map π l) s (at ∙ e)) (does-renamed t l s))
       (λ e. rw (does-no o c t u l (renamed π s) e, does-no o c t u (map π l) s (at ∙ e)) (does-renamed u l s))
   does-renamed (qcase rs a t u) l s =
@@ -230,7 +230,7 @@ module _ (G : Safely) (K : Weakens G) where
   safe-weaken skip l C C′ L h = tt
   safe-weaken (NOT rs a) l C C′ L h = weaken-touch rs a l C C′ L h
   safe-weaken (sequence t u) l C C′ L h = (safe-weaken t l C C′ L (h .0), safe-weaken u l C C′ L (h .1))
-  safe-weaken (if c t u) l C C′ L h = byBool (holds c (length l))
+  safe-weaken (if c t u) l C C′ L h = byBool (holds c l)
     (λ e. rw e (safe-weaken t l C C′ L (rw e at h)))
     (λ e. rw e (safe-weaken u l C C′ L (rw e at h)))
   safe-weaken (qcase rs a t u) l C C′ L h =

@@ -202,7 +202,7 @@ module _ (p : ℕ) (rank : ℕ → ℕ) (n j : ℕ) where
   invocations-callable r (sequence s t) l next i q h = byBool (isWide r s)
     (λ e. rw (invocations-wide r l next s t e) (invocations-callable r s l next (i .0) (q .0) h))
     (λ e. rw (invocations-thin r l next s t e) (invocations-callable r t l next (i .1) (q .1) h))
-  invocations-callable r (if c s t) l next i q h = byBool (holds c (length l))
+  invocations-callable r (if c s t) l next i q h = byBool (holds c l)
     (λ e. rw (invocations-yes r l next c s t e) (invocations-callable r s l next (i .0) (q .0) h))
     (λ e. rw (invocations-no r l next c s t e) (invocations-callable r t l next (i .1) (q .1) h))
   invocations-callable r (qcase rs a s t) l next i q h =
@@ -244,7 +244,7 @@ module _ (p : ℕ) (rank : ℕ → ℕ) (n u j T : ℕ) (chains : Chains) (CB : 
   whole-size (NOT rs a) l cs next i r h = omega arith
   whole-size (sequence s t) l cs next i r h = rw size-append
     (let x = whole-size s l cs next (i .0) (r .0) h in let y = whole-size t l cs next (i .1) (r .1) h in omega arith)
-  whole-size (if c s t) l cs next i r h = byBool (holds c (length l))
+  whole-size (if c s t) l cs next i r h = byBool (holds c l)
     (λ e. rw (whole-yes chains l cs next c s t e) (let x = whole-size s l cs next (i .0) (r .0) h in omega arith))
     (λ e. rw (whole-no chains l cs next c s t e) (let y = whole-size t l cs next (i .1) (r .1) h in omega arith))
   whole-size (qcase rs a s t) l cs next i r h = rw size-append
@@ -267,7 +267,7 @@ module _ (p : ℕ) (rank : ℕ → ℕ) (n u j T : ℕ) (chains : Chains) (CB : 
     (λ e. rw (left-thin chains r l cs next s t e, right-thin chains r l cs next s t top e, invocations-thin r l next s t e, size-append)
       (let x = whole-size s l cs next (i .0) (thin-low rank r j s (q .0) (thin-width r s e)) h in
        let y = parts-size r t l cs next top (i .1) (q .1) (width-sequence r s t w .1) h in omega arith))
-  parts-size r (if c s t) l cs next top i q w h = byBool (holds c (length l))
+  parts-size r (if c s t) l cs next top i q w h = byBool (holds c l)
     (λ e. rw (left-yes chains r l cs next c s t e, right-yes chains r l cs next c s t top e, invocations-yes r l next c s t e)
       (let x = parts-size r s l cs next top (i .0) (q .0) (width-if r c s t w .0) h in omega arith))
     (λ e. rw (left-no chains r l cs next c s t e, right-no chains r l cs next c s t top e, invocations-no r l next c s t e)

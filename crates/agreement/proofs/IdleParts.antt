@@ -45,7 +45,7 @@ module _ (P : Program) (rank : ℕ → ℕ) (E : CallDoes) (G : Safely) (n : ℕ
     (λ e. rw (left-thin chains r l cs next x y e, effect-append,
               whole-rests P rank E G n W chains k served x l C cs next s (thin-low rank r k x (q .0) (thin-width r x e)) (o .0) d u a z h)
       (left-rests y l C cs next s (q .1) (width-sequence r x y v .1) (o .1) d u a z h))
-  left-rests (if c x y) l C cs next s q v o d u a z h = byBool (holds c (length l))
+  left-rests (if c x y) l C cs next s q v o d u a z h = byBool (holds c l)
     (λ e. rw (left-yes chains r l cs next c x y e) (left-rests x l C cs next s (q .0) (width-if r c x y v .0) (rw e at o) d u a z h))
     (λ e. rw (left-no chains r l cs next c x y e) (left-rests y l C cs next s (q .1) (width-if r c x y v .1) (rw e at o) d u a z h))
   left-rests (qcase rs i x y) l C cs next s q v o d u a z h =
@@ -74,7 +74,7 @@ module _ (P : Program) (rank : ℕ → ℕ) (E : CallDoes) (G : Safely) (n : ℕ
       (whole-rests P rank E G n W chains k served y l C cs top s
         (thin-low rank r k y (q .1) (width-sequence r x y v .2 (wide-width r x e))) (o .1) d u a z h))
     (λ e. rw (right-thin chains r l cs next x y top e) (right-rests y l C cs next top s (q .1) (width-sequence r x y v .1) (o .1) d u a z h))
-  right-rests (if c x y) l C cs next top s q v o d u a z h = byBool (holds c (length l))
+  right-rests (if c x y) l C cs next top s q v o d u a z h = byBool (holds c l)
     (λ e. rw (right-yes chains r l cs next c x y top e) (right-rests x l C cs next top s (q .0) (width-if r c x y v .0) (rw e at o) d u a z h))
     (λ e. rw (right-no chains r l cs next c x y top e) (right-rests y l C cs next top s (q .1) (width-if r c x y v .1) (rw e at o) d u a z h))
   right-rests (qcase rs i x y) l C cs next top s q v o d u a z h =

@@ -75,7 +75,7 @@ invocations-range r (NOT rs a) l next = range-nil next
 invocations-range r (sequence s t) l next = byBool (isWide r s)
     (λ e. rw (invocations-wide r l next s t e) (invocations-range r s l next))
     (λ e. rw (invocations-thin r l next s t e) (invocations-range r t l next))
-invocations-range r (if c s t) l next = byBool (holds c (length l))
+invocations-range r (if c s t) l next = byBool (holds c l)
     (λ e. rw (invocations-yes r l next c s t e) (invocations-range r s l next))
     (λ e. rw (invocations-no r l next c s t e) (invocations-range r t l next))
 invocations-range r (qcase rs a s t) l next =
@@ -110,7 +110,7 @@ invocations-distinct r (NOT rs a) l next = tt
 invocations-distinct r (sequence s t) l next = byBool (isWide r s)
     (λ e. rw (invocations-wide r l next s t e) (invocations-distinct r s l next))
     (λ e. rw (invocations-thin r l next s t e) (invocations-distinct r t l next))
-invocations-distinct r (if c s t) l next = byBool (holds c (length l))
+invocations-distinct r (if c s t) l next = byBool (holds c l)
     (λ e. rw (invocations-yes r l next c s t e) (invocations-distinct r s l next))
     (λ e. rw (invocations-no r l next c s t e) (invocations-distinct r t l next))
 invocations-distinct r (qcase rs a s t) l next =
@@ -151,7 +151,7 @@ module _ (rank : ℕ → ℕ) (G : Safely) (n : ℕ) (K : Weakens G) (r : ℕ �
   invocations-new (sequence s t) l C next q o d u z = byBool (isWide r s)
     (λ e. rw (invocations-wide r l next s t e) (invocations-new s l C next (q .0) (o .0) d u z))
     (λ e. rw (invocations-thin r l next s t e) (invocations-new t l C next (q .1) (o .1) d u z))
-  invocations-new (if c s t) l C next q o d u z = byBool (holds c (length l))
+  invocations-new (if c s t) l C next q o d u z = byBool (holds c l)
     (λ e. rw (invocations-yes r l next c s t e) (invocations-new s l C next (q .0) (rw e at o) d u z))
     (λ e. rw (invocations-no r l next c s t e) (invocations-new t l C next (q .1) (rw e at o) d u z))
   invocations-new (qcase rs a s t) l C next q o d u z = λ x m.

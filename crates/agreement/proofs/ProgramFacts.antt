@@ -39,7 +39,7 @@ abbrev pub Safe : Safely → Statement → List ℕ → List ℕ → Type 0
 Safe G skip l C = Unit {0}
 Safe G (NOT rs a) l C = touchFaults (touched rs a l) C ≡ false
 Safe G (sequence s t) l C = Safe G s l C × Safe G t l C
-Safe G (if c s t) l C = Chosen (holds c (length l)) (Safe G s l C) (Safe G t l C)
+Safe G (if c s t) l C = Chosen (holds c l) (Safe G s l C) (Safe G t l C)
 Safe G (qcase rs a s t) l C = (touchFaults (touched rs a l) C ≡ false) × Safe G s l (touched rs a l ∷ C) × Safe G t l (touched rs a l ∷ C)
 Safe G (call rs f) l C = SafeCall G f (remaining rs l) C
 

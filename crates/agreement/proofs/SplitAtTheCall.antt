@@ -194,7 +194,7 @@ module _ (P : Program) (rank : ℕ → ℕ) (E : CallDoes) (G : Safely) (n : ℕ
             (whole-fires P rank E G n W chains k served x l C cs next s (thin-low rank r k x (q .0) (thin-width r x e)) (o .0) d u a z A B h)
             (near-does x l C s (o .0) d)
             (split y l C cs next top s′ (q .1) (width-sequence r x y v .1) (o .1) d u ne a t′ z′ A B h′)))
-    split (if c x y) l C cs next top s q v o d u ne a t z A B h = byBool (holds c (length l))
+    split (if c x y) l C cs next top s q v o d u ne a t z A B h = byBool (holds c l)
       (λ e. rw (left-yes chains r l cs next c x y e, right-yes chains r l cs next c x y top e, invocations-yes r l next c x y e,
                 does-yes E c x y l s e)
         (split x l C cs next top s (q .0) (width-if r c x y v .0) (rw e at o) d u ne a (rw (invocations-yes r l next c x y e) at t) z A B h))

@@ -309,7 +309,7 @@ module _ (P : Program) (rank : ℕ → ℕ) (E : CallDoes) (G : Safely) (n most 
   whole-placed (NOT rs i) l C cs next r o d u a F h t = (touched-flip rs i l C cs next d a F o h, tt)
   whole-placed (sequence x y) l C cs next r o d u a F h t = placed-both most (whole chains x l cs next) (whole chains y l cs next) t
     (λ t′. whole-placed x l C cs next (r .0) (o .0) d u a F h t′) (λ t′. whole-placed y l C cs next (r .1) (o .1) d u a F h t′)
-  whole-placed (if c x y) l C cs next r o d u a F h t = byBool (holds c (length l))
+  whole-placed (if c x y) l C cs next r o d u a F h t = byBool (holds c l)
     (λ e. rw (whole-yes chains l cs next c x y e)
       (whole-placed x l C cs next (r .0) (rw e at o) d u a F h (rw (whole-yes chains l cs next c x y e) at t)))
     (λ e. rw (whole-no chains l cs next c x y e)
@@ -342,7 +342,7 @@ module _ (P : Program) (rank : ℕ → ℕ) (E : CallDoes) (G : Safely) (n most 
       (placed-both most (whole chains x l cs next) (left chains r y l cs next) (rw (left-thin chains r l cs next x y e) at t)
         (λ t′. whole-placed x l C cs next (thin-low rank r k x (q .0) (thin-width r x e)) (o .0) d u a F h t′)
         (λ t′. left-placed r y l C cs next (q .1) (o .1) d u a F h t′)))
-  left-placed r (if c x y) l C cs next q o d u a F h t = byBool (holds c (length l))
+  left-placed r (if c x y) l C cs next q o d u a F h t = byBool (holds c l)
     (λ e. rw (left-yes chains r l cs next c x y e)
       (left-placed r x l C cs next (q .0) (rw e at o) d u a F h (rw (left-yes chains r l cs next c x y e) at t)))
     (λ e. rw (left-no chains r l cs next c x y e)
@@ -388,7 +388,7 @@ module _ (P : Program) (rank : ℕ → ℕ) (E : CallDoes) (G : Safely) (n most 
     (λ e. rw (right-thin chains r l cs next x y top e)
       (right-placed r y l C cs next top (q .1) (width-sequence r x y v .1) (o .1) d u a F (rw (invocations-thin r l next x y e) at le) h
         (rw (right-thin chains r l cs next x y top e) at t)))
-  right-placed r (if c x y) l C cs next top q v o d u a F le h t = byBool (holds c (length l))
+  right-placed r (if c x y) l C cs next top q v o d u a F le h t = byBool (holds c l)
     (λ e. rw (right-yes chains r l cs next c x y top e)
       (right-placed r x l C cs next top (q .0) (width-if r c x y v .0) (rw e at o) d u a F (rw (invocations-yes r l next c x y e) at le) h
         (rw (right-yes chains r l cs next c x y top e) at t)))

@@ -80,7 +80,7 @@ module _ (P : Program) (rank : ℕ → ℕ) (E : CallDoes) (G : Safely) (n : ℕ
     whole-rests (NOT rs i) l C cs next s r o d u a z h = effect-flip-rests cs (touched rs i l) s h
     whole-rests (sequence x y) l C cs next s r o d u a z h =
       rw (effect-append, whole-rests x l C cs next s (r .0) (o .0) d u a z h) (whole-rests y l C cs next s (r .1) (o .1) d u a z h)
-    whole-rests (if c x y) l C cs next s r o d u a z h = byBool (holds c (length l))
+    whole-rests (if c x y) l C cs next s r o d u a z h = byBool (holds c l)
       (λ e. rw (whole-yes chains l cs next c x y e) (whole-rests x l C cs next s (r .0) (rw e at o) d u a z h))
       (λ e. rw (whole-no chains l cs next c x y e) (whole-rests y l C cs next s (r .1) (rw e at o) d u a z h))
     whole-rests (qcase rs i x y) l C cs next s r o d u a z h =
@@ -100,7 +100,7 @@ module _ (P : Program) (rank : ℕ → ℕ) (E : CallDoes) (G : Safely) (n : ℕ
       rw (effect-append, whole-fires x l C cs next s (r .0) (o .0) d u a z A B h)
         (whole-fires y l C cs next (does E x l s) (r .1) (o .1) d u a (zero-does x l next s d a z) A B
           (fires-does E G (W .keeps) x l C cs s (o .0) A ∙ h))
-    whole-fires (if c x y) l C cs next s r o d u a z A B h = byBool (holds c (length l))
+    whole-fires (if c x y) l C cs next s r o d u a z A B h = byBool (holds c l)
       (λ e. rw (whole-yes chains l cs next c x y e, does-yes E c x y l s e) (whole-fires x l C cs next s (r .0) (rw e at o) d u a z A B h))
       (λ e. rw (whole-no chains l cs next c x y e, does-no E c x y l s e) (whole-fires y l C cs next s (r .1) (rw e at o) d u a z A B h))
     whole-fires (qcase rs i x y) l C cs next s r o d u a z A B h =

@@ -35,7 +35,7 @@ same-count r (NOT rs q) l a b = refl
 same-count r (sequence s t) l a b = byBool (isWide r s)
     (λ e. rw (invocations-wide r l a s t e, invocations-wide r l b s t e) (same-count r s l a b))
     (λ e. rw (invocations-thin r l a s t e, invocations-thin r l b s t e) (same-count r t l a b))
-same-count r (if c s t) l a b = byBool (holds c (length l))
+same-count r (if c s t) l a b = byBool (holds c l)
     (λ e. rw (invocations-yes r l a c s t e, invocations-yes r l b c s t e) (same-count r s l a b))
     (λ e. rw (invocations-no r l a c s t e, invocations-no r l b c s t e) (same-count r t l a b))
 same-count r (qcase rs q s t) l a b =
@@ -106,7 +106,7 @@ module _ (r : ℕ → Bool) (p : ℕ) (bs ix : List ℕ) (i depth : ℕ) (l : Li
         let thin : isWide r x ≡ false = le-ltb 0 (width r x) (omega arith) in
         rw (at-step p bs ix depth i l nz is e, invocations-thin r l 0 x (statementAt p bs ix (depth - 1) b) thin) q
 
-      pub count-chosen : (c x : ℕ) → found ≡ step.Chooses c a b → x ≡ cond (holds (testAt p bs ix (depth - 1) c) (length l)) a b →
+      pub count-chosen : (c x : ℕ) → found ≡ step.Chooses c a b → x ≡ cond (holds (testAt p bs ix (depth - 1) c) l) a b →
           n ≡ min mostCalls (length (invocations r (statementAt p bs ix (depth - 1) x) l 0)) →
           n ≡ min mostCalls (length (invocations r (statementAt p bs ix depth i) l 0))
       count-chosen c x e h q = q ∙ ap (λ (all : List Invocation). min mostCalls (length all))

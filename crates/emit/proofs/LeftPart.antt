@@ -169,7 +169,7 @@ module _ {bs ix m : List ℕ} {p k : ℕ} {write : Bool} {st : Emit} {room ws : 
         walks-left (λ R C. opens-by (t .0) (t .1) (opens-none (follows-gates write _ st room ws r room₁ tt g)))
 
       module _ {ws₁ : List ℕ} where
-        pub left-chosen : {c a b x : ℕ} → found ≡ step.Chooses c a b → x ≡ cond (holds (testAt p bs ix (depth - 1) c) (length l)) a b →
+        pub left-chosen : {c a b x : ℕ} → found ≡ step.Chooses c a b → x ≡ cond (holds (testAt p bs ix (depth - 1) c) l) a b →
             Left bs ix m p k write st room ws r room₁ ws₁ f x (depth - 1) l cs → Left bs ix m p k write st room ws r room₁ ws₁ f i depth l cs
         left-chosen e q A =
           let ch = chainsIn bs ix p k in

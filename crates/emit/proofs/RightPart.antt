@@ -145,7 +145,7 @@ module _ {bs ix m : List ℕ} {p k : ℕ} {write : Bool} {st : Emit} {room ws : 
               (follows-gates write _ st room ws r room₁ (returns-only (remaining (removalsOf bs at) l) cs (wireOf first)) (rw d at s))))
 
       module _ {ws₁ : List ℕ} where
-        pub right-chosen : {c a b x : ℕ} → found ≡ step.Chooses c a b → x ≡ cond (holds (testAt p bs ix (depth - 1) c) (length l)) a b →
+        pub right-chosen : {c a b x : ℕ} → found ≡ step.Chooses c a b → x ≡ cond (holds (testAt p bs ix (depth - 1) c) l) a b →
             Right bs ix m p k write st room ws r room₁ ws₁ f x (depth - 1) l cs first → Right bs ix m p k write st room ws r room₁ ws₁ f i depth l cs first
         right-chosen e q A =
           let ch = chainsIn bs ix p k in

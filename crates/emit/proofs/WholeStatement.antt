@@ -143,7 +143,7 @@ module _ {bs ix m : List ℕ} {p k : ℕ} {write : Bool} {st : Emit} {room ws : 
               whole-call (chainsIn bs ix p k) l cs (st .next) (statementAt p bs ix depth i) h)
             (use-call A R))
 
-        pub whole-chosen : {c a b x : ℕ} → found ≡ step.Chooses c a b → x ≡ cond (holds (testAt p bs ix (depth - 1) c) (length l)) a b →
+        pub whole-chosen : {c a b x : ℕ} → found ≡ step.Chooses c a b → x ≡ cond (holds (testAt p bs ix (depth - 1) c) l) a b →
             Whole bs ix m p k write st room ws r room₁ ws₁ x (depth - 1) l cs → Whole bs ix m p k write st room ws r room₁ ws₁ i depth l cs
         whole-chosen e q A =
           let ch = chainsIn bs ix p k in

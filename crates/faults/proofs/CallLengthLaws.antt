@@ -12,7 +12,7 @@ use lib.Pow.{pow-add, shl-shr, shr-shr, field, mod-mod-pow}
 use lib.ListN.{length}
 use lib.Dec.{eqb, ltb}
 use Rattle.model.specs.Syntax.{Number}
-use Rattle.model.specs.Lists.{value, position, delete, remove, removeAll, remaining}
+use Rattle.model.specs.Lists.{sizes, value, position, delete, remove, removeAll, remaining}
 use Rattle.model.specs.Meaning.{bit}
 use Rattle.model.proofs.BooleanLaws.{byBool, byEq, clash, or-left, or-right, or-cases}
 use Rattle.model.proofs.ListLaws.{remove-in, remove-out}
@@ -35,17 +35,18 @@ remove-length (suc i) l some = byBool (ltb i (length l))
     (λ e. rw (remove-in i l e) (delete-length i l (ltb-true i (length l) e)))
     (λ e. absurd (not-suc-le-zero (rw (remove-out i l e) at some)))
 
-removeAll-length : (size : ℕ) (rs : List Number) (l : List ℕ) → 0 < length (removeAll size rs l) → length (removeAll size rs l) + length rs ≡ length l
+removeAll-length : (l : List ℕ) (rs : List Number) (now : List ℕ) → 0 < length (removeAll l rs now) → length (removeAll l rs now) + length rs ≡ length now
 unfolding removeAll
-removeAll-length size [] l some = omega arith
-removeAll-length size (a ∷ rs) l some =
-    let rest : List ℕ = remove (position (value a size)) l in
-    let less : length (removeAll size rs rest) + length rs ≡ length rest = removeAll-length size rs rest some in
-    let one : suc (length rest) ≡ length l = remove-length (position (value a size)) l (omega arith) in
+removeAll-length l [] now some = omega arith
+removeAll-length l (a ∷ rs) now some =
+    let k = position (value a (sizes l now)) in
+    let rest : List ℕ = remove k now in
+    let less : length (removeAll l rs rest) + length rs ≡ length rest = removeAll-length l rs rest some in
+    let one : suc (length rest) ≡ length now = remove-length k now (omega arith) in
     omega arith
 
 pub remaining-length : (rs : List Number) (l : List ℕ) → 0 < length (remaining rs l) → length (remaining rs l) + length rs ≡ length l
-remaining-length rs l some = removeAll-length (length l) rs l some
+remaining-length rs l some = removeAll-length l rs l some
 
 -- the bits of a word of which 64 stay when it is shifted up
 bit-mod : (x t d : ℕ) → bit (x % 2 ^ (suc d + t)) t ≡ bit x t

@@ -14,7 +14,7 @@ use Rattle.model.specs.Faults.{CallFaults, callFaults, faults, callFaultsWithin
 use Rattle.model.specs.Reach.{calls, recursive, anyBelow, anyLacksRemoval}
 use Rattle.model.proofs.BooleanLaws.{byBool, byEq, eqb-same, clash, same-test, not-true-false, any-here, any-cases, any-same}
 use Rattle.model.proofs.BooleanLaws.{and-left, and-right, and-both, or-left, or-right, or-cases, or-false}
-use Rattle.model.proofs.ListLaws.{member-head, member-tail, not-in-nil, member-cases, Distinct, subset-out, range-distinct, range-length}
+use Rattle.model.proofs.ListLaws.{member-head, member-tail, not-in-nil, member-cases, Distinct, subset-out, range-distinct, range-length, holds-same}
 use Rattle.model.proofs.ListLaws.{remaining-map, remaining-subset, remaining-distinct, remaining-no-longer, touched-map}
 use Rattle.model.proofs.ListLaws.{Data, data-zero, data-remaining, data-touched, qubits-data}
 use Rattle.model.proofs.ReachAndRank.{Named, Ranked, rank, rank-all, all-ranked}
@@ -118,11 +118,11 @@ remaining-inside rs m = data-remaining m rs (qubits m) (qubits-data m)
 
 -- the clauses of `touches` at a condition
 module _ (o : CallTouches) (c : Condition) (s t : Statement) (m : ℕ) where
-  pub touches-yes : holds c m ≡ true → touches o (if c s t) m ≡ touches o s m
+  pub touches-yes : holds c (qubits m) ≡ true → touches o (if c s t) m ≡ touches o s m
   unfolding touches
   touches-yes e = rw (e, touches)
 
-  pub touches-no : holds c m ≡ false → touches o (if c s t) m ≡ touches o t m
+  pub touches-no : holds c (qubits m) ≡ false → touches o (if c s t) m ≡ touches o t m
   unfolding touches
   touches-no e = rw (e, touches)
 
@@ -150,7 +150,7 @@ unfolding touches
 touches-inside o skip m t h = refl
 touches-inside o (NOT rs a) m t h = apart t (touched rs a (qubits m)) m (touched-inside rs a m) h
 touches-inside o (sequence s u) m t h = or-false (touches o s m t) (touches o u m t) (touches-inside o s m t h) (touches-inside o u m t h)
-touches-inside o (if c s u) m t h = byBool (holds c m)
+touches-inside o (if c s u) m t h = byBool (holds c (qubits m))
     (λ e. rw (touches-yes o c s u m e) (touches-inside o s m t h))
     (λ e. rw (touches-no o c s u m e) (touches-inside o u m t h))
 touches-inside o (qcase rs a s u) m t h =
@@ -234,9 +234,11 @@ module _ (v : CallTouches) (o : CallFaults) (T : Tells v o) (l : List ℕ) (d : 
     (sym (meets-one (length l) (closedAt l closed) (touched rs a (qubits (length l))) (touched-inside rs a (length l))))
   statement-faults (sequence s t) closed = rw (statement-faults s closed, statement-faults t closed)
     (sym (meets-joined (length l) (closedAt l closed) (touches v s (length l)) (touches v t (length l))))
-  statement-faults (if c s t) closed = byBool (holds c (length l))
-    (λ e. rw (faults-yes o c s t l closed e, touches-yes v c s t (length l) e) (statement-faults s closed))
-    (λ e. rw (faults-no o c s t l closed e, touches-no v c s t (length l) e) (statement-faults t closed))
+  statement-faults (if c s t) closed =
+    let by-position = holds-same c (qubits (length l)) l (range-length (length l) 1) in
+    byBool (holds c l)
+    (λ e. rw (faults-yes o c s t l closed e, touches-yes v c s t (length l) (by-position ∙ e)) (statement-faults s closed))
+    (λ e. rw (faults-no o c s t l closed e, touches-no v c s t (length l) (by-position ∙ e)) (statement-faults t closed))
   statement-faults (qcase rs a s t) closed =
     let q : ℕ = touched rs a (qubits (length l)) in
     rw (touched-entry rs a l, statement-faults s (entry l q ∷ closed), statement-faults t (entry l q ∷ closed),
@@ -331,7 +333,7 @@ module _ (rank : ℕ → ℕ) (r : ℕ → Bool) (k m : ℕ) where
   touches-agree o v (NOT rs a) q A u = refl
   touches-agree o v (sequence s t) q A u =
     rw (touches-agree o v s (q .0) (first s t A) u, touches-agree o v t (q .1) (second s t A) u)
-  touches-agree o v (if c s t) q A u = byBool (holds c m)
+  touches-agree o v (if c s t) q A u = byBool (holds c (qubits m))
     (λ e. rw (touches-yes o c s t m e, touches-yes v c s t m e) (touches-agree o v s (q .0) (first s t A) u))
     (λ e. rw (touches-no o c s t m e, touches-no v c s t m e) (touches-agree o v t (q .1) (second s t A) u))
   touches-agree o v (qcase rs a s t) q A u =

@@ -11,7 +11,6 @@ use Rattle.model.specs.Limits.{mostQubits}
 use Rattle.model.specs.Syntax.{Statement, skip}
 use Rattle.model.specs.Lists.{qubits, remaining, holds}
 use Rattle.model.proofs.BooleanLaws.{or-false}
-use Rattle.model.proofs.ListLaws.{range-length}
 use Rattle.records.specs.Fields.{removalsOf}
 use Rattle.table.specs.Index.{testAt, statementAt}
 use Rattle.step.specs.declared.Step.{Step}
@@ -67,14 +66,13 @@ module _ (known : List ℕ) (p : ℕ) (bs ix : List ℕ) (m depth i : ℕ) where
       walk-calls f at rest e left r = rw (at-step p bs ix depth i l deep steps e, ← listed, ← left) r
 
       -- the chosen branch of an if
-      pub walk-chosen : (c a b x : ℕ) → st ≡ step.Chooses c a b → x ≡ cond (holds (testAt p bs ix (depth - 1) c) (length l)) a b →
+      pub walk-chosen : (c a b x : ℕ) → st ≡ step.Chooses c a b → x ≡ cond (holds (testAt p bs ix (depth - 1) c) l) a b →
           row ≡ rowAt known p bs ix m (depth - 1) x → row ≡ rowAt known p bs ix m depth i
       walk-chosen c a b x e q r =
-        let size : length l ≡ min m mostQubits = ap length listed ∙ range-length (min m mostQubits) 1 in
         let o = knownTouches known in
         r ∙ sym (chosen-means (λ s. rowOf (touches o s (min m mostQubits))) l
-          (λ c s t h. ap rowOf (touches-yes o c s t (min m mostQubits) (rw size at h)))
-          (λ c s t h. ap rowOf (touches-no o c s t (min m mostQubits) (rw size at h)))
+          (λ c s t h. ap rowOf (touches-yes o c s t (min m mostQubits) (rw listed at h)))
+          (λ c s t h. ap rowOf (touches-no o c s t (min m mostQubits) (rw listed at h)))
           p bs ix depth i deep steps e q)
 
     -- both parts, in sequence or under a qcase

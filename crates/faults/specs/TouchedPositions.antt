@@ -47,7 +47,7 @@ unfoldable pub touches : CallTouches → Statement → ℕ → Touched
 touches o skip m = touchesNone
 touches o (NOT rs a) m = touchesOne (touched rs a (qubits m))
 touches o (sequence s t) m = joined (touches o s m) (touches o t m)
-touches o (if c s t) m = elim (holds c m) [ true ↦ touches o s m | false ↦ touches o t m ]
+touches o (if c s t) m = elim (holds c (qubits m)) [ true ↦ touches o s m | false ↦ touches o t m ]
 touches o (qcase rs a s t) m = closes (touched rs a (qubits m)) (joined (touches o s m) (touches o t m))
 touches o (call rs f) m = callTouches o f (remaining rs (qubits m))
 

@@ -1,4 +1,4 @@
-// Document 01's limits and refusals as constants, and the sizes that follow from them. No other crate has a limit of its own.
+// The limits and refusals of documents 01 and 02 as constants, and the sizes that follow from them. No other crate has a limit of its own.
 ghost use mathlib.Core.Path.{_≡_};
 ghost use mathlib.Core.List.{[], _∷_};
 ghost use Rattle.model.specs.Limits.{
@@ -9,6 +9,7 @@ ghost use Rattle.model.specs.Limits.{
   tableStops, wrongEdition, manyProcedures, wrongKind, wrongMap, wrongField, tooDeep, bytesLeft, wrongQubits, noRemoval, tooWide,
   accessFault, highBit, notWellFormed, shortWorkspace, manyWires, noRoom,
 };
+ghost use Rattle.model.specs.Reading.{mostBase};
 ghost use Rattle.model.specs.Page.{bandGates};
 ghost use Rattle.limits.specs.Sizes.{
   bodyCount, matrixLength, lengthCount, rowCount, endsAt, rootsAt, indexLength, placeCount, mostControls, slotLength, mostCalls, kindCount,
@@ -27,6 +28,9 @@ pub const MOST_DEPTH: u8 = 32;
 
 // "removals: a count byte 1 to 8"
 pub const MOST_REMOVALS: u8 = 8;
+
+// Document 02, S-2: bases 0, 1 and 2
+pub const MOST_BASE: u8 = 2;
 
 // "Kinds: 0 skip; .. 5 call, procedure; 6 a > b; .. 11 not, one condition"
 pub const KINDS: u8 = 12;
@@ -154,15 +158,15 @@ pub const WIRE_COUNT: usize = MOST_WIRES as usize + 1;
 pub const MARKS_LENGTH: usize = BAND_GATES as usize * WIRE_COUNT;
 
 // Each limit is the definition's.
-fn limits() -> [usize; 15]
+fn limits() -> [usize; 16]
     ensures {
-        λ r. ⌜ r ≡ tableEdition ∷ mostProcedures ∷ mostRecords ∷ mostDepth ∷ mostRemovals ∷ kindCount ∷ firstCondition ∷ mostConstant ∷
-            mostQubits ∷ mostWires ∷ circuitEdition ∷ headerLength ∷ mostCircuit ∷ blockLength ∷ leastWorkspace ∷ [] ⌝
+        λ r. ⌜ r ≡ tableEdition ∷ mostProcedures ∷ mostRecords ∷ mostDepth ∷ mostRemovals ∷ mostBase ∷ kindCount ∷ firstCondition ∷
+            mostConstant ∷ mostQubits ∷ mostWires ∷ circuitEdition ∷ headerLength ∷ mostCircuit ∷ blockLength ∷ leastWorkspace ∷ [] ⌝
     }
 {
     [
-        TABLE_EDITION as usize, MOST_PROCEDURES as usize, MOST_RECORDS, MOST_DEPTH as usize, MOST_REMOVALS as usize, KIND_COUNT,
-        FIRST_CONDITION as usize, MOST_CONSTANT as usize, MOST_QUBITS as usize, MOST_WIRES as usize, CIRCUIT_EDITION as usize,
+        TABLE_EDITION as usize, MOST_PROCEDURES as usize, MOST_RECORDS, MOST_DEPTH as usize, MOST_REMOVALS as usize, MOST_BASE as usize,
+        KIND_COUNT, FIRST_CONDITION as usize, MOST_CONSTANT as usize, MOST_QUBITS as usize, MOST_WIRES as usize, CIRCUIT_EDITION as usize,
         HEADER_LENGTH, MOST_CIRCUIT, BLOCK_LENGTH, LEAST_WORKSPACE,
     ]
 }

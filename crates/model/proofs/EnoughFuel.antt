@@ -15,11 +15,11 @@ use Rattle.model.proofs.ListLaws.{range-length, remaining-no-longer, re
 use Rattle.model.proofs.ReachAndRank.{Named, Ranked, rank, rank-all, all-ranked}
 
 -- the clauses of `does` and `faults` at a condition and at a qubit's bit
-pub does-yes : (o : CallDoes) (c : Condition) (t u : Statement) (l : List ℕ) (s : State) → holds c (length l) ≡ true → does o (if c t u) l s ≡ does o t l s
+pub does-yes : (o : CallDoes) (c : Condition) (t u : Statement) (l : List ℕ) (s : State) → holds c l ≡ true → does o (if c t u) l s ≡ does o t l s
 unfolding does
 does-yes o c t u l s e = rw (e, does)
 
-pub does-no : (o : CallDoes) (c : Condition) (t u : Statement) (l : List ℕ) (s : State) → holds c (length l) ≡ false → does o (if c t u) l s ≡ does o u l s
+pub does-no : (o : CallDoes) (c : Condition) (t u : Statement) (l : List ℕ) (s : State) → holds c l ≡ false → does o (if c t u) l s ≡ does o u l s
 unfolding does
 does-no o c t u l s e = rw (e, does)
 
@@ -32,12 +32,12 @@ module _ (o : CallDoes) (rs : List Number) (a : Number) (t u : Statement) (l : L
   unfolding does
   does-one e = rw (e, does)
 
-pub faults-yes : (o : CallFaults) (c : Condition) (t u : Statement) (l closed : List ℕ) → holds c (length l) ≡ true →
+pub faults-yes : (o : CallFaults) (c : Condition) (t u : Statement) (l closed : List ℕ) → holds c l ≡ true →
     faults o (if c t u) l closed ≡ faults o t l closed
 unfolding faults
 faults-yes o c t u l closed e = rw (e, faults)
 
-pub faults-no : (o : CallFaults) (c : Condition) (t u : Statement) (l closed : List ℕ) → holds c (length l) ≡ false →
+pub faults-no : (o : CallFaults) (c : Condition) (t u : Statement) (l closed : List ℕ) → holds c l ≡ false →
     faults o (if c t u) l closed ≡ faults o u l closed
 unfolding faults
 faults-no o c t u l closed e = rw (e, faults)
@@ -73,7 +73,7 @@ module _ (rank : ℕ → ℕ) (r : ℕ → Bool) (k : ℕ) (l : List ℕ) (some 
   does-agree o o′ A skip s q = refl
   does-agree o o′ A (NOT rs a) s q = refl
   does-agree o o′ A (sequence t u) s q = rw (does-agree o o′ A t s (q .0)) (does-agree o o′ A u (does o′ t l s) (q .1))
-  does-agree o o′ A (if c t u) s q = byBool (holds c (length l))
+  does-agree o o′ A (if c t u) s q = byBool (holds c l)
     (λ e. rw (does-yes o c t u l s e, does-yes o′ c t u l s e) (does-agree o o′ A t s (q .0)))
     (λ e. rw (does-no o c t u l s e, does-no o′ c t u l s e) (does-agree o o′ A u s (q .1)))
   does-agree o o′ A (qcase rs a t u) s q = byBool (s (touched rs a l))
@@ -87,7 +87,7 @@ module _ (rank : ℕ → ℕ) (r : ℕ → Bool) (k : ℕ) (l : List ℕ) (some 
   faults-agree o o′ A skip closed q = refl
   faults-agree o o′ A (NOT rs a) closed q = refl
   faults-agree o o′ A (sequence t u) closed q = rw (faults-agree o o′ A t closed (q .0), faults-agree o o′ A u closed (q .1))
-  faults-agree o o′ A (if c t u) closed q = byBool (holds c (length l))
+  faults-agree o o′ A (if c t u) closed q = byBool (holds c l)
     (λ e. rw (faults-yes o c t u l closed e, faults-yes o′ c t u l closed e) (faults-agree o o′ A t closed (q .0)))
     (λ e. rw (faults-no o c t u l closed e, faults-no o′ c t u l closed e) (faults-agree o o′ A u closed (q .1)))
   faults-agree o o′ A (qcase rs a t u) closed q =

@@ -8,39 +8,41 @@ use native.Mathlib.Omega.{arith}
 use borrow.Author.Tests.{lt-ltb, le-ltb}
 use lib.ListN.{length, List·getD-eq-default}
 use lib.IntN.{ℤ, pos, negsuc}
-use Rattle.model.specs.Syntax.{Number, constant, sizePlus}
+use Rattle.model.specs.Syntax.{Number, constant, sizePlus, leftPlus}
 use Rattle.model.specs.Syntax.{Condition, greater, atLeast, equal, conjunction, disjunction, negation}
-use Rattle.model.specs.Lists.{value, position, delete, remove, removeAll, remaining, entry, touched, holds}
-use Rattle.model.specs.Rules.{NumberIs, cst, size, ConditionIs, gt, ge, eq, con, dis, neg}
+use Rattle.model.specs.Lists.{sizes, value, position, delete, remove, removeAll, remaining, entry, touched, holds}
+use Rattle.model.specs.Rules.{NumberIs, cst, size, sizeLeft, ConditionIs, gt, ge, eq, con, dis, neg}
 use Rattle.model.specs.Rules.{Inside, SetIs, var, rmIn, rmOut, QubitIs, quIn, quOut}
 use Rattle.model.proofs.BooleanLaws.{byLt}
 use Rattle.model.proofs.ListLaws.{remove-in, remove-out}
 
 -- every number has a derivation of its value
-number-derived : (l : List ℕ) (a : Number) → NumberIs l a (value a (length l))
-number-derived l (constant z) = cst
-number-derived l (sizePlus z) = size
+number-derived : (l now : List ℕ) (a : Number) → NumberIs l now a (value a (sizes l now))
+number-derived l now (constant z) = cst
+number-derived l now (sizePlus z) = size
+number-derived l now (leftPlus z) = sizeLeft
 
 -- and no derivation of another
-number-only : {l : List ℕ} {a : Number} {k : ℤ} → NumberIs l a k → k ≡ value a (length l)
+number-only : {l now : List ℕ} {a : Number} {k : ℤ} → NumberIs l now a k → k ≡ value a (sizes l now)
 number-only cst = refl
 number-only size = refl
+number-only sizeLeft = refl
 
 -- (Cst), (Size), (Op): the rules give a number its value, and no other
-pub number-is : (l : List ℕ) (a : Number) (k : ℤ) → NumberIs l a k ↔ (k ≡ value a (length l))
-number-is l a k = (number-only, λ e. subst (λ (v : ℤ). NumberIs l a v) (sym e) (number-derived l a))
+pub number-is : (l now : List ℕ) (a : Number) (k : ℤ) → NumberIs l now a k ↔ (k ≡ value a (sizes l now))
+number-is l now a k = (number-only, λ e. subst (λ (v : ℤ). NumberIs l now a v) (sym e) (number-derived l now a))
 
 -- the same of conditions
-condition-derived : (l : List ℕ) (c : Condition) → ConditionIs l c (holds c (length l))
+condition-derived : (l : List ℕ) (c : Condition) → ConditionIs l c (holds c l)
 unfolding holds
-condition-derived l (greater a b) = gt (number-derived l a) (number-derived l b)
-condition-derived l (atLeast a b) = ge (number-derived l a) (number-derived l b)
-condition-derived l (equal a b) = eq (number-derived l a) (number-derived l b)
+condition-derived l (greater a b) = gt (number-derived l l a) (number-derived l l b)
+condition-derived l (atLeast a b) = ge (number-derived l l a) (number-derived l l b)
+condition-derived l (equal a b) = eq (number-derived l l a) (number-derived l l b)
 condition-derived l (conjunction c d) = con (condition-derived l c) (condition-derived l d)
 condition-derived l (disjunction c d) = dis (condition-derived l c) (condition-derived l d)
 condition-derived l (negation c) = neg (condition-derived l c)
 
-condition-only : {l : List ℕ} {c : Condition} {b : Bool} → ConditionIs l c b → b ≡ holds c (length l)
+condition-only : {l : List ℕ} {c : Condition} {b : Bool} → ConditionIs l c b → b ≡ holds c l
 unfolding holds
 condition-only (gt x y) = rw (number-only x, number-only y)
 condition-only (ge x y) = rw (number-only x, number-only y)
@@ -50,7 +52,7 @@ condition-only (dis x y) = rw (condition-only x, condition-only y)
 condition-only (neg x) = rw (condition-only x)
 
 -- (Op): the rules give a condition its truth value, and no other
-pub condition-is : (l : List ℕ) (c : Condition) (b : Bool) → ConditionIs l c b ↔ (b ≡ holds c (length l))
+pub condition-is : (l : List ℕ) (c : Condition) (b : Bool) → ConditionIs l c b ↔ (b ≡ holds c l)
 condition-is l c b = (condition-only, λ e. subst (λ (v : Bool). ConditionIs l c v) (sym e) (condition-derived l c))
 
 -- a position in 1 to m
@@ -86,37 +88,37 @@ entry-outside (pos zero) l n = refl
 entry-outside (pos (suc j)) l n = List·getD-eq-default l 0 (past j (length l) n)
 
 -- what the removals leave has a derivation
-pub set-derived : (l : List ℕ) (rs : List Number) (now : List ℕ) → SetIs l now rs (removeAll (length l) rs now)
+pub set-derived : (l : List ℕ) (rs : List Number) (now : List ℕ) → SetIs l now rs (removeAll l rs now)
 unfolding removeAll
 set-derived l [] now = var
 set-derived l (a ∷ rs) now =
-    let k = value a (length l) in
+    let k = value a (sizes l now) in
     let next = set-derived l rs (remove (position k) now) in
     byInside k (length now)
-      (λ i. rmIn (number-derived l a) i
-        (subst (λ (m : List ℕ). SetIs l m rs (removeAll (length l) (a ∷ rs) now)) (remove-inside k now i) next))
-      (λ n. rmOut (number-derived l a) n
-        (subst (λ (m : List ℕ). SetIs l m rs (removeAll (length l) (a ∷ rs) now)) (remove-outside k now n) next))
+      (λ i. rmIn (number-derived l now a) i
+        (subst (λ (m : List ℕ). SetIs l m rs (removeAll l (a ∷ rs) now)) (remove-inside k now i) next))
+      (λ n. rmOut (number-derived l now a) n
+        (subst (λ (m : List ℕ). SetIs l m rs (removeAll l (a ∷ rs) now)) (remove-outside k now n) next))
 
 -- and nothing else has one
-set-only : {l now : List ℕ} {rs : List Number} {m : List ℕ} → SetIs l now rs m → m ≡ removeAll (length l) rs now
+set-only : {l now : List ℕ} {rs : List Number} {m : List ℕ} → SetIs l now rs m → m ≡ removeAll l rs now
 unfolding removeAll
 set-only var = refl
 set-only (rmIn {now = now} {k = k} x i d) = rw (← number-only x, remove-inside k now i) (set-only d)
 set-only (rmOut {now = now} {k = k} x n d) = rw (← number-only x, remove-outside k now n) (set-only d)
 
 -- (Var), (Rm∈), (Rm∉): the rules take a list to what the removals leave of it, and to no other
-pub set-is : (l now : List ℕ) (rs : List Number) (m : List ℕ) → SetIs l now rs m ↔ (m ≡ removeAll (length l) rs now)
+pub set-is : (l now : List ℕ) (rs : List Number) (m : List ℕ) → SetIs l now rs m ↔ (m ≡ removeAll l rs now)
 set-is l now rs m = (set-only, λ e. subst (λ (v : List ℕ). SetIs l now rs v) (sym e) (set-derived l rs now))
 
 -- the qubit that is touched has a derivation
 pub qubit-derived : (l : List ℕ) (rs : List Number) (a : Number) → QubitIs l rs a (touched rs a l)
 qubit-derived l rs a =
-    let k = value a (length l) in
     let m = remaining rs l in
+    let k = value a (sizes l m) in
     byInside k (length m)
-      (λ i. subst (λ (p : ℕ). QubitIs l rs a (entry m p)) (sym (ap position (i .is))) (quIn (set-derived l rs l) (number-derived l a) i))
-      (λ n. subst (λ (q : ℕ). QubitIs l rs a q) (sym (entry-outside k m n)) (quOut (set-derived l rs l) (number-derived l a) n))
+      (λ i. subst (λ (p : ℕ). QubitIs l rs a (entry m p)) (sym (ap position (i .is))) (quIn (set-derived l rs l) (number-derived l m a) i))
+      (λ n. subst (λ (q : ℕ). QubitIs l rs a q) (sym (entry-outside k m n)) (quOut (set-derived l rs l) (number-derived l m a) n))
 
 -- and no other has one
 qubit-only : {l : List ℕ} {rs : List Number} {a : Number} {q : ℕ} → QubitIs l rs a q → q ≡ touched rs a l

@@ -138,7 +138,7 @@ module _ (P : Program) (rank : ℕ → ℕ) (o : CallDoes) (o′ : CallFaults) w
     ends (NOT rs a) q s A closed h =
       let w = touched rs a l in ends-NOT (touchFaults w closed) (qubit-derived l rs a) (h w (touched-member rs a l))
     ends (sequence t u) q s A closed h = ends-sequence (ends t (q .0) s A closed h) (ends u (q .1) (does o t l s) A closed h)
-    ends (if c t u) q s A closed h = byBool (holds c (length l))
+    ends (if c t u) q s A closed h = byBool (holds c l)
       (λ e. rw (does-yes o c t u l s e, faults-yes o′ c t u l closed e)
         (ends-yes (condition-is l c true .1 (sym e)) (ends t (q .0) s A closed h)))
       (λ e. rw (does-no o c t u l s e, faults-no o′ c t u l closed e)

@@ -10,8 +10,8 @@ use borrow.Author.Tests.{eqb-true, ne-eqb, ltb-true}
 use lib.ListN.{getD, length, length-map, List·getD-map, take, drop}
 use lib.Seq.{take-nil}
 use lib.Dec.{eqb, ltb}
-use Rattle.model.specs.Syntax.{Number}
-use Rattle.model.specs.Lists.{range, qubits, value, position, delete, remove, removeAll, remaining, touched, member}
+use Rattle.model.specs.Syntax.{Number, Condition, greater, atLeast, equal, conjunction, disjunction, negation}
+use Rattle.model.specs.Lists.{range, qubits, sizes, value, position, delete, remove, removeAll, remaining, touched, holds, member}
 use Rattle.model.proofs.BooleanLaws.{byBool, eqb-same, clash, not-true-false, or-cases, or-false, or-right, or-false-right}
 
 -- membership
@@ -141,42 +141,43 @@ remove-no-longer zero (x ∷ l) = zero-le
 remove-no-longer (suc i) (x ∷ l) = omega (arith, remove-shorter (suc i) (x ∷ l) (omega arith))
 
 -- several removals
-removeAll-map : (π : ℕ → ℕ) (size : ℕ) (rs : List Number) (l : List ℕ) → map π (removeAll size rs l) ≡ removeAll size rs (map π l)
+removeAll-map : (π : ℕ → ℕ) (l : List ℕ) (rs : List Number) (now : List ℕ) → map π (removeAll l rs now) ≡ removeAll (map π l) rs (map π now)
 unfolding removeAll
-removeAll-map π size [] l = refl
-removeAll-map π size (a ∷ rs) l =
-    removeAll-map π size rs (remove (position (value a size)) l) ∙ ap (removeAll size rs) (remove-map π (position (value a size)) l)
+removeAll-map π l [] now = refl
+removeAll-map π l (a ∷ rs) now =
+    let k = position (value a (sizes l now)) in
+    removeAll-map π l rs (remove k now) ∙ rw (length-map l π, length-map now π) (ap (removeAll (map π l) rs) (remove-map π k now))
 
-removeAll-subset : (size : ℕ) (rs : List Number) (l : List ℕ) → Subset (removeAll size rs l) l
+removeAll-subset : (l : List ℕ) (rs : List Number) (now : List ℕ) → Subset (removeAll l rs now) now
 unfolding removeAll
-removeAll-subset size [] l w h = h
-removeAll-subset size (a ∷ rs) l w h =
-    remove-subset (position (value a size)) l w (removeAll-subset size rs (remove (position (value a size)) l) w h)
+removeAll-subset l [] now w h = h
+removeAll-subset l (a ∷ rs) now w h =
+    let k = position (value a (sizes l now)) in remove-subset k now w (removeAll-subset l rs (remove k now) w h)
 
-removeAll-distinct : (size : ℕ) (rs : List Number) (l : List ℕ) → Distinct l → Distinct (removeAll size rs l)
+removeAll-distinct : (l : List ℕ) (rs : List Number) (now : List ℕ) → Distinct now → Distinct (removeAll l rs now)
 unfolding removeAll
-removeAll-distinct size [] l d = d
-removeAll-distinct size (a ∷ rs) l d =
-    removeAll-distinct size rs (remove (position (value a size)) l) (remove-distinct (position (value a size)) l d)
+removeAll-distinct l [] now d = d
+removeAll-distinct l (a ∷ rs) now d =
+    let k = position (value a (sizes l now)) in removeAll-distinct l rs (remove k now) (remove-distinct k now d)
 
-removeAll-no-longer : (size : ℕ) (rs : List Number) (l : List ℕ) → length (removeAll size rs l) ≤ length l
+removeAll-no-longer : (l : List ℕ) (rs : List Number) (now : List ℕ) → length (removeAll l rs now) ≤ length now
 unfolding removeAll
-removeAll-no-longer size [] l = omega arith
-removeAll-no-longer size (a ∷ rs) l =
-    omega (arith, removeAll-no-longer size rs (remove (position (value a size)) l), remove-no-longer (position (value a size)) l)
+removeAll-no-longer l [] now = omega arith
+removeAll-no-longer l (a ∷ rs) now =
+    let k = position (value a (sizes l now)) in omega (arith, removeAll-no-longer l rs (remove k now), remove-no-longer k now)
 
 -- the remaining list
 pub remaining-map : (π : ℕ → ℕ) (rs : List Number) (l : List ℕ) → map π (remaining rs l) ≡ remaining rs (map π l)
-remaining-map π rs l = rw (length-map l π) (removeAll-map π (length l) rs l)
+remaining-map π rs l = removeAll-map π l rs l
 
 pub remaining-subset : (rs : List Number) (l : List ℕ) → Subset (remaining rs l) l
-remaining-subset rs l = removeAll-subset (length l) rs l
+remaining-subset rs l = removeAll-subset l rs l
 
 pub remaining-distinct : (rs : List Number) (l : List ℕ) → Distinct l → Distinct (remaining rs l)
-remaining-distinct rs l d = removeAll-distinct (length l) rs l d
+remaining-distinct rs l d = removeAll-distinct l rs l d
 
 pub remaining-no-longer : (rs : List Number) (l : List ℕ) → length (remaining rs l) ≤ length l
-remaining-no-longer rs l = removeAll-no-longer (length l) rs l
+remaining-no-longer rs l = removeAll-no-longer l rs l
 
 -- a call that carries a removal
 abbrev pub Carries : List Number → Type 0
@@ -187,7 +188,7 @@ pub remaining-shorter : (rs : List Number) (l : List ℕ) → Carries rs → 0 <
 unfolding removeAll
 remaining-shorter [] l c h = absurd c
 remaining-shorter (a ∷ rs) l c h =
-    omega (arith, removeAll-no-longer (length l) rs (remove (position (value a (length l))) l), remove-shorter (position (value a (length l))) l h)
+    let k = position (value a (sizes l l)) in omega (arith, removeAll-no-longer l rs (remove k l), remove-shorter k l h)
 
 -- the qubit touched is one of the list, or 0
 getD-member : (l : List ℕ) (k : ℕ) → member (getD l k 0) (0 ∷ l) ≡ true
@@ -199,7 +200,7 @@ getD-member (x ∷ l) (suc k) = member-cases (getD l k 0) 0 l (getD-member l k)
 
 pub touched-member : (rs : List Number) (a : Number) (l : List ℕ) → member (touched rs a l) (0 ∷ l) ≡ true
 touched-member rs a l =
-    let k = position (value a (length l)) in
+    let k = position (value a (sizes l (remaining rs l))) in
     let q = touched rs a l in
     member-cases q 0 (0 ∷ remaining rs l) (getD-member (0 ∷ remaining rs l) k)
       (λ e. rw e (member-head 0 l))
@@ -221,9 +222,20 @@ pub remaining-off : (w : ℕ) (rs : List Number) (l : List ℕ) → Off w l → 
 remaining-off w rs l h = off-subset (remaining rs l) l (remaining-subset rs l) w h
 
 pub touched-map : (π : ℕ → ℕ) → π 0 ≡ 0 → (rs : List Number) (a : Number) (l : List ℕ) → touched rs a (map π l) ≡ π (touched rs a l)
-touched-map π z rs a l = rw (← remaining-map π rs l, length-map l π)
-    (subst (λ (d : ℕ). getD (d ∷ map π (remaining rs l)) (position (value a (length l))) d ≡ π (touched rs a l)) z
-      (List·getD-map π (0 ∷ remaining rs l) (position (value a (length l))) 0))
+touched-map π z rs a l =
+    let m = remaining rs l in let k = position (value a (sizes l m)) in
+    rw (← remaining-map π rs l, length-map l π, length-map m π)
+    (subst (λ (d : ℕ). getD (d ∷ map π m) k d ≡ π (touched rs a l)) z (List·getD-map π (0 ∷ m) k 0))
+
+-- whether a condition holds depends on the list's length alone
+pub holds-same : (c : Condition) (l m : List ℕ) → length l ≡ length m → holds c l ≡ holds c m
+unfolding holds
+holds-same (greater a b) l m e = rw e
+holds-same (atLeast a b) l m e = rw e
+holds-same (equal a b) l m e = rw e
+holds-same (conjunction c d) l m e = rw (holds-same c l m e, holds-same d l m e)
+holds-same (disjunction c d) l m e = rw (holds-same c l m e, holds-same d l m e)
+holds-same (negation c) l m e = rw (holds-same c l m e)
 
 -- a list of data wires: 1 to n
 abbrev pub Data : ℕ → List ℕ → Type 0

@@ -70,7 +70,7 @@ Any a i = Unit {0}
 
 reads-number : (i : Input) → Reads Any Low (number i)
 unfolding number
-reads-number i = after-byte Any Low i _ (omega arith) (λ base j e₁. reads-provided Any Low (leb base 1) wrongField _ (omega arith) (λ ok.
+reads-number i = after-byte Any Low i _ (omega arith) (λ base j e₁. reads-provided Any Low _ wrongField _ (omega arith) (λ ok.
     after-byte Any Low j _ (omega arith) (λ low k e₂. after-byte Any Low k _ (omega arith) (λ high l e₃. tt))))
 
 reads-numbers : (n : ℕ) (i : Input) → Reads Any Low (numbers n i)
@@ -416,7 +416,7 @@ module _ (more : List ℕ) where
   same-number : (i : Input) → numberLength ≤ length (i .bytes) → Same (Spent numberLength i) (number i) (number (longer i))
   unfolding number
   same-number i room = let Q : Number → Input → Type 0 = Spent numberLength i in
-      same-byte Q i _ (omega arith) (λ base j e₁ r₁. same-provided Q (leb base 1) wrongField _ _ (λ ok.
+      same-byte Q i _ (omega arith) (λ base j e₁ r₁. same-provided Q _ wrongField _ _ (λ ok.
       same-byte Q j _ (omega arith) (λ low k e₂ r₂. same-byte Q k _ (omega arith) (λ high l e₃ r₃.
       record { same = refl; holds = (omega arith, omega arith) }))))
 

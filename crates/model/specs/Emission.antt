@@ -33,7 +33,7 @@ whole chains skip l cs next = []
 whole chains (NOT rs a) l cs next = places (flip cs (touched rs a l)) ∷ []
 whole chains (sequence s t) l cs next = whole chains s l cs next ++ whole chains t l cs next
 -- "If: the chosen branch alone."
-whole chains (if c s t) l cs next = elim (holds c (length l)) [ true ↦ whole chains s l cs next | false ↦ whole chains t l cs next ]
+whole chains (if c s t) l cs next = elim (holds c l) [ true ↦ whole chains s l cs next | false ↦ whole chains t l cs next ]
 whole chains (qcase rs a s t) l cs next =
     whole chains s l (withControl (touched rs a l) false cs) next ++ whole chains t l (withControl (touched rs a l) true cs) next
 whole chains (call rs f) l cs next = startChain chains f (remaining rs l) cs next
@@ -62,7 +62,7 @@ unfoldable pub invocations : (ℕ → Bool) → Statement → List ℕ → ℕ �
 invocations r skip l next = []
 invocations r (NOT rs a) l next = []
 invocations r (sequence s t) l next = elim (isWide r s) [ true ↦ invocations r s l next | false ↦ invocations r t l next ]
-invocations r (if c s t) l next = elim (holds c (length l)) [ true ↦ invocations r s l next | false ↦ invocations r t l next ]
+invocations r (if c s t) l next = elim (holds c l) [ true ↦ invocations r s l next | false ↦ invocations r t l next ]
 invocations r (qcase rs a s t) l next = invocations r s l next ++ invocations r t l (next + length (invocations r s l next))
 invocations r (call rs f) l next = elim (r f) [ true ↦ invoked f (remaining rs l) next | false ↦ [] ]
 
@@ -82,7 +82,7 @@ left chains r (NOT rs a) l cs next = places (flip cs (touched rs a l)) ∷ []
 -- "Sequence: a part after the width-1 part goes right, behind that part's own right; all else left."
 left chains r (sequence s t) l cs next =
     elim (isWide r s) [ true ↦ left chains r s l cs next | false ↦ whole chains s l cs next ++ left chains r t l cs next ]
-left chains r (if c s t) l cs next = elim (holds c (length l)) [ true ↦ left chains r s l cs next | false ↦ left chains r t l cs next ]
+left chains r (if c s t) l cs next = elim (holds c l) [ true ↦ left chains r s l cs next | false ↦ left chains r t l cs next ]
 -- "Qcase: left zero then one"
 left chains r (qcase rs a s t) l cs next =
     left chains r s l (withControl (touched rs a l) false cs) next ++
@@ -96,7 +96,7 @@ right chains r skip l cs next top = []
 right chains r (NOT rs a) l cs next top = []
 right chains r (sequence s t) l cs next top =
     elim (isWide r s) [ true ↦ right chains r s l cs next top ++ whole chains t l cs top | false ↦ right chains r t l cs next top ]
-right chains r (if c s t) l cs next top = elim (holds c (length l)) [ true ↦ right chains r s l cs next top | false ↦ right chains r t l cs next top ]
+right chains r (if c s t) l cs next top = elim (holds c l) [ true ↦ right chains r s l cs next top | false ↦ right chains r t l cs next top ]
 -- "right one then zero"
 right chains r (qcase rs a s t) l cs next top =
     right chains r t l (withControl (touched rs a l) true cs) (next + length (invocations r s l next)) top ++

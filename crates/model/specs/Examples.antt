@@ -233,7 +233,7 @@ orders =
     ∷ refusal deepWithWrongMap 1 2 7
     ∷ refusal (0x01 ∷ 0x00 ∷ 0xff ∷ 0x01 ∷ []) 1 2 5
     ∷ refusal (0x01 ∷ 0x00 ∷ 0x03 ∷ 0x01 ∷ 0x00 ∷ []) 1 2 6
-    ∷ refusal (0x01 ∷ 0x00 ∷ 0x02 ∷ 0x01 ∷ 0x02 ∷ []) 1 2 6
+    ∷ refusal (0x01 ∷ 0x00 ∷ 0x02 ∷ 0x01 ∷ 0x03 ∷ []) 1 2 6
     ∷ refusal (0x01 ∷ 0x00 ∷ 0x02 ∷ 0x01 ∷ 0x00 ∷ 0x02 ∷ []) 1 2 1
     ∷ refusal (noRemovalThere ++ 0x00 ∷ []) 1 2 8
     ∷ refusal wideWithoutRemoval 1 2 10
@@ -245,6 +245,23 @@ orders =
     ∷ refusal pairs 3 8 13
     ∷ refusal pairs 3 7 21
     ∷ []
+
+-- document 02, S-2: "Base 2 of a number adds the size of the list left by the removals already done in that record". Main flips the last of what is left
+-- (base 2, constant 0) without position 1 and without the last of what that leaves (base 2, constant 0 again)
+abbrev pub lastLeft : List ℕ
+lastLeft = 0x01 ∷ 0x00 ∷ 0x03 ∷ 0x01 ∷ 0x02 ∷ 0x00 ∷ 0x01 ∷ 0x00 ∷ 0x02 ∷ 0x00 ∷ 0x00 ∷ 0x02 ∷ 0x00 ∷ 0x00 ∷ []
+
+-- "in a comparison it equals base 1": main flips qubit 2 where a list's size by base 2 and by base 1 are equal, else qubit 1
+abbrev pub equalSizes : List ℕ
+equalSizes =
+    0x01 ∷ 0x00 ∷ 0x00 ∷ 0x03 ∷ 0x06 ∷ 0x08 ∷ 0x02 ∷ 0x00 ∷ 0x00 ∷ 0x01 ∷ 0x00 ∷ 0x00
+    ∷ 0x02 ∷ 0x01 ∷ 0x00 ∷ 0x02 ∷ 0x00 ∷ 0x02 ∷ 0x01 ∷ 0x00 ∷ 0x01 ∷ 0x00 ∷ []
+
+-- position 5 is outside and empties the list, so nothing is left and base 2 adds 0: a call with position 1 of nothing removed does nothing
+abbrev pub nothingLeft : List ℕ
+nothingLeft =
+    0x01 ∷ 0x01 ∷ 0x09 ∷ 0x05 ∷ 0x02 ∷ 0x00 ∷ 0x05 ∷ 0x00 ∷ 0x02 ∷ 0x01 ∷ 0x00 ∷ 0x01
+    ∷ 0x02 ∷ 0x01 ∷ 0x00 ∷ 0x01 ∷ 0x00 ∷ []
 
 -- document 02, S-1: the page of PAIRS at n = 3
 --    1----o---+---------------+---o-------

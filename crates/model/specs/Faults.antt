@@ -25,7 +25,7 @@ unfoldable pub faults : CallFaults → Statement → List ℕ → List ℕ → B
 faults o skip l closed = false
 faults o (NOT rs a) l closed = touchFaults (touched rs a l) closed
 faults o (sequence s t) l closed = faults o s l closed || faults o t l closed
-faults o (if c s t) l closed = elim (holds c (length l)) [ true ↦ faults o s l closed | false ↦ faults o t l closed ]
+faults o (if c s t) l closed = elim (holds c l) [ true ↦ faults o s l closed | false ↦ faults o t l closed ]
 faults o (qcase rs a s t) l closed =
     touchFaults (touched rs a l) closed || (faults o s l (touched rs a l ∷ closed) || faults o t l (touched rs a l ∷ closed))
 faults o (call rs f) l closed = callFaults o f (remaining rs l) closed

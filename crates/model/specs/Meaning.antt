@@ -56,7 +56,7 @@ does o (NOT rs a) l s = flipped (touched rs a l) s
 -- "A sequence hands the first statement's word to the second, with the same list."
 does o (sequence t u) l s = does o u l (does o t l s)
 -- "If goes on as yes where its condition holds for its numbers, otherwise as no, with the same list and word."
-does o (if c t u) l s = elim (holds c (length l)) [ true ↦ does o t l s | false ↦ does o u l s ]
+does o (if c t u) l s = elim (holds c l) [ true ↦ does o t l s | false ↦ does o u l s ]
 -- "Qcase reads the bit of the qubit it touches and goes on as zero or one, with the same list and word."
 does o (qcase rs a t u) l s = elim (s (touched rs a l)) [ false ↦ does o t l s | true ↦ does o u l s ]
 -- "A call hands its word to the procedure's body, with what the call's removals left as the whole list"

@@ -10,7 +10,7 @@ use Rattle.model.specs.Limits.{
   tableEdition, mostProcedures, mostRecords, mostDepth, mostRemovals, tableStops, wrongEdition, manyProcedures, wrongKind, wrongMap, wrongField,
   tooDeep, bytesLeft,
 }
-use Rattle.model.specs.Syntax.{Number, constant, sizePlus, Condition, greater, atLeast, equal, conjunction, disjunction, negation}
+use Rattle.model.specs.Syntax.{Number, constant, sizePlus, leftPlus, Condition, greater, atLeast, equal, conjunction, disjunction, negation}
 use Rattle.model.specs.Syntax.{Statement, skip, NOT, sequence, if, qcase, call, Program}
 
 -- what is still to be read: the bytes, and how many records came before them
@@ -49,13 +49,19 @@ byte i = byteOf (i .bytes) (i .records)
 unfoldable pub signed16 : ℕ → ℕ → ℤ
 signed16 low high = cond (ltb (low + 256 * high) 32768) (pos (low + 256 * high)) (negsuc (65535 - (low + 256 * high)))
 
+-- bases 0, 1 and 2; no reader comes to a higher one
 unfoldable pub numberOf : ℕ → ℤ → Number
 numberOf zero z = constant z
-numberOf (suc base) z = sizePlus z
+numberOf (suc zero) z = sizePlus z
+numberOf (suc (suc base)) z = leftPlus z
 
--- "A number is a base byte and a signed 16-bit constant"; a base other than 0 and 1 gives 6 before the constant is looked for
+-- document 02, S-2: "Base 2 no longer gives 6, under edition 1 too."
+abbrev pub mostBase : ℕ
+mostBase = 2
+
+-- "A number is a base byte and a signed 16-bit constant"; a higher base gives 6 before the constant is looked for
 unfoldable pub number : Input → Parsed Number
-number i = andThen (byte i) (λ base j. provided (leb base 1) wrongField
+number i = andThen (byte i) (λ base j. provided (leb base mostBase) wrongField
     (andThen (byte j) (λ low k. andThen (byte k) (λ high l. parsed (numberOf base (signed16 low high)) l))))
 
 unfoldable pub numbers : ℕ → Input → Parsed (List Number)

@@ -8,21 +8,22 @@ use lib.ListN.{length}
 use lib.Dec.{eqb}
 use lib.IntN.{ℤ, pos, _+ℤ_}
 use lib.Signed.{ltZ, leZ}
-use Rattle.model.specs.Syntax.{Number, constant, sizePlus, Condition, greater, atLeast, equal, conjunction, disjunction, negation}
+use Rattle.model.specs.Syntax.{Number, constant, sizePlus, leftPlus, Condition, greater, atLeast, equal, conjunction, disjunction, negation}
 use Rattle.model.specs.Syntax.{Statement, skip, NOT, sequence, if, qcase, call, Program, body}
 use Rattle.model.specs.Lists.{qubits, delete, entry, member}
 use Rattle.model.specs.Meaning.{State, flipped}
 
--- figure 2. (Cst); (Size) and (Op) for +
-pub data NumberIs (l : List ℕ) : Number → ℤ → Type 0 where
-  cst : {z : ℤ} → NumberIs l (constant z) z
-  size : {z : ℤ} → NumberIs l (sizePlus z) (z +ℤ pos (length l))
+-- figure 2. (Cst); (Size) and (Op) for +. The rules take q to l, and the set expression s so far to `now`: base 1 adds |q|, base 2 adds |s|.
+pub data NumberIs (l now : List ℕ) : Number → ℤ → Type 0 where
+  cst : {z : ℤ} → NumberIs l now (constant z) z
+  size : {z : ℤ} → NumberIs l now (sizePlus z) (z +ℤ pos (length l))
+  sizeLeft : {z : ℤ} → NumberIs l now (leftPlus z) (z +ℤ pos (length now))
 
--- (Op) for >, ≥, =, ∧, ∨, ¬
+-- (Op) for >, ≥, =, ∧, ∨, ¬. In a condition no set expression stands, so s is q.
 pub data ConditionIs (l : List ℕ) : Condition → Bool → Type 0 where
-  gt : {a b : Number} {x y : ℤ} → NumberIs l a x → NumberIs l b y → ConditionIs l (greater a b) (ltZ y x)
-  ge : {a b : Number} {x y : ℤ} → NumberIs l a x → NumberIs l b y → ConditionIs l (atLeast a b) (leZ y x)
-  eq : {a b : Number} {x y : ℤ} → NumberIs l a x → NumberIs l b y → ConditionIs l (equal a b) (leZ x y && leZ y x)
+  gt : {a b : Number} {x y : ℤ} → NumberIs l l a x → NumberIs l l b y → ConditionIs l (greater a b) (ltZ y x)
+  ge : {a b : Number} {x y : ℤ} → NumberIs l l a x → NumberIs l l b y → ConditionIs l (atLeast a b) (leZ y x)
+  eq : {a b : Number} {x y : ℤ} → NumberIs l l a x → NumberIs l l b y → ConditionIs l (equal a b) (leZ x y && leZ y x)
   con : {c d : Condition} {x y : Bool} → ConditionIs l c x → ConditionIs l d y → ConditionIs l (conjunction c d) (x && y)
   dis : {c d : Condition} {x y : Bool} → ConditionIs l c x → ConditionIs l d y → ConditionIs l (disjunction c d) (x || y)
   neg : {c : Condition} {x : Bool} → ConditionIs l c x → ConditionIs l (negation c) (not x)
@@ -33,19 +34,20 @@ pub record Inside (k : ℤ) (m : ℕ) : Type 0 where
   pub is : k ≡ pos (suc index)
   pub less : index < m
 
--- (Var), (Rm∈), (Rm∉): the removals still to do take `now` to `end`; positions are valued with the whole list l. (Nil) is a removal at constant 0.
+-- (Var), (Rm∈), (Rm∉): the removals still to do take `now` to `end`; each position is valued with the whole list l
+-- and with `now`. (Nil) is a removal at constant 0.
 pub data SetIs (l : List ℕ) : List ℕ → List Number → List ℕ → Type 0 where
   var : {now : List ℕ} → SetIs l now [] now
-  rmIn : {now end : List ℕ} {a : Number} {rs : List Number} {k : ℤ} → NumberIs l a k → (i : Inside k (length now)) →
+  rmIn : {now end : List ℕ} {a : Number} {rs : List Number} {k : ℤ} → NumberIs l now a k → (i : Inside k (length now)) →
     SetIs l (delete (i .index) now) rs end → SetIs l now (a ∷ rs) end
-  rmOut : {now end : List ℕ} {a : Number} {rs : List Number} {k : ℤ} → NumberIs l a k → (Inside k (length now) → ⊥) →
+  rmOut : {now end : List ℕ} {a : Number} {rs : List Number} {k : ℤ} → NumberIs l now a k → (Inside k (length now) → ⊥) →
     SetIs l [] rs end → SetIs l now (a ∷ rs) end
 
 -- (Qu∈), (Qu∉): the qubit s[i], or 0
 pub data QubitIs (l : List ℕ) : List Number → Number → ℕ → Type 0 where
-  quIn : {end : List ℕ} {rs : List Number} {a : Number} {k : ℤ} → SetIs l l rs end → NumberIs l a k → (i : Inside k (length end)) →
+  quIn : {end : List ℕ} {rs : List Number} {a : Number} {k : ℤ} → SetIs l l rs end → NumberIs l end a k → (i : Inside k (length end)) →
     QubitIs l rs a (entry end (suc (i .index)))
-  quOut : {end : List ℕ} {rs : List Number} {a : Number} {k : ℤ} → SetIs l l rs end → NumberIs l a k → (Inside k (length end) → ⊥) →
+  quOut : {end : List ℕ} {rs : List Number} {a : Number} {k : ℤ} → SetIs l l rs end → NumberIs l end a k → (Inside k (length end) → ⊥) →
     QubitIs l rs a 0
 
 -- ⊤ and ⊥

@@ -4,10 +4,12 @@ use mathlib.Core.List.{List, _∷_}
 use lib.ListN.{length, getD}
 use lib.IntN.{ℤ}
 
--- "Base 0 is the constant alone; base 1 adds the size of the procedure's whole list."
+-- "Base 0 is the constant alone; base 1 adds the size of the procedure's whole list."; document 02, S-2: "Base 2 of a number adds the size of the list
+-- left by the removals already done in that record"
 pub data Number : Type 0 where
   constant : ℤ → Number
   sizePlus : ℤ → Number
+  leftPlus : ℤ → Number
 
 -- "6 a > b; 7 a ≥ b; 8 a = b; 9 and; 10 or, two conditions; 11 not, one condition"
 pub data Condition : Type 0 where

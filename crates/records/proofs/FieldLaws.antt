@@ -16,7 +16,7 @@ use mir.Facts.{toZ-pos, toZ-ofZ}
 use types.Run.{OneOf, miss}
 use denote.Enum.Declared.{tagOf}
 use Rattle.limits.specs.Sizes.{placeCount, kindCount}
-use Rattle.model.specs.Reading.{permittedMaps, signed16, requiredMap, optionalMap, permitted, stands}
+use Rattle.model.specs.Reading.{permittedMaps, signed16, mostBase, requiredMap, optionalMap, permitted, stands}
 use Rattle.model.proofs.BooleanLaws.{and-left, and-right}
 use Rattle.records.proofs.Answer.{the-type}
 use Rattle.records.specs.declared.Number.{Number}
@@ -169,12 +169,12 @@ bytes-there at k n h l = le-leb (at + k) n (omega arith)
 pub bytes-lack : (at k n : ℕ) → at < n → n - at < k → leb (at + k) n ≡ false
 bytes-lack at k n h l = lt-leb (at + k) n (omega arith)
 
--- a number that is there, with a base of 0 or 1
+-- a number that is there, with a base that there is
 pub number-there :
-    (bs : List ℕ) (at : ℕ) (a : Number) → at < length bs → getD bs at 0 ≤ 1 → 3 ≤ length bs - at → a ≡ writtenAt bs at →
+    (bs : List ℕ) (at : ℕ) (a : Number) → at < length bs → getD bs at 0 ≤ mostBase → 3 ≤ length bs - at → a ≡ writtenAt bs at →
     answer.Number a (at + 3) ≡ numberAt bs at
 unfolding numberAt
-number-there bs at a h b l q = rw (lt-ltb at (length bs) h, le-ltb 1 (getD bs at 0) b, bytes-there at 3 (length bs) h l, q)
+number-there bs at a h b l q = rw (lt-ltb at (length bs) h, le-ltb mostBase (getD bs at 0) b, bytes-there at 3 (length bs) h l, q)
 
 -- removals where the map has bit 0
 pub removals-stand : (removes : Bool) (bs : List ℕ) (at : ℕ) (r : Answer) → removes ≡ true → r ≡ removalsAt bs at → r ≡ maybeRemovalsAt removes bs at
@@ -264,20 +264,25 @@ pub written-past : (bs : List ℕ) (at : ℕ) → length bs ≤ at → base.Cons
 unfolding based signed16
 written-past bs at h = rw (← past-end bs at h, ← past-end bs (at + 1) (omega arith), ← past-end bs (at + 2) (omega arith))
 
-based-size : (b : ℕ) (z : ℤ) → (b ≡ 0 → ⊥) → base.SizePlus z ≡ based b z
+-- the base decides which number it is
+pub based-constant : (b : ℕ) (z : ℤ) → b ≡ 0 → base.Constant z ≡ based b z
 unfolding based
-based-size zero z h = absurd (h refl)
-based-size (suc b) z h = refl
+based-constant b z e = rw e
 
--- before the end the base byte decides which number is written
-module _ (bs : List ℕ) (at low high : ℕ) (z : ℤ) (f : SFits w32 z)
-    (l : low ≡ byteAt bs (at + 1)) (h : high ≡ byteAt bs (at + 2)) (e : z ≡ signed16 low high) where
-  pub written-constant : byteAt bs at ≡ 0 → base.Constant (toZ w32 (ofZ w32 z)) ≡ writtenAt bs at
-  unfolding based
-  written-constant b = rw (b, ← l, ← h, ← e) (ap base.Constant (toZ-ofZ f))
+pub based-size : (b : ℕ) (z : ℤ) → b ≡ 1 → base.SizePlus z ≡ based b z
+unfolding based
+based-size b z e = rw e
 
-  pub written-size : (byteAt bs at ≡ 0 → ⊥) → base.SizePlus (toZ w32 (ofZ w32 z)) ≡ writtenAt bs at
-  written-size b = rw (← l, ← h, ← e) (ap base.SizePlus (toZ-ofZ f) ∙ based-size (byteAt bs at) z b)
+pub based-left : (b : ℕ) (z : ℤ) → (b ≡ 0 → ⊥) → (b ≡ 1 → ⊥) → base.LeftPlus z ≡ based b z
+unfolding based
+based-left zero z f0 f1 = absurd (f0 refl)
+based-left (suc zero) z f0 f1 = absurd (f1 refl)
+based-left (suc (suc b)) z f0 f1 = refl
+
+-- before the end a number is made of the three bytes that are there
+pub written-there : (bs : List ℕ) (at low high : ℕ) (z : ℤ) (a : Number) → SFits w32 z →
+    low ≡ byteAt bs (at + 1) → high ≡ byteAt bs (at + 2) → z ≡ signed16 low high → a ≡ based (byteAt bs at) (toZ w32 (ofZ w32 z)) → a ≡ writtenAt bs at
+written-there bs at low high z a f l h e made = made ∙ rw (toZ-ofZ f, e, l, h)
 
 -- a record past the end is skip
 pub record-none : (p : ℕ) (bs : List ℕ) (at : ℕ) → length bs ≤ at → kind.Skip ≡ recordAt p bs at
@@ -310,6 +315,8 @@ module _ (p : ℕ) (bs : List ℕ) (at k m : ℕ) (removes : Bool)
 
 pub ruleset tests = (needs, lt-ltb, le-ltb, le-leb, lt-leb, eq-eqb, ne-eqb, bytes-there, bytes-lack, number-there)
 
+pub ruleset bases = (needs, based-constant, based-size, based-left)
+
 pub ruleset signs = (needs, signed-low, less-fits, signed-high)
 
 pub ruleset maps = (needs, map-none, map-required, map-optional)
@@ -335,8 +342,7 @@ pub ruleset written = (
   needs,
   past-end,
   written-past,
-  written-constant,
-  written-size,
+  written-there,
   place-stands,
   place-past,
   place-lacks,

@@ -12,7 +12,7 @@ use lib.IntN.{ℤ}
 use Rattle.limits.specs.Sizes.{placeCount, kindCount}
 use Rattle.model.specs.Limits.{tableStops, wrongField, mostRemovals}
 use Rattle.model.specs.Reading as model
-use Rattle.model.specs.Reading.{Input, inputAt, Parsed, parsed, refused, andThen, provided, byte, number, numbers, removals, procedure}
+use Rattle.model.specs.Reading.{Input, inputAt, Parsed, parsed, refused, andThen, provided, byte, mostBase, number, numbers, removals, procedure}
 use Rattle.model.specs.Reading.{permitted, stands, Fields, optional, fields}
 use Rattle.model.proofs.BooleanLaws.{byEq, byLt, or-cases}
 use Rattle.model.proofs.ByteAtAPlace.{byte-there, byte-past}
@@ -36,7 +36,8 @@ byte-next bs at next k h e = rw e (byte-there bs at k h)
 based-number : (b : ℕ) (z : ℤ) → model.numberOf b z ≡ numberOf (based b z)
 unfolding based numberOf model.numberOf
 based-number zero z = refl
-based-number (suc b) z = refl
+based-number (suc zero) z = refl
+based-number (suc (suc b)) z = refl
 
 -- the model reads this, the reader at a place answers that, and Q holds of it; or both refuse with the same number
 data Agree {A : Type 0} (Q : Type 0) (P : Parsed A) (x : Answer) : Parsed A → Answer → Type 0 where
@@ -87,9 +88,9 @@ number-agrees :
 unfolding number numberAt andThen provided
 number-agrees bs at k =
     byLt at (length bs)
-    (λ h. byLt 1 (byteAt bs at)
-    (λ b. rw (byte-there bs at k h, lt-ltb at (length bs) h, lt-ltb 1 (byteAt bs at) b, lt-leb (byteAt bs at) 1 b) (refuses wrongField))
-    (λ b. rw (byte-there bs at k h, lt-ltb at (length bs) h, le-ltb 1 (byteAt bs at) b, le-leb (byteAt bs at) 1 b)
+    (λ h. byLt mostBase (byteAt bs at)
+    (λ b. rw (byte-there bs at k h, lt-ltb at (length bs) h, lt-ltb mostBase (byteAt bs at) b, lt-leb (byteAt bs at) mostBase b) (refuses wrongField))
+    (λ b. rw (byte-there bs at k h, lt-ltb at (length bs) h, le-ltb mostBase (byteAt bs at) b, le-leb (byteAt bs at) mostBase b)
     (byLt (at + 1) (length bs)
     (λ l. rw (byte-next bs (at + 1) (at + 2) k l (omega arith))
     (byLt (at + 2) (length bs)

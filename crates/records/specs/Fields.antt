@@ -10,9 +10,9 @@ use lib.IntN.{ℤ, pos}
 use Rattle.limits.specs.Sizes.{placeCount, kindCount}
 use Rattle.model.specs.Limits.{mostRemovals, tableStops, wrongField}
 use Rattle.model.specs.Syntax as syntax
-use Rattle.model.specs.Reading.{inputAt, Parsed, parsed, refused, signed16, requiredMap, permitted, stands, Fields, fields}
+use Rattle.model.specs.Reading.{inputAt, Parsed, parsed, refused, signed16, mostBase, requiredMap, permitted, stands, Fields, fields}
 use Rattle.records.specs.declared.Number.{Number}
-use Rattle.records.specs.declared.Number.the-variants.{Constant, SizePlus}
+use Rattle.records.specs.declared.Number.the-variants.{Constant, SizePlus, LeftPlus}
 use Rattle.records.specs.declared.Record.{Record}
 use Rattle.records.specs.declared.Record.the-variants as kind
 use Rattle.records.specs.declared.Answer.{Answer}
@@ -47,7 +47,8 @@ andThenProcedure (answer.Refused k) f = answer.Refused k
 -- a base and a constant
 unfoldable pub based : ℕ → ℤ → Number
 based zero z = Constant z
-based (suc base) z = SizePlus z
+based (suc zero) z = SizePlus z
+based (suc (suc base)) z = LeftPlus z
 
 -- the number that stands at a place
 abbrev pub writtenAt : List ℕ → ℕ → Number
@@ -57,7 +58,7 @@ writtenAt bs at = based (byteAt bs at) (signed16 (byteAt bs (at + 1)) (byteAt bs
 unfoldable pub numberAt : List ℕ → ℕ → Answer
 numberAt bs at =
     cond (ltb at (length bs))
-    (cond (ltb 1 (byteAt bs at)) (answer.Refused wrongField)
+    (cond (ltb mostBase (byteAt bs at)) (answer.Refused wrongField)
     (cond (leb (at + 3) (length bs))
     (answer.Number (writtenAt bs at) (at + 3))
     (answer.Refused tableStops)))
@@ -172,6 +173,7 @@ recordAt p bs at = recordOf p (byteAt bs (at + 1)) (stands 0 (byteAt bs at)) bs 
 unfoldable pub numberOf : Number → syntax.Number
 numberOf (Constant z) = syntax.constant z
 numberOf (SizePlus z) = syntax.sizePlus z
+numberOf (LeftPlus z) = syntax.leftPlus z
 
 -- n numbers that stand one after the other from `at` on
 unfoldable pub numbersFrom : ℕ → List ℕ → ℕ → List syntax.Number

@@ -4,17 +4,19 @@ ghost use Prim.Native.Nat.{_+_, _≤_};
 ghost use lib.ListN.{length};
 ghost use Rattle.model.specs.Reading.{signed16, requiredMap, stands};
 ghost use Rattle.model.specs.Reading as model;
-ghost use Rattle.records.specs.Fields.{byteAt, writtenAt, numberAt, numbersAt, removalsAt, maybeRemovalsAt, placeOf, afterRemovals, procedureAt};
+ghost use Rattle.records.specs.Fields.{byteAt, based, writtenAt, numberAt, numbersAt, removalsAt, maybeRemovalsAt, placeOf, afterRemovals, procedureAt};
 ghost use Rattle.records.specs.Fields.{plainRecord, touchRecord, comparisonRecord, callRecord, withNumber, withNumbers, withProcedure, fieldsAt, recordAt, FieldsRead};
-use limits::{KIND_COUNT, MOST_REMOVALS, PLACE_COUNT, TABLE_STOPS, WRONG_FIELD};
+use limits::{KIND_COUNT, MOST_BASE, MOST_REMOVALS, PLACE_COUNT, TABLE_STOPS, WRONG_FIELD};
 
 // "The permitted map of each kind stands in one table of twelve entries": the bits that must stand, and 16 times the bit that may.
 const MAPS: [u8; KIND_COUNT] = [0x00, 0x12, 0x00, 0x00, 0x12, 0x18, 0x06, 0x06, 0x06, 0x00, 0x00, 0x00];
 
-// "Base 0 is the constant alone; base 1 adds the size of the procedure's whole list."
+// "Base 0 is the constant alone; base 1 adds the size of the procedure's whole list."; document 02, S-2: "Base 2 of a number adds the size of the list
+// left by the removals already done in that record"
 pub enum Number {
     Constant(i32),
     SizePlus(i32),
+    LeftPlus(i32),
 }
 
 // The twelve kinds. Removals stand in the table: here is the place of their count, 0 where there are none. It has 16 bits, as places in the index have.
@@ -61,6 +63,17 @@ pub fn byte(table: &[u8], at: usize) -> u8
     if at < table.len() { table[at] } else { 0 }
 }
 
+// The number of a base and a constant. No table that has been read has a base above 2.
+fn based(base: u8, constant: i32) -> Number
+    ensures { λ r. ⌜ r ≡ based base constant ⌝ }
+{
+    match base {
+        0 => Number::Constant(constant),
+        1 => Number::SizePlus(constant),
+        _ => Number::LeftPlus(constant),
+    }
+}
+
 // The number whose three bytes stand from a place on: a base byte and a constant.
 pub fn written_at(table: &[u8], at: usize) -> Number
     ensures { λ r. ⌜ r ≡ writtenAt (now (table .entry)) at ⌝ }
@@ -68,11 +81,7 @@ pub fn written_at(table: &[u8], at: usize) -> Number
     if table.len() <= at {
         return Number::Constant(0);
     }
-    let constant = signed(byte(table, at + 1), byte(table, at + 2));
-    if table[at] == 0 {
-        return Number::Constant(constant);
-    }
-    Number::SizePlus(constant)
+    based(table[at], signed(byte(table, at + 1), byte(table, at + 2)))
 }
 
 // "A number is a base byte and a signed 16-bit constant"; a base byte is tested as it comes.
@@ -82,7 +91,7 @@ fn read_number(table: &[u8], at: usize) -> Answer
     if table.len() <= at {
         return Answer::Refused(TABLE_STOPS);
     }
-    if 1 < table[at] {
+    if MOST_BASE < table[at] {
         return Answer::Refused(WRONG_FIELD);
     }
     if table.len() - at < 3 {

@@ -94,7 +94,7 @@ module _ (p : ℕ) (bs ix : List ℕ) (left at : ℕ) (l : List ℕ) (fuel word 
       (ap (λ (x : ℕ). walked p bs ix (left - 1) b l fuel x) first)
 
     -- if goes on as the statement that is chosen
-    pub walk-chosen : (c a b x : ℕ) → st ≡ step.Chooses c a b → x ≡ cond (holds (testAt p bs ix (left - 1) c) (length l)) a b →
+    pub walk-chosen : (c a b x : ℕ) → st ≡ step.Chooses c a b → x ≡ cond (holds (testAt p bs ix (left - 1) c) l) a b →
         walked p bs ix (left - 1) x l fuel word ≡ whole
     walk-chosen c a b x e q =
       let calls = callWordsWithin (programAt p bs ix) fuel in

@@ -12,12 +12,12 @@ use Rattle.run.specs.RunOnWords.{qubitOf, bitOf, CallWords, wordDoes}
 
 module _ (o : CallWords) (c : Condition) (t u : Statement) (l : List ℕ) (word : ℕ) where
   -- if goes on as yes where its condition holds
-  pub word-yes : holds c (length l) ≡ true → wordDoes o (if c t u) l word ≡ wordDoes o t l word
+  pub word-yes : holds c l ≡ true → wordDoes o (if c t u) l word ≡ wordDoes o t l word
   unfolding wordDoes
   word-yes e = rw (e, wordDoes)
 
   -- otherwise as no
-  pub word-no : holds c (length l) ≡ false → wordDoes o (if c t u) l word ≡ wordDoes o u l word
+  pub word-no : holds c l ≡ false → wordDoes o (if c t u) l word ≡ wordDoes o u l word
   unfolding wordDoes
   word-no e = rw (e, wordDoes)
 

@@ -87,7 +87,7 @@ module _ (n : ℕ) (most : n ≤ mostQubits) where
     follows skip l C s w D h F = F
     follows (NOT rs a) l C s w D h F = flips-touched rs a l C D s w F h
     follows (sequence t u) l C s w D h F = follows u l C (does o t l s) (wordDoes ow t l w) D (h .1) (follows t l C s w D (h .0) F)
-    follows (if c t u) l C s w D h F = byBool (holds c (length l))
+    follows (if c t u) l C s w D h F = byBool (holds c l)
       (λ e. rw (does-yes o c t u l s e, word-yes ow c t u l w e) (follows t l C s w D (rw e at h) F))
       (λ e. rw (does-no o c t u l s e, word-no ow c t u l w e) (follows u l C s w D (rw e at h) F))
     follows (qcase rs a t u) l C s w D h F =

@@ -43,7 +43,7 @@ unfoldable pub wordDoes : CallWords → Statement → List ℕ → ℕ → ℕ
 wordDoes o skip l word = word
 wordDoes o (NOT rs a) l word = flippedWord (touched rs a l) word
 wordDoes o (sequence t u) l word = wordDoes o u l (wordDoes o t l word)
-wordDoes o (if c t u) l word = elim (holds c (length l)) [ true ↦ wordDoes o t l word | false ↦ wordDoes o u l word ]
+wordDoes o (if c t u) l word = elim (holds c l) [ true ↦ wordDoes o t l word | false ↦ wordDoes o u l word ]
 wordDoes o (qcase rs a t u) l word = elim (bitOf (touched rs a l) word) [ false ↦ wordDoes o t l word | true ↦ wordDoes o u l word ]
 wordDoes o (call rs f) l word = callWords o f (remaining rs l) word
 

@@ -27,14 +27,14 @@ pub ruleset choosing = (needs, choose-yes, choose-no)
 -- `means` says of an if what it says of its first statement where the condition holds, and of its second where it does not: so it says what it
 -- says of the statement that is chosen
 pub chosen-means : {A : Type 0} (means : Statement → A) (l : List ℕ) →
-    ((c : Condition) (s t : Statement) → holds c (length l) ≡ true → means (if c s t) ≡ means s) →
-    ((c : Condition) (s t : Statement) → holds c (length l) ≡ false → means (if c s t) ≡ means t) →
+    ((c : Condition) (s t : Statement) → holds c l ≡ true → means (if c s t) ≡ means s) →
+    ((c : Condition) (s t : Statement) → holds c l ≡ false → means (if c s t) ≡ means t) →
     (p : ℕ) (bs ix : List ℕ) (depth i : ℕ) {found : Step} → (depth ≡ 0 → ⊥) → found ≡ stepAt p bs ix i l →
-    {c a b x : ℕ} → found ≡ step.Chooses c a b → x ≡ cond (holds (testAt p bs ix (depth - 1) c) (length l)) a b →
+    {c a b x : ℕ} → found ≡ step.Chooses c a b → x ≡ cond (holds (testAt p bs ix (depth - 1) c) l) a b →
     means (statementAt p bs ix depth i) ≡ means (statementAt p bs ix (depth - 1) x)
 chosen-means means l on-yes on-no p bs ix depth i deep steps {c = c} {a = a} {b = b} {x = x} e q =
     let test = testAt p bs ix (depth - 1) c in
     let part = statementAt p bs ix (depth - 1) in
-    ap means (at-step p bs ix depth i l deep steps e) ∙ byBool (holds test (length l))
+    ap means (at-step p bs ix depth i l deep steps e) ∙ byBool (holds test l)
       (λ h. on-yes test (part a) (part b) h ∙ ap (λ (j : ℕ). means (part j)) (sym (rw h at q)))
       (λ h. on-no test (part a) (part b) h ∙ ap (λ (j : ℕ). means (part j)) (sym (rw h at q)))

@@ -31,9 +31,9 @@ holdsBy part (step.Negates i) = not (part i)
 
 module _ (p : ℕ) (bs ix : List ℕ) (d i : ℕ) (l : List ℕ) where
   part : ℕ → Bool
-  part j = holds (testAt p bs ix d j) (length l)
+  part j = holds (testAt p bs ix d j) l
 
-  test-of-step : (r : Record) → holds (testOf (testAt p bs ix d) ix i r) (length l) ≡ holdsBy part (stepOf bs ix i l r)
+  test-of-step : (r : Record) → holds (testOf (testAt p bs ix d) ix i r) l ≡ holdsBy part (stepOf bs ix i l r)
   unfolding testOf stepOf holds part
   test-of-step kind.Skip = refl
   test-of-step (kind.Not at a) = refl
@@ -49,70 +49,70 @@ module _ (p : ℕ) (bs ix : List ℕ) (d i : ℕ) (l : List ℕ) where
   test-of-step kind.Negation = rw (test-next p bs ix d i)
 
   -- the condition at record i, by the record's step
-  pub test-step : holds (testAt p bs ix (suc d) i) (length l) ≡ holdsBy (λ j. holds (testAt p bs ix d j) (length l)) (stepAt p bs ix i l)
+  pub test-step : holds (testAt p bs ix (suc d) i) l ≡ holdsBy (λ j. holds (testAt p bs ix d j) l) (stepAt p bs ix i l)
   unfolding testAt part
   test-step = test-of-step (recordAt p bs (startOf ix i))
 
 -- the ways out of `holds`: too deep counts as no test, which holds
-pub held-none : (p : ℕ) (bs ix : List ℕ) (depth i n : ℕ) → depth ≡ 0 → true ≡ holds (testAt p bs ix depth i) n
+pub held-none : (p : ℕ) (bs ix : List ℕ) (depth i : ℕ) (l : List ℕ) → depth ≡ 0 → true ≡ holds (testAt p bs ix depth i) l
 unfolding testAt holds
-held-none p bs ix depth i n e = rw e
+held-none p bs ix depth i l e = rw e
 
 module _ (p : ℕ) (bs ix : List ℕ) (depth i : ℕ) (l : List ℕ) (st : Step)
     (deep : depth ≡ 0 → ⊥) (steps : st ≡ stepAt p bs ix i l) where
-  by-step : holds (testAt p bs ix depth i) (length l) ≡ holdsBy (λ j. holds (testAt p bs ix (depth - 1) j) (length l)) st
+  by-step : holds (testAt p bs ix depth i) l ≡ holdsBy (λ j. holds (testAt p bs ix (depth - 1) j) l) st
   by-step = rw steps (deeper depth deep)
     where
       deeper : (depth : ℕ) → (depth ≡ 0 → ⊥)
-        → holds (testAt p bs ix depth i) (length l) ≡ holdsBy (λ j. holds (testAt p bs ix (depth - 1) j) (length l)) (stepAt p bs ix i l)
+        → holds (testAt p bs ix depth i) l ≡ holdsBy (λ j. holds (testAt p bs ix (depth - 1) j) l) (stepAt p bs ix i l)
       deeper zero h = absurd (h refl)
       deeper (suc d) h = rw (sub-one) (test-step p bs ix d i l)
 
   -- a comparison was decided by its step
-  pub held-comparison : (b : Bool) → st ≡ step.Holds b → b ≡ holds (testAt p bs ix depth i) (length l)
+  pub held-comparison : (b : Bool) → st ≡ step.Holds b → b ≡ holds (testAt p bs ix depth i) l
   held-comparison b e = rw (by-step, e)
 
   -- not: the other way round than its part
-  pub held-not : (first : ℕ) (b : Bool) → st ≡ step.Negates first → b ≡ holds (testAt p bs ix (depth - 1) first) (length l)
-    → not b ≡ holds (testAt p bs ix depth i) (length l)
+  pub held-not : (first : ℕ) (b : Bool) → st ≡ step.Negates first → b ≡ holds (testAt p bs ix (depth - 1) first) l
+    → not b ≡ holds (testAt p bs ix depth i) l
   held-not first b e h = rw (by-step, e, ← h)
 
-  module _ (first second : ℕ) (a : Bool) (left : a ≡ holds (testAt p bs ix (depth - 1) first) (length l)) where
+  module _ (first second : ℕ) (a : Bool) (left : a ≡ holds (testAt p bs ix (depth - 1) first) l) where
     -- and: where the first part fails, it fails
-    pub held-and-no : st ≡ step.Both first second → a ≡ false → a ≡ holds (testAt p bs ix depth i) (length l)
+    pub held-and-no : st ≡ step.Both first second → a ≡ false → a ≡ holds (testAt p bs ix depth i) l
     held-and-no e t = rw (by-step, e, ← left, t)
 
     -- else the second decides
-    pub held-and : st ≡ step.Both first second → a ≡ true → (b : Bool) → b ≡ holds (testAt p bs ix (depth - 1) second) (length l)
-      → b ≡ holds (testAt p bs ix depth i) (length l)
+    pub held-and : st ≡ step.Both first second → a ≡ true → (b : Bool) → b ≡ holds (testAt p bs ix (depth - 1) second) l
+      → b ≡ holds (testAt p bs ix depth i) l
     held-and e t b h = rw (by-step, e, ← left, t) h
 
     -- or: where the first part holds, it holds
-    pub held-or-yes : st ≡ step.Either first second → a ≡ true → a ≡ holds (testAt p bs ix depth i) (length l)
+    pub held-or-yes : st ≡ step.Either first second → a ≡ true → a ≡ holds (testAt p bs ix depth i) l
     held-or-yes e t = rw (by-step, e, ← left, t)
 
     -- else the second decides
-    pub held-or : st ≡ step.Either first second → a ≡ false → (b : Bool) → b ≡ holds (testAt p bs ix (depth - 1) second) (length l)
-      → b ≡ holds (testAt p bs ix depth i) (length l)
+    pub held-or : st ≡ step.Either first second → a ≡ false → (b : Bool) → b ≡ holds (testAt p bs ix (depth - 1) second) l
+      → b ≡ holds (testAt p bs ix depth i) l
     held-or e t b h = rw (by-step, e, ← left, t) h
 
   -- a statement where a condition is asked for is no test, which holds: skip, NOT, sequence, if, qcase, call
-  pub held-nothing : st ≡ step.Nothing → true ≡ holds (testAt p bs ix depth i) (length l)
+  pub held-nothing : st ≡ step.Nothing → true ≡ holds (testAt p bs ix depth i) l
   held-nothing e = rw (by-step, e)
 
-  pub held-touches : (q : ℕ) → st ≡ step.Touches q → true ≡ holds (testAt p bs ix depth i) (length l)
+  pub held-touches : (q : ℕ) → st ≡ step.Touches q → true ≡ holds (testAt p bs ix depth i) l
   held-touches q e = rw (by-step, e)
 
-  pub held-sequence : (a b : ℕ) → st ≡ step.Sequence a b → true ≡ holds (testAt p bs ix depth i) (length l)
+  pub held-sequence : (a b : ℕ) → st ≡ step.Sequence a b → true ≡ holds (testAt p bs ix depth i) l
   held-sequence a b e = rw (by-step, e)
 
-  pub held-chooses : (a b c : ℕ) → st ≡ step.Chooses a b c → true ≡ holds (testAt p bs ix depth i) (length l)
+  pub held-chooses : (a b c : ℕ) → st ≡ step.Chooses a b c → true ≡ holds (testAt p bs ix depth i) l
   held-chooses a b c e = rw (by-step, e)
 
-  pub held-branches : (q a b : ℕ) → st ≡ step.Branches q a b → true ≡ holds (testAt p bs ix depth i) (length l)
+  pub held-branches : (q a b : ℕ) → st ≡ step.Branches q a b → true ≡ holds (testAt p bs ix depth i) l
   held-branches q a b e = rw (by-step, e)
 
-  pub held-calls : (f at : ℕ) → st ≡ step.Calls f at → true ≡ holds (testAt p bs ix depth i) (length l)
+  pub held-calls : (f at : ℕ) → st ≡ step.Calls f at → true ≡ holds (testAt p bs ix depth i) l
   held-calls f at e = rw (by-step, e)
 
 pub ruleset testing = (

@@ -11,17 +11,23 @@ use lib.Signed.{ltZ}
 use Rattle.limits.specs.Sizes.{mostConstant}
 use Rattle.model.specs.Reading.{signed16}
 use Rattle.model.specs.Lists.{value}
+use Rattle.model.specs.Lists as model
 use Rattle.model.proofs.BooleanLaws.{byBool}
 use Rattle.records.specs.declared.Number.{Number}
 use Rattle.records.specs.declared.Record.{Record}
 use Rattle.records.specs.declared.Record.the-variants as kind
 use Rattle.records.specs.Fields.{byteAt, based, writtenAt, numberOf, recordAt}
 use Rattle.records.proofs.RecordKinds.{record-cases}
-use Rattle.step.specs.Steps.{valueOf}
+use Rattle.step.specs.declared.Sizes.{Sizes}
+use Rattle.step.specs.Steps.{sumOf, valueOf}
+
+-- sizes as the model has them
+abbrev pub modelSizes : Sizes → model.Sizes
+modelSizes s = record { whole = s .whole; left = s .left }
 
 -- the number has the model's value
 abbrev pub Fair : Number → Type 0
-Fair a = (n : ℕ) → valueOf a n ≡ value (numberOf a) n
+Fair a = (s : Sizes) → valueOf a s ≡ value (numberOf a) (modelSizes s)
 
 signed-small : (low high : ℕ) → ltZ (pos mostConstant) (signed16 low high) ≡ false
 unfolding signed16
@@ -31,9 +37,10 @@ signed-small low high = byBool (ltb (low + 256 * high) 32768)
 
 -- a number of the table is one
 pub fair : (b low high : ℕ) → Fair (based b (signed16 low high))
-unfolding based valueOf numberOf
-fair zero low high n = refl
-fair (suc b) low high n = rw (signed-small low high)
+unfolding based sumOf valueOf numberOf
+fair zero low high s = refl
+fair (suc zero) low high s = rw (signed-small low high)
+fair (suc (suc b)) low high s = rw (signed-small low high)
 
 -- so the number at a place is one
 pub written-fair : (bs : List ℕ) (at : ℕ) → Fair (writtenAt bs at)

@@ -13,8 +13,9 @@ use mir.Facts.{toZ-ofZ, toZ-pos, fits-natAbs}
 use Rattle.limits.specs.Sizes.{mostConstant}
 use Rattle.model.proofs.BooleanLaws.{byEq, byLt, eqb-same}
 use Rattle.records.specs.declared.Number.{Number}
-use Rattle.records.specs.declared.Number.the-variants.{Constant, SizePlus}
-use Rattle.step.specs.Steps.{valueOf, within}
+use Rattle.records.specs.declared.Number.the-variants.{Constant, SizePlus, LeftPlus}
+use Rattle.step.specs.declared.Sizes.{Sizes}
+use Rattle.step.specs.Steps.{sumOf, valueOf, within}
 
 -- a byte, read as signed, is itself
 pub byte-signed : (n : ℕ) → n < 256 → toZ w32 n ≡ pos n
@@ -31,27 +32,34 @@ sum-fits : (z : ℤ) (n : ℕ) → SFits w32 z → ltZ (pos mostConstant) z ≡ 
 sum-fits z n f t h = record { sfits = sum-magnitude z n (f .sfits) t h }
 
 -- in the machine's terms, which reads signed numbers back from their bits
-module _ (a : Number) (z : ℤ) (n : ℕ) (f : SFits w32 z) (h : n < 256) where
+module _ (z : ℤ) (n : ℕ) (f : SFits w32 z) (h : n < 256) where
   -- the sum behind the guard fits
   pub sum-stays : ltZ (pos mostConstant) (toZ w32 (ofZ w32 z)) ≡ false → SFits w32 (toZ w32 (ofZ w32 z) +ℤ toZ w32 n)
   sum-stays t = rw (byte-signed n h, toZ-ofZ f) (sum-fits z n f (rw (toZ-ofZ f) at t) h)
 
-  -- and is the value
-  pub value-sum : a ≡ SizePlus z → ltZ (pos mostConstant) (toZ w32 (ofZ w32 z)) ≡ false
-    → toZ w32 (ofZ w32 (toZ w32 (ofZ w32 z) +ℤ toZ w32 n)) ≡ valueOf a n
-  unfolding valueOf
-  value-sum e t = let s : ltZ (pos mostConstant) z ≡ false = rw (toZ-ofZ f) at t in
-    rw (toZ-ofZ (sum-stays t)) (rw (byte-signed n h, toZ-ofZ f, e, s))
+  -- and is the sum of the integers
+  pub sum-is : ltZ (pos mostConstant) (toZ w32 (ofZ w32 z)) ≡ false → toZ w32 (ofZ w32 (toZ w32 (ofZ w32 z) +ℤ toZ w32 n)) ≡ sumOf z n
+  unfolding sumOf
+  sum-is t = let s : ltZ (pos mostConstant) z ≡ false = rw (toZ-ofZ f) at t in rw (toZ-ofZ (sum-stays t)) (rw (byte-signed n h, toZ-ofZ f, s))
 
-  -- a constant of more than 16 bits has value 0
-  pub value-guarded : a ≡ SizePlus z → ltZ (pos mostConstant) (toZ w32 (ofZ w32 z)) ≡ true → pos 0 ≡ valueOf a n
-  unfolding valueOf
-  value-guarded e t = let s : ltZ (pos mostConstant) z ≡ true = rw (toZ-ofZ f) at t in rw (e, s)
+  -- a constant of more than 16 bits gives 0
+  pub sum-guarded : ltZ (pos mostConstant) (toZ w32 (ofZ w32 z)) ≡ true → pos 0 ≡ sumOf z n
+  unfolding sumOf
+  sum-guarded t = let s : ltZ (pos mostConstant) z ≡ true = rw (toZ-ofZ f) at t in rw s
 
-  -- base 0 is the constant alone
-  pub value-constant : a ≡ Constant z → toZ w32 (ofZ w32 z) ≡ valueOf a n
+-- the ways out of `value`, one for each base
+module _ (a : Number) (z : ℤ) (s : Sizes) (f : SFits w32 z) where
+  pub value-constant : a ≡ Constant z → toZ w32 (ofZ w32 z) ≡ valueOf a s
   unfolding valueOf
   value-constant e = rw e (toZ-ofZ f)
+
+  pub value-size : a ≡ SizePlus z → (k : ℤ) → k ≡ sumOf (toZ w32 (ofZ w32 z)) (s .whole) → k ≡ valueOf a s
+  unfolding valueOf
+  value-size e k h = h ∙ rw (toZ-ofZ f, e)
+
+  pub value-left : a ≡ LeftPlus z → (k : ℤ) → k ≡ sumOf (toZ w32 (ofZ w32 z)) (s .left) → k ≡ valueOf a s
+  unfolding valueOf
+  value-left e k h = h ∙ rw (toZ-ofZ f, e)
 
 -- a position that is tested at zero and at the size
 within-low : (n : ℕ) (k : ℤ) → ltZ k (pos 1) ≡ true → 0 ≡ within n k

@@ -45,12 +45,12 @@ module _ (p : ℕ) (bs ix : List ℕ) (i : ℕ) (l : List ℕ) (s : ℕ) (found 
   step-call at f e = rw (← decided, e)
 
   module _ (n : ℕ) (a b : Number) (x y : ℤ) (size : n ≡ length l) (f : SFits w32 x) (g : SFits w32 y)
-      (left : x ≡ valueOf a n) (right : y ≡ valueOf b n) where
+      (left : x ≡ valueOf a (record { whole = n; left = n })) (right : y ≡ valueOf b (record { whole = n; left = n })) where
     left-value : Fair a → x ≡ modelValue a l
-    left-value h = left ∙ h n ∙ rw size
+    left-value h = left ∙ h (record { whole = n; left = n }) ∙ rw size
 
     right-value : Fair b → y ≡ modelValue b l
-    right-value h = right ∙ h n ∙ rw size
+    right-value h = right ∙ h (record { whole = n; left = n }) ∙ rw size
 
     -- kind 6
     pub step-greater : found ≡ kind.Greater a b → step.Holds (ltZ (toZ w32 (ofZ w32 y)) (toZ w32 (ofZ w32 x))) ≡ stepAt p bs ix i l

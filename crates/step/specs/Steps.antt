@@ -7,7 +7,7 @@ use lib.IntN.{ℤ, pos, _+ℤ_}
 use lib.Dec.{ltb}
 use lib.Signed.{ltZ, leZ}
 use Rattle.limits.specs.Sizes.{mostConstant}
-use Rattle.model.specs.Lists.{value, position, touched}
+use Rattle.model.specs.Lists.{comparedValue, position, touched}
 use Rattle.records.specs.declared.Number.{Number}
 use Rattle.records.specs.declared.Number.the-variants as base
 use Rattle.records.specs.declared.Record.{Record}
@@ -15,6 +15,7 @@ use Rattle.records.specs.declared.Record.the-variants as kind
 use Rattle.records.specs.Fields.{recordAt, numberOf, removalsOf}
 use Rattle.table.specs.Index.{startOf, endOf}
 use Rattle.step.specs.declared.Qubits.{Qubits}
+use Rattle.step.specs.declared.Sizes.{Sizes}
 use Rattle.step.specs.declared.Step.{Step}
 use Rattle.step.specs.declared.Step.the-variants as step
 
@@ -22,10 +23,15 @@ use Rattle.step.specs.declared.Step.the-variants as step
 abbrev pub qubitsOf : Qubits → List ℕ
 qubitsOf q = take (q .len) (q .at)
 
--- the value of a number. A table's constants have 16 bits: for them a law says that the guard, without which a sum could leave i32, never shuts.
-unfoldable pub valueOf : Number → ℕ → ℤ
-valueOf (base.Constant z) size = z
-valueOf (base.SizePlus z) size = cond (ltZ (pos mostConstant) z) (pos 0) (z +ℤ pos size)
+-- a constant and a size. A table's constants have 16 bits: for them a law says that the guard, without which a sum could leave i32, never shuts.
+unfoldable pub sumOf : ℤ → ℕ → ℤ
+sumOf z size = cond (ltZ (pos mostConstant) z) (pos 0) (z +ℤ pos size)
+
+-- the value of a number
+unfoldable pub valueOf : Number → Sizes → ℤ
+valueOf (base.Constant z) s = z
+valueOf (base.SizePlus z) s = sumOf z (s .whole)
+valueOf (base.LeftPlus z) s = sumOf z (s .left)
 
 -- a position in a list of this size: 0 for one "at or below zero, or past the end"
 unfoldable pub within : ℕ → ℤ → ℕ
@@ -39,9 +45,9 @@ firstChild ix i = cond (ltb i (length ix)) (i + 1) i
 abbrev pub touchedBy : List ℕ → ℕ → Number → List ℕ → ℕ
 touchedBy bs at a l = touched (removalsOf bs at) (numberOf a) l
 
--- the model's value of a number that a record holds
+-- the model's value of a number that a comparison holds
 abbrev pub modelValue : Number → List ℕ → ℤ
-modelValue a l = value (numberOf a) (length l)
+modelValue a l = comparedValue (numberOf a) l
 
 -- one clause for each of the kinds 0 to 11
 unfoldable pub stepOf : List ℕ → List ℕ → ℕ → List ℕ → Record → Step

@@ -1,13 +1,13 @@
 // Lists of qubits, and the one step that check, run and emission take from a record.
 ghost use mathlib.Core.Bool.{cond};
 ghost use mathlib.Core.Path.{_≡_};
-ghost use Prim.Native.Nat.{min};
+ghost use Prim.Native.Nat.{_≤_, min};
 ghost use lib.ListN.{length, take};
 ghost use Rattle.model.specs.Limits.{mostQubits};
 ghost use Rattle.model.specs.Lists.{qubits, entry, remove, remaining, position, holds};
 ghost use Rattle.records.specs.Fields.{removalsOf};
 ghost use Rattle.table.specs.Index.{startOf, endOf, testAt};
-ghost use Rattle.step.specs.Steps.{qubitsOf, valueOf, within, touchedBy, firstChild, stepAt};
+ghost use Rattle.step.specs.Steps.{qubitsOf, sumOf, valueOf, within, touchedBy, firstChild, stepAt};
 use limits::{ENDS_AT, LIST_LENGTH, MOST_CONSTANT, MOST_QUBITS};
 use records::{Number, Record, record_at, written_at};
 
@@ -20,6 +20,12 @@ const QUBITS: [u8; LIST_LENGTH] = [
 pub struct Qubits {
     pub at: [u8; LIST_LENGTH],
     pub len: u8,
+}
+
+// The sizes that a number can add: of the procedure's whole list, and of what the removals already done in the record have left of it.
+pub struct Sizes {
+    pub whole: u8,
+    pub left: u8,
 }
 
 // What a record does on a list. Children go by their numbers.
@@ -67,18 +73,24 @@ pub fn all(n: u8) -> Qubits
     Qubits { at: QUBITS, len: capped(n) }
 }
 
-// A number's value in a procedure whose whole list has this size. No table has a constant above 16 bits; without the test its sum could leave i32.
-pub fn value(a: Number, size: u8) -> i32
-    ensures { λ r. ⌜ r ≡ valueOf a size ⌝ }
+// A constant and a size. No table has a constant above 16 bits; without the test the sum could leave i32.
+fn sum(constant: i32, size: u8) -> i32
+    ensures { λ r. ⌜ r ≡ sumOf constant size ⌝ }
+{
+    if constant > MOST_CONSTANT {
+        return 0;
+    }
+    constant + size as i32
+}
+
+// A number's value.
+fn value(a: Number, sizes: Sizes) -> i32
+    ensures { λ r. ⌜ r ≡ valueOf a sizes ⌝ }
 {
     match a {
         Number::Constant(z) => z,
-        Number::SizePlus(z) => {
-            if z > MOST_CONSTANT {
-                return 0;
-            }
-            z + size as i32
-        }
+        Number::SizePlus(z) => sum(z, sizes.whole),
+        Number::LeftPlus(z) => sum(z, sizes.left),
     }
 }
 
@@ -112,6 +124,7 @@ fn remove(at: &mut [u8; LIST_LENGTH], len: u8, k: i32) -> u8
     requires { ⌜ length (now at) ≡ mostQubits ⌝ }
     ensures { λ r. ⌜ take r (now (at .exit)) ≡ remove (position k) (take len (now (at .entry))) ⌝ }
     ensures { λ r. ⌜ length (now (at .exit)) ≡ mostQubits ⌝ }
+    ensures { λ r. ⌜ r ≤ mostQubits ⌝ }
 {
     let size = capped(len);
     let mut i = within(size, k);
@@ -125,7 +138,8 @@ fn remove(at: &mut [u8; LIST_LENGTH], len: u8, k: i32) -> u8
     size - 1
 }
 
-// What the removals at a place leave of a list, "each from what the last one left"; their numbers take the size of the whole list. Place 0 has none.
+// What the removals at a place leave of a list, "each from what the last one left"; each number may take the size of what is left just before it.
+// Place 0 has none.
 pub fn remaining(table: &[u8], at: usize, list: Qubits) -> Qubits
     ensures { λ r. ⌜ qubitsOf r ≡ remaining (removalsOf (now (table .entry)) at) (qubitsOf list) ⌝ }
 {
@@ -141,7 +155,7 @@ pub fn remaining(table: &[u8], at: usize, list: Qubits) -> Qubits
     let mut left = table[at];
     let mut place = at + 1;
     while 0 < left {
-        let k = value(written_at(table, place), whole);
+        let k = value(written_at(table, place), Sizes { whole, left: len });
         len = remove(&mut rest, len, k);
         place += 3;
         left -= 1;
@@ -153,7 +167,8 @@ pub fn remaining(table: &[u8], at: usize, list: Qubits) -> Qubits
 pub fn touched(table: &[u8], at: usize, a: Number, list: Qubits) -> u8
     ensures { λ r. ⌜ r ≡ touchedBy (now (table .entry)) at a (qubitsOf list) ⌝ }
 {
-    entry(remaining(table, at, list), value(a, size(list)))
+    let rest = remaining(table, at, list);
+    entry(rest, value(a, Sizes { whole: size(list), left: size(rest) }))
 }
 
 // Where record i starts in the table.
@@ -184,7 +199,8 @@ fn first_child(index: &[u16], i: usize) -> usize
 pub fn step_at(table: &[u8], index: &[u16], p: u8, i: usize, list: Qubits) -> Step
     ensures { λ r. ⌜ r ≡ stepAt p (now (table .entry)) (now (index .entry)) i (qubitsOf list) ⌝ }
 {
-    let n = size(list);
+    let whole = size(list);
+    let sizes = Sizes { whole, left: whole };
     let first = first_child(index, i);
     let second = subtree_end(index, first);
     let found = record_at(table, start(index, i), p);
@@ -195,9 +211,9 @@ pub fn step_at(table: &[u8], index: &[u16], p: u8, i: usize, list: Qubits) -> St
         Record::If => Step::Chooses(first, second, subtree_end(index, second)),
         Record::Qcase(at, a) => Step::Branches(touched(table, at as usize, a, list), first, second),
         Record::Call(at, f) => Step::Calls(f, at as usize),
-        Record::Greater(a, b) => Step::Holds(value(a, n) > value(b, n)),
-        Record::AtLeast(a, b) => Step::Holds(value(a, n) >= value(b, n)),
-        Record::Equal(a, b) => Step::Holds(value(a, n) == value(b, n)),
+        Record::Greater(a, b) => Step::Holds(value(a, sizes) > value(b, sizes)),
+        Record::AtLeast(a, b) => Step::Holds(value(a, sizes) >= value(b, sizes)),
+        Record::Equal(a, b) => Step::Holds(value(a, sizes) == value(b, sizes)),
         Record::And => Step::Both(first, second),
         Record::Or => Step::Either(first, second),
         Record::Negation => Step::Negates(first),
@@ -206,7 +222,7 @@ pub fn step_at(table: &[u8], index: &[u16], p: u8, i: usize, list: Qubits) -> St
 
 // Does the condition at record i hold for its numbers? It is followed `depth` records down; a statement there is no condition and holds.
 fn holds(table: &[u8], index: &[u16], p: u8, i: usize, list: Qubits, depth: u8) -> bool
-    ensures { λ r. ⌜ r ≡ holds (testAt p (now (table .entry)) (now (index .entry)) depth i) (length (qubitsOf list)) ⌝ }
+    ensures { λ r. ⌜ r ≡ holds (testAt p (now (table .entry)) (now (index .entry)) depth i) (qubitsOf list) ⌝ }
 {
     if depth == 0 {
         return true;
@@ -232,7 +248,7 @@ fn holds(table: &[u8], index: &[u16], p: u8, i: usize, list: Qubits, depth: u8) 
 
 // An if goes on as one of its two statements: as `yes` where the condition at record c holds, otherwise as `no`.
 pub fn chosen(table: &[u8], index: &[u16], p: u8, c: usize, yes: usize, no: usize, list: Qubits, depth: u8) -> usize
-    ensures { λ r. ⌜ r ≡ cond (holds (testAt p (now (table .entry)) (now (index .entry)) depth c) (length (qubitsOf list))) yes no ⌝ }
+    ensures { λ r. ⌜ r ≡ cond (holds (testAt p (now (table .entry)) (now (index .entry)) depth c) (qubitsOf list)) yes no ⌝ }
 {
     if holds(table, index, p, c, list, depth) { yes } else { no }
 }

@@ -10,10 +10,10 @@ written-at-spec =
     (tie.spec
     (λ c. search written)
     (λ c. search needs)
+    (λ c. search needs)
     (λ c κs. search needs)
     (λ c. search needs)
     (λ c κs. search needs)
     (λ c κs. search needs)
-    (λ c. search needs)
-    (λ c. search written)
+    (λ c κs. search needs)
     (λ c. search written))

@@ -1,5 +1,5 @@
 -- `step::remove` meets its contract: what stands from i on is shifted, one entry a turn.
-use Prim.Native.Nat.{_≤_, _<_, _-_}
+use Prim.Native.Nat.{_≤_, _<_, _-_, zero-le}
 use mathlib.Core.Path.{_≡_, sym, _∙_}
 use native.Mathlib.Omega.{arith}
 use borrow.Author.Needs.{needs}
@@ -22,7 +22,7 @@ returns c =
     let b = c .before .before in
     let array = b .before .args .at .now in
     (remove-none (b .before .args .len) array _ _ _ (b .before .fits .k) (size-of _ array _ mostQubits (b .before .pre) (b .capped .ensures))
-    (c .before .within .ensures) (c .if1 .taken), b .before .pre)
+    (c .before .within .ensures) (c .if1 .taken), (b .before .pre, zero-le))
 
 loop-holds : tie.Need-loop-holds Inv-loop μ-loop
 loop-holds c =
@@ -43,7 +43,7 @@ returns-2 c =
     let array = b .before .args .at .now in
     (sym (shift-ends _ _ (c .before .loop .at) (c .loop-test .left) (h .1)) ∙ h .4
       ∙ remove-some (b .before .args .len) array _ _ _ (b .before .fits .k) (size-of _ array _ mostQubits (b .before .pre) (b .capped .ensures))
-        (c .before .before .before .within .ensures) (c .before .before .if1 .left), h .3)
+        (c .before .before .before .within .ensures) (c .before .before .if1 .left), (h .3, omega (arith, h .2)))
 
 pub remove-spec : {M : Type 1} → statement M
 remove-spec =

@@ -1,6 +1,6 @@
--- `step::value` meets its contract: no sum leaves i32 behind the guard.
+-- `step::value` meets its contract: one law for each base.
 use borrow.Author.Needs.{needs}
-use Rattle.step.proofs.NumberValues.{sum-stays, value-sum, value-guarded, value-constant}
+use Rattle.step.proofs.NumberValues.{value-constant, value-size, value-left}
 use Rattle.step.proofs.value.Statement.{statement}
 use Rattle.step.proofs.value.Tie as tie
 
@@ -10,8 +10,9 @@ value-spec =
     (tie.spec
     (λ c. search needs)
     (λ c. search needs)
-    (λ c. search (needs, value-guarded))
+    (λ c κs. search needs)
     (λ c. search needs)
-    (λ c. search (needs, sum-stays))
+    (λ c κs. search needs)
     (λ c. search (needs, value-constant))
-    (λ c. search (needs, value-sum)))
+    (λ c. search (needs, value-size))
+    (λ c. search (needs, value-left)))
