@@ -7,19 +7,46 @@ pub(crate) fn main_list(n: u8) -> Vec<u8> {
     (1..=n).collect()
 }
 
-/// The value of a number where the procedure's whole list has this size.
-pub(crate) fn value(number: Number, size: usize) -> i64 {
-    match number {
-        Number::Constant(constant) => i64::from(constant),
-        Number::SizePlus(constant) => size as i64 + i64::from(constant),
-    }
+/// What a number may add to its constant, as it stands where the number is.
+#[derive(Clone, Copy)]
+struct Addends {
+    /// The size of the procedure's whole list.
+    whole: usize,
+    /// The size of what the removals so far left of it.
+    left: usize,
 }
 
-/// The index of a position, or none where it is "at or below zero, or past
-/// the end".
-fn index(position: i64, length: usize) -> Option<usize> {
-    let index = usize::try_from(position).ok()?.checked_sub(1)?;
-    (index < length).then_some(index)
+impl Addends {
+    /// For a record's number, where its removals so far left this of the list.
+    fn of(list: &[u8], left: &[u8]) -> Addends {
+        Addends {
+            whole: list.len(),
+            left: left.len(),
+        }
+    }
+
+    /// For a comparison, which has no removals: the whole list is left.
+    fn in_comparison(size: usize) -> Addends {
+        Addends {
+            whole: size,
+            left: size,
+        }
+    }
+
+    /// The value of a number.
+    fn value(self, number: Number) -> i64 {
+        match number {
+            Number::Constant(constant) => i64::from(constant),
+            Number::SizePlus(constant) => self.whole as i64 + i64::from(constant),
+        }
+    }
+
+    /// The index of a position of the list left, or none where it is "at or
+    /// below zero, or past the end".
+    fn index(self, position: Number) -> Option<usize> {
+        let index = usize::try_from(self.value(position)).ok()?.checked_sub(1)?;
+        (index < self.left).then_some(index)
+    }
 }
 
 /// "Removals go left to right, each from what the last one left. A position
@@ -29,7 +56,7 @@ fn index(position: i64, length: usize) -> Option<usize> {
 pub fn remaining(list: &[u8], removals: &[Number]) -> Vec<u8> {
     let mut left = list.to_vec();
     for &removal in removals {
-        match index(value(removal, list.len()), left.len()) {
+        match Addends::of(list, &left).index(removal) {
             Some(index) => {
                 left.remove(index);
             }
@@ -43,16 +70,18 @@ pub fn remaining(list: &[u8], removals: &[Number]) -> Vec<u8> {
 /// position at or below zero, or past the end, touches nothing".
 pub(crate) fn touched(list: &[u8], removals: &[Number], position: Number) -> Option<u8> {
     let left = remaining(list, removals);
-    index(value(position, list.len()), left.len()).map(|index| left[index])
+    let index = Addends::of(list, &left).index(position)?;
+    Some(left[index])
 }
 
 /// Whether a condition "holds for its numbers" with a whole list of this size.
 #[must_use]
 pub fn holds(condition: &Condition, size: usize) -> bool {
+    let value = |number: &Number| Addends::in_comparison(size).value(*number);
     match condition {
-        Condition::Greater(a, b) => value(*a, size) > value(*b, size),
-        Condition::AtLeast(a, b) => value(*a, size) >= value(*b, size),
-        Condition::Equal(a, b) => value(*a, size) == value(*b, size),
+        Condition::Greater(a, b) => value(a) > value(b),
+        Condition::AtLeast(a, b) => value(a) >= value(b),
+        Condition::Equal(a, b) => value(a) == value(b),
         Condition::And(first, second) => holds(first, size) && holds(second, size),
         Condition::Or(first, second) => holds(first, size) || holds(second, size),
         Condition::Not(inner) => !holds(inner, size),
