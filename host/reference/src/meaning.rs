@@ -1,4 +1,5 @@
-//! Document 01, "Meaning": numbers, lists, conditions and the end word.
+//! Document 01, "Meaning": numbers, lists, conditions and the end word; and
+//! document 02, S-2, the size of what is left.
 
 use crate::table::{Condition, Number, Program, Statement};
 
@@ -10,14 +11,17 @@ pub(crate) fn main_list(n: u8) -> Vec<u8> {
 /// What a number may add to its constant, as it stands where the number is.
 #[derive(Clone, Copy)]
 struct Addends {
-    /// The size of the procedure's whole list.
+    /// "the size of the procedure's whole list".
     whole: usize,
-    /// The size of what the removals so far left of it.
+    /// "the size of the list left by the removals already done in that record";
+    /// 0 once it is empty.
     left: usize,
 }
 
 impl Addends {
-    /// For a record's number, where its removals so far left this of the list.
+    /// For a removal or a position a, where the removals already done in its
+    /// record left this of the procedure's whole list. Before removal j these
+    /// are the j − 1 before it, before position a all of them.
     fn of(list: &[u8], left: &[u8]) -> Addends {
         Addends {
             whole: list.len(),
@@ -25,7 +29,8 @@ impl Addends {
         }
     }
 
-    /// For a comparison, which has no removals: the whole list is left.
+    /// For a comparison with a whole list of this size: base 2, "in a
+    /// comparison it equals base 1".
     fn in_comparison(size: usize) -> Addends {
         Addends {
             whole: size,
@@ -38,6 +43,7 @@ impl Addends {
         match number {
             Number::Constant(constant) => i64::from(constant),
             Number::SizePlus(constant) => self.whole as i64 + i64::from(constant),
+            Number::LeftPlus(constant) => self.left as i64 + i64::from(constant),
         }
     }
 
@@ -50,8 +56,8 @@ impl Addends {
 }
 
 /// "Removals go left to right, each from what the last one left. A position
-/// outside 1 to the length empties the list". `list` is the whole list, whose
-/// size the numbers use throughout.
+/// outside 1 to the length empties the list". `list` is the whole list; base 1
+/// keeps to its size throughout, base 2 goes by the size left before each.
 #[must_use]
 pub fn remaining(list: &[u8], removals: &[Number]) -> Vec<u8> {
     let mut left = list.to_vec();

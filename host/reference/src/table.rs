@@ -9,6 +9,9 @@ pub enum Number {
     Constant(i16),
     /// "base 1 adds the size of the procedure's whole list".
     SizePlus(i16),
+    /// Document 02, S-2: "Base 2 of a number adds the size of the list left by
+    /// the removals already done in that record".
+    LeftPlus(i16),
 }
 
 /// Kinds 0 to 5. A statement without removals has an empty row of them.
@@ -262,17 +265,17 @@ impl Reader<'_> {
         Ok(removals)
     }
 
-    /// A base byte and a constant, each "tested as it comes".
+    /// A base byte and a constant, each "tested as it comes". Document 02, S-2:
+    /// "Base 2 no longer gives 6, under edition 1 too."
     fn number(&mut self) -> Result<Number, u32> {
-        let base = self.byte()?;
-        if base > 1 {
-            return Err(refusal::FIELD);
-        }
+        let with_base = match self.byte()? {
+            0 => Number::Constant,
+            1 => Number::SizePlus,
+            2 => Number::LeftPlus,
+            _ => return Err(refusal::FIELD),
+        };
         let constant = i16::from_le_bytes([self.byte()?, self.byte()?]);
-        Ok(match base {
-            0 => Number::Constant(constant),
-            _ => Number::SizePlus(constant),
-        })
+        Ok(with_base(constant))
     }
 
     /// "bit 3, a procedure byte, 1 to p".
