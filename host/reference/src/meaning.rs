@@ -145,3 +145,41 @@ fn given(program: &Program, statement: &Statement, list: &[u8], word: u64) -> u6
         },
     }
 }
+
+#[cfg(test)]
+mod tests {
+    use super::Addends;
+    use crate::table::Number::{Constant, LeftPlus, SizePlus};
+
+    #[test]
+    fn each_base_adds_its_own_size() {
+        let addends = Addends { whole: 5, left: 3 };
+        assert_eq!(addends.value(Constant(-1)), -1);
+        assert_eq!(addends.value(SizePlus(-1)), 4);
+        assert_eq!(addends.value(LeftPlus(-1)), 2);
+        let long = Addends {
+            whole: 32,
+            left: 31,
+        };
+        assert_eq!(long.value(LeftPlus(i16::MAX)), 32_798);
+        assert_eq!(long.value(LeftPlus(i16::MIN)), -32_737);
+    }
+
+    /// No position of an empty list is anything, so no answer shows this.
+    #[test]
+    fn base_2_is_the_constant_once_the_list_is_empty() {
+        let emptied = Addends::of(&[1, 2, 3], &[]);
+        for constant in [i16::MIN, -1, 0, 1, 3, i16::MAX] {
+            assert_eq!(emptied.value(LeftPlus(constant)), i64::from(constant));
+            assert_eq!(emptied.index(LeftPlus(constant)), None);
+        }
+    }
+
+    #[test]
+    fn in_a_comparison_the_whole_list_is_left() {
+        for size in 0..=32 {
+            let addends = Addends::in_comparison(size);
+            assert_eq!(addends.value(LeftPlus(-7)), addends.value(SizePlus(-7)));
+        }
+    }
+}
