@@ -114,9 +114,15 @@
 #define FOQ_MAP_PROCEDURE 8u
 #define FOQ_MOST_REMOVALS 8u
 
-/* A number is a base and a signed 16-bit constant, low byte first. */
+/*
+ * A number is a base and a signed 16-bit constant, low byte first. FOQ_BASE_LEFT
+ * counts, in a removal, what the removals in front of it in its record leave, and
+ * in position a what all of them leave; that is 0 once the list is empty. In a
+ * comparison, where nothing is removed, it is as FOQ_BASE_SIZE.
+ */
 #define FOQ_BASE_CONSTANT 0u /* the constant alone */
 #define FOQ_BASE_SIZE 1u     /* added to the size of the procedure's whole list */
+#define FOQ_BASE_LEFT 2u     /* added to the size of what the removals so far leave of it */
 
 /* Statements. NOT, qcase and call may carry removals, no other kind may. */
 #define FOQ_KIND_SKIP 0u

@@ -33,7 +33,7 @@ refusals! {
     MANY_PROCEDURES = 3, "more than 16 procedures";
     WRONG_KIND = 4, "kind unknown, or condition and statement exchanged";
     WRONG_MAP = 5, "a map that the record's kind does not permit";
-    WRONG_FIELD = 6, "a removal count that is not 1 to 8, a base that is not 0 or 1, or a procedure that the table does not have";
+    WRONG_FIELD = 6, "a removal count that is not 1 to 8, a base that is not 0, 1 or 2, or a procedure that the table does not have";
     TOO_DEEP = 7, "a tree more than 32 records deep, or a 256th record";
     BYTES_LEFT = 8, "bytes left over behind the last body";
     WRONG_QUBITS = 9, "n is not 1 to 32";
