@@ -1,4 +1,5 @@
-//! A tree as the bytes of a table (document 01, "The program table"), and back.
+//! A tree as the bytes of a table (document 01, "The program table", and base 2
+//! of document 02), and back.
 
 use crate::tree::{
     Comparison, Condition, Number, Program, Qubit, Statement, MOST_PROCEDURES, MOST_REMOVALS,
@@ -124,13 +125,14 @@ fn put_number(table: &mut Vec<u8>, number: Number) {
     let (base, constant) = match number {
         Number::Constant(constant) => (0, constant),
         Number::SizePlus(constant) => (1, constant),
+        Number::LeftPlus(constant) => (2, constant),
     };
     table.push(base);
     table.extend(constant.to_le_bytes());
 }
 
-/// The program of a table; none exactly where document 01 refuses the table
-/// with one of the numbers 1 to 8. Which of them, the verdict says.
+/// The program of a table; none exactly where documents 01 and 02 refuse the
+/// table with one of the numbers 1 to 8. Which of them, the verdict says.
 #[must_use]
 pub fn decode(table: &[u8]) -> Option<Program> {
     let mut rest = Rest {
@@ -261,6 +263,7 @@ impl Rest<'_> {
         match base {
             0 => Some(Number::Constant(constant)),
             1 => Some(Number::SizePlus(constant)),
+            2 => Some(Number::LeftPlus(constant)),
             _ => None,
         }
     }

@@ -1,12 +1,15 @@
 //! The tree of a program: what a table and a text both say.
 
-/// A number: the constant alone, or the size of the whole list and a constant.
+/// A number: the constant alone, or a size and a constant.
 #[derive(Clone, Copy, Debug, PartialEq, Eq)]
 pub enum Number {
     /// Base 0.
     Constant(i16),
-    /// Base 1.
+    /// Base 1: the size of the whole list.
     SizePlus(i16),
+    /// Base 2: the size of what the removals before it in its statement left; in
+    /// a comparison that of the whole list.
+    LeftPlus(i16),
 }
 
 /// The entry that a NOT or a qcase touches.

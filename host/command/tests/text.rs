@@ -2,6 +2,7 @@
 
 use foq_command::bytes::encode;
 use foq_command::text::parse;
+use foq_command::tree;
 use foq_generator::tree::{
     call, case, choose, longer_than, not, procedure, qcase, sequence, table, Condition, Number,
     Statement,
@@ -202,4 +203,180 @@ fn procedures_are_numbered_as_declared() {
     let own = "decl größe(q) { call größe(q - [1]); } :: call größe(q);";
     assert_eq!(assembled(own), procedure(call(1, &[1])));
     assert_eq!(assembled("::skip;"), [1, 0, 0, 0]);
+}
+
+/// A constant as the parser gives it.
+fn constant(constant: i16) -> tree::Number {
+    tree::Number::Constant(constant)
+}
+
+/// The whole list's size and a constant, as the parser gives them.
+fn size(constant: i16) -> tree::Number {
+    tree::Number::SizePlus(constant)
+}
+
+/// The size of what is left and a constant, as the parser gives them.
+fn left(constant: i16) -> tree::Number {
+    tree::Number::LeftPlus(constant)
+}
+
+/// The removals and the position of a text's one NOT.
+fn touched(text: &str) -> (Vec<tree::Number>, tree::Number) {
+    match parse(&format!(":: {text} *= NOT;")).map(|program| program.main) {
+        Ok(tree::Statement::Not(qubit)) => (qubit.removals, qubit.position),
+        other => panic!("{text}: {other:?}"),
+    }
+}
+
+/// Asserts that what a NOT touches has these removals and this position.
+fn touches(text: &str, removals: &[tree::Number], position: tree::Number) {
+    assert_eq!(touched(text), (removals.to_vec(), position), "{text}");
+}
+
+#[test]
+fn the_size_left_has_its_bytes() {
+    let position = [1, 0, 3, 1, 1, 0, 1, 0, 2, 0xfe, 0xff];
+    assert_eq!(assembled(":: (q - [1])[|s| - 2] *= NOT;"), position);
+    let removal = [1, 1, 9, 5, 2, 0, 1, 0, 2, 3, 0, 1, 0, 0];
+    assert_eq!(main_statement("call f(q - [1] - [|s| + 3]);"), removal);
+    let comparison = [1, 0, 0, 3, 6, 6, 2, 0, 0, 1, 0, 0, 0, 0, 0, 0];
+    let text = ":: if |s| > |q| then skip; else skip;";
+    assert_eq!(assembled(text), comparison);
+    let other_side = [1, 0, 0, 3, 6, 8, 0, 4, 0, 2, 0xff, 0xff, 0, 0, 0, 0];
+    let text = ":: if 4 = |s| - 1 then skip; else skip;";
+    assert_eq!(assembled(text), other_side);
+}
+
+#[test]
+fn the_size_left_is_base_2_everywhere() {
+    touches("q[|s|]", &[], left(0));
+    touches("q - [|s|][1]", &[left(0)], constant(1));
+    touches("(q - [1])[|s| + 2 - 3]", &[constant(1)], left(-1));
+    touches("(q - [|s|] - [|s|])[|s|]", &[left(0), left(0)], left(0));
+    // Other sizes are those of the whole list, as before.
+    touches("(q - [1])[|q|]", &[constant(1)], size(0));
+    touches("(q - [|s|])[-1]", &[left(0)], size(-1));
+    touches("(q - [|s|] - [-1])[-2]", &[left(0), size(-1)], size(-3));
+}
+
+#[test]
+fn the_list_so_far_may_be_written_out() {
+    let one = constant(1);
+    touches("(q - [1])[|q - [1]|]", &[one], left(0));
+    touches("q ⊖ [1] ⊖ [|q̄ ⊖ [1]| − 2][1]", &[one, left(-2)], one);
+    touches("(q - [1, 2])[|q - [1, 2]| + 1]", &[one, one], left(1));
+    touches("(q - [1, 2])[|q - [1] - [1]|]", &[one, one], left(0));
+    touches("(q - [1] - [1])[|q - [1, 2]|]", &[one, one], left(0));
+    touches("(q - [-1])[|q - [|q|]|]", &[size(0)], left(0));
+    touches("(q - [3 - 2])[|q - [1]|]", &[one], left(0));
+    let nil = constant(0);
+    for text in ["nil[|nil|]", "nil[|q - [0]|]", "(q - [0])[|nil|]"] {
+        touches(text, &[nil], left(0));
+    }
+    touches("(nil - [2])[|nil - [2]|]", &[nil, constant(2)], left(0));
+    touches("nil - [|nil|][1]", &[nil, left(0)], one);
+}
+
+#[test]
+fn lists_between_bars_may_hold_sizes_left() {
+    touches(
+        "(q - [|s|] - [1])[|q - [|s|] - [1]|]",
+        &[left(0), constant(1)],
+        left(0),
+    );
+    // Each list is the one before it, less its last qubit: as deep as bars go.
+    let deeper = |list: String, _| match list.as_str() {
+        "q" => "q - [|s|]".to_string(),
+        list => format!("{list} - [|{list}|]"),
+    };
+    let deepest = (0..8).fold("q".to_string(), deeper);
+    touches(&format!("({deepest})[|{deepest}|]"), &[left(0); 8], left(0));
+}
+
+#[test]
+fn a_procedure_may_still_be_called_s() {
+    let text = "decl s(q) { call s(q - [|s|]); } :: call s(q);";
+    let bytes = [1, 1, 8, 5, 1, 9, 5, 1, 2, 0, 0, 1];
+    assert_eq!(assembled(text), bytes);
+}
+
+#[test]
+fn the_size_left_in_a_bracket_is_that_before_it() {
+    let [one, two] = [1, 2].map(constant);
+    touches("q - [|s|, |s| - 1][1]", &[left(0), left(0)], one);
+    touches("q - [|s| - 1, |s|][1]", &[left(-1), left(0)], one);
+    let three = [left(-1), left(-1), left(1)];
+    touches("q - [|s| - 1, |s| - 2, |s| + 1][2]", &three, two);
+    let written_out = "q - [1] - [|q - [1]|, |q - [1]| - 2][1]";
+    touches(written_out, &[one, left(0), left(-1)], one);
+    // Positions of a qcase stand side by side: nothing is removed between them.
+    let both = "qcase (q - [1])[1, |s|] of { 00 -> skip; 01 -> skip; 10 -> skip; 11 -> skip; }";
+    let inner = [3, 4, 1, 0, 1, 0, 2, 0, 0, 0, 0, 0, 0];
+    let mut bytes = vec![1, 0, 3, 4, 1, 0, 1, 0, 0, 1, 0];
+    bytes.extend(inner.repeat(2));
+    assert_eq!(assembled(&format!(":: {both}")), bytes);
+}
+
+/// What removals leave of a list whose entries are its positions.
+fn remaining(removals: &[tree::Number], whole: i64) -> Vec<i64> {
+    let mut list: Vec<i64> = (1..=whole).collect();
+    for removal in removals {
+        let position = match *removal {
+            tree::Number::Constant(constant) => i64::from(constant),
+            tree::Number::SizePlus(constant) => whole + i64::from(constant),
+            tree::Number::LeftPlus(constant) => list.len() as i64 + i64::from(constant),
+        };
+        if (1..=list.len() as i64).contains(&position) {
+            list.remove(position as usize - 1);
+        } else {
+            list.clear();
+        }
+    }
+    list
+}
+
+/// What a bracket of positions, each so far from the end, leaves of a list.
+fn without(list: Vec<i64>, from_end: [i64; 3]) -> Vec<i64> {
+    let length = list.len() as i64;
+    let positions = from_end.map(|constant| length + constant);
+    if !positions
+        .iter()
+        .all(|position| (1..=length).contains(position))
+    {
+        return Vec::new();
+    }
+    let numbered = (1..).zip(list);
+    let kept = numbered.filter(|(position, _)| !positions.contains(position));
+    kept.map(|(_, entry)| entry).collect()
+}
+
+/// Every three different constants from -4 to 1, in every order.
+fn three_constants() -> impl Iterator<Item = [i64; 3]> {
+    let all = || -4..=1;
+    let pairs = all().flat_map(move |a| all().map(move |b| [a, b]));
+    let threes = pairs.flat_map(move |[a, b]| all().map(move |c| [a, b, c]));
+    threes.filter(|[a, b, c]| a != b && b != c && a != c)
+}
+
+#[test]
+fn a_bracket_by_the_size_left_removes_positions_of_the_list_before_it() {
+    let (mut some_left, mut none_left) = (0, 0);
+    for before in ["q", "q - [1]", "q - [-1]", "q - [2] - [|s| - 1]", "nil"] {
+        let (first, _) = touched(&format!("({before})[1]"));
+        for constants in three_constants() {
+            let bracket = constants.map(|constant| format!("|s| + {} - 4", 4 + constant));
+            let list = format!("{before} - [{}]", bracket.join(", "));
+            let (removals, _) = touched(&format!("({list})[1]"));
+            for whole in 0..=8 {
+                let expected = without(remaining(&first, whole), constants);
+                assert_eq!(remaining(&removals, whole), expected, "{list}, {whole}");
+                some_left += usize::from(!expected.is_empty());
+                none_left += usize::from(expected.is_empty());
+            }
+        }
+    }
+    assert!(
+        some_left > 700 && none_left > 700,
+        "{some_left}, {none_left}"
+    );
 }

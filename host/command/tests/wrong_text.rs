@@ -64,12 +64,81 @@ line 1, column 6: a constant outside -32768 to 32767
 line 1, column 10: a comment without its `*/`
 ";
 
-#[test]
-fn wrong_texts_are_told_where_and_why() {
-    let lines: Vec<&str> = WRONG.lines().collect();
-    assert_eq!(lines.len(), 2 * 22);
+/// Asserts of so many wrong texts, each on a line above what is said of it, that
+/// this is said.
+fn assert_told(texts: &str, count: usize) {
+    let lines: Vec<&str> = texts.lines().collect();
+    assert_eq!(lines.len(), 2 * count);
     for pair in lines.chunks(2) {
         assert_eq!(error(pair[0]), pair[1], "{}", pair[0]);
+    }
+}
+
+#[test]
+fn wrong_texts_are_told_where_and_why() {
+    assert_told(WRONG, 22);
+}
+
+/// Wrong sizes, each on a line above what is said of it.
+const WRONG_SIZES: &str = "\
+:: q[|x|] *= NOT;
+line 1, column 7: expected `q`, `nil` or `s`, found `x`
+:: q[|s - [1]|] *= NOT;
+line 1, column 9: expected `|`, found `-`
+:: (q - [1])[|q - [1]] *= NOT;
+line 1, column 22: expected `|`, found `]`
+:: (q - [1])[|q - 1|] *= NOT;
+line 1, column 19: expected `[`, found `1`
+:: q[|q - [1]|] *= NOT;
+line 1, column 6: the size between bars must be that of `q`, from which nothing is removed so far; a smaller one is a difference, like `|q| - 1`
+:: if 1 > |q - [1]| then skip; else skip;
+line 1, column 11: the size between bars must be that of `q`, from which nothing is removed so far; a smaller one is a difference, like `|q| - 1`
+:: if |nil| > 1 then skip; else skip;
+line 1, column 7: the size between bars must be that of `q`, from which nothing is removed so far; a smaller one is a difference, like `|q| - 1`
+:: q - [1, |q - [1]|][1] *= NOT;
+line 1, column 12: the size between bars must be that of `q`, from which nothing is removed so far; a smaller one is a difference, like `|q| - 1`
+:: (q - [1])[2 + |s|] *= NOT;
+line 1, column 18: expected a number, found `|`
+:: (q - [1])[|q - [2]| + 1] *= NOT;
+line 1, column 14: the size between bars must be that of `q`, or of the list so far, here `q - [1]`; write `|s|` for the second
+:: (q - [1] - [1])[|q - [1]|] *= NOT;
+line 1, column 20: the size between bars must be that of `q`, or of the list so far, here `q - [1] - [1]`; write `|s|` for the second
+:: (q - [-1])[|q - [|s|]|] *= NOT;
+line 1, column 15: the size between bars must be that of `q`, or of the list so far, here `q - [|q|]`; write `|s|` for the second
+:: q - [1] - [|q - [1] - [1]|][1] *= NOT;
+line 1, column 15: the size between bars must be that of `q`, or of the list so far, here `q - [1]`; write `|s|` for the second
+:: (q - [|s|] - [|s|])[|nil|] *= NOT;
+line 1, column 24: the size between bars must be that of `q`, or of the list so far, here `q - [|s|] - [|s|]`; write `|s|` for the second
+:: (q - [1] - [1] - [1])[|q - [1] - [|q - [2]|] - [1]|] *= NOT;
+line 1, column 38: the size between bars must be that of `q`, or of the list so far, here `q - [1]`; write `|s|` for the second
+:: q - [|s|, |s| + 1 - 1][1] *= NOT;
+line 1, column 14: the same position twice
+:: q - [|s|, 1][1] *= NOT;
+line 1, column 14: positions from both ends in one bracket: which is lower depends on the list, so give each end a bracket
+:: q - [1, |s|][1] *= NOT;
+line 1, column 12: positions from both ends in one bracket: which is lower depends on the list, so give each end a bracket
+:: q - [-1, |s| - 1][1] *= NOT;
+line 1, column 13: positions from `|q|`, as `-1` is, and from `|s|` in one bracket: give each size a bracket
+:: q - [|s|, |q|][1] *= NOT;
+line 1, column 14: positions from `|q|`, as `-1` is, and from `|s|` in one bracket: give each size a bracket
+:: q[|s| + 32768] *= NOT;
+line 1, column 6: a constant outside -32768 to 32767
+";
+
+#[test]
+fn wrong_sizes_are_told_where_and_why() {
+    assert_told(WRONG_SIZES, 21);
+}
+
+#[test]
+fn bars_too_deep_to_walk_are_refused() {
+    let words = "the size between bars must be that of `q`, ";
+    for removed in [0, 1, 2, 7] {
+        let list = format!("q{}", " - [1]".repeat(removed));
+        for inner in ["|q - [", "|q - [1] - [", "|nil - [", "|q - [1, "] {
+            let deep = format!(":: {list} - [{}", inner.repeat(100_000));
+            assert!(error(&deep).contains(words), "{list} - [{inner}");
+        }
     }
 }
 

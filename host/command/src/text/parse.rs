@@ -1,6 +1,7 @@
 //! The program of a text, by recursive descent along the grammar of
 //! `docs/TEXT.md`. Each rule stands above the function that reads it.
 
+use super::print::list;
 use super::tokens::{tokens, Token};
 use super::{Error, Place};
 use crate::tree::{
@@ -58,6 +59,9 @@ fn wrong(place: Place, message: impl Into<String>) -> Error {
 
 /// A position with its place in the text.
 type Placed = (Place, Number);
+
+/// What makes a number of a constant.
+type Base = fn(i16) -> Number;
 
 /// The tokens and where among them the parser stands.
 struct Parser<'a> {
@@ -317,39 +321,49 @@ impl<'a> Parser<'a> {
         } else {
             self.list()?
         };
-        let positions = self.positions(removals.len())?;
+        let positions = self.positions(&removals)?;
         Ok((removals, positions))
     }
 
     /// `list = ( "q" | "nil" ) { "-" positions }`: its removals, one after the
     /// other.
     fn list(&mut self) -> Result<Vec<Number>, Error> {
-        let mut removals = Vec::new();
-        if self.passes("nil") {
-            removals.push(Number::Constant(0));
-        } else {
-            self.expect_as("q", "`q` or `nil`")?;
-        }
+        let mut removals = self.list_start("`q` or `nil`")?;
         while self.passes("-") {
-            let positions = self.positions(removals.len())?;
-            for (turn, &position) in positions.iter().enumerate() {
-                if removals.len() == MOST_REMOVALS {
-                    let message = format!("more than {MOST_REMOVALS} removals");
-                    return Err(wrong(position.0, message));
-                }
-                removals.push(after(position, &positions[..turn])?);
-            }
+            self.remove(&mut removals)?;
         }
         Ok(removals)
     }
 
-    /// `positions = "[" position { "," position } "]"`, in a list with so many
+    /// The `q` or `nil` that a list starts with; nil is a removal.
+    fn list_start(&mut self, expected: &str) -> Result<Vec<Number>, Error> {
+        if self.passes("nil") {
+            return Ok(vec![Number::Constant(0)]);
+        }
+        self.expect_as("q", expected)?;
+        Ok(Vec::new())
+    }
+
+    /// The positions of one bracket, as removals behind those so far.
+    fn remove(&mut self, removals: &mut Vec<Number>) -> Result<(), Error> {
+        let positions = self.positions(removals)?;
+        for (turn, &position) in positions.iter().enumerate() {
+            if removals.len() == MOST_REMOVALS {
+                let message = format!("more than {MOST_REMOVALS} removals");
+                return Err(wrong(position.0, message));
+            }
+            removals.push(after(position, &positions[..turn])?);
+        }
+        Ok(())
+    }
+
+    /// `positions = "[" position { "," position } "]"`, in a list with these
     /// removals.
-    fn positions(&mut self, removed: usize) -> Result<Vec<Placed>, Error> {
+    fn positions(&mut self, so_far: &[Number]) -> Result<Vec<Placed>, Error> {
         self.expect("[")?;
-        let mut positions = vec![self.position(removed)?];
+        let mut positions = vec![self.position(so_far)?];
         while self.passes(",") {
-            positions.push(self.position(removed)?);
+            positions.push(self.position(so_far)?);
         }
         self.expect("]")?;
         Ok(positions)
@@ -358,29 +372,26 @@ impl<'a> Parser<'a> {
     /// `position = number | "-" natural`. The last position of a list with so
     /// many removals is the whole size less those: where they emptied the list
     /// instead, no position is inside.
-    fn position(&mut self, removed: usize) -> Result<Placed, Error> {
+    fn position(&mut self, so_far: &[Number]) -> Result<Placed, Error> {
         let place = self.place();
         if !self.passes("-") {
-            return Ok((place, self.number()?));
+            return Ok((place, self.number(so_far)?));
         }
         let from_end = self.natural()?;
         if from_end == 0 {
             return Err(wrong(place, "positions from the end start with `-1`"));
         }
-        let constant = constant(place, 1 - from_end - removed as i64)?;
+        let constant = constant(place, 1 - from_end - so_far.len() as i64)?;
         Ok((place, Number::SizePlus(constant)))
     }
 
-    /// `number = ( natural | "|" "q" "|" ) { ( "+" | "-" ) natural }`
-    fn number(&mut self) -> Result<Number, Error> {
+    /// `number = ( natural | size ) { ( "+" | "-" ) natural }`, behind these
+    /// removals; a comparison stands behind none.
+    fn number(&mut self, so_far: &[Number]) -> Result<Number, Error> {
         let place = self.place();
-        let size = self.passes("|");
-        let mut sum = if size {
-            self.expect("q")?;
-            self.expect("|")?;
-            0
-        } else {
-            self.natural()?
+        let (base, mut sum): (Base, i64) = match self.next() {
+            Token::Mark("|") => (self.size(so_far)?, 0),
+            _ => (Number::Constant, self.natural()?),
         };
         loop {
             if self.passes("+") {
@@ -391,12 +402,40 @@ impl<'a> Parser<'a> {
                 break;
             }
         }
-        let constant = constant(place, sum)?;
-        Ok(if size {
-            Number::SizePlus(constant)
+        Ok(base(constant(place, sum)?))
+    }
+
+    /// `size = "|" ( list | "s" ) "|"`, behind these removals: of the whole list,
+    /// or of the list so far, which is what they left.
+    fn size(&mut self, so_far: &[Number]) -> Result<Base, Error> {
+        let place = self.place();
+        self.expect("|")?;
+        let base = if self.next() == Token::Name("s") {
+            self.pass();
+            Number::LeftPlus
         } else {
-            Number::Constant(constant)
-        })
+            self.base_of_list(place, so_far)?
+        };
+        self.expect("|")?;
+        Ok(base)
+    }
+
+    /// The base of a size whose list stands between the bars. Such a list is read
+    /// until it has as many removals as the list so far, so that a size inside it
+    /// stands behind fewer, and no text makes bars too deep to walk.
+    fn base_of_list(&mut self, place: Place, so_far: &[Number]) -> Result<Base, Error> {
+        let mut removals = self.list_start("`q`, `nil` or `s`")?;
+        while removals.len() < so_far.len() && self.passes("-") {
+            self.remove(&mut removals)?;
+        }
+        if self.next() == Token::Mark("-") {
+            return Err(wrong_size(place, so_far));
+        }
+        match removals {
+            whole if whole.is_empty() => Ok(Number::SizePlus),
+            left if left == so_far => Ok(Number::LeftPlus),
+            _ => Err(wrong_size(place, so_far)),
+        }
     }
 
     /// `natural`; one beyond 32 bits is as good as the last within them, since
@@ -445,7 +484,7 @@ impl<'a> Parser<'a> {
 
     /// `comparison = number ( ">" | ">=" | "=" ) number`
     fn comparison(&mut self) -> Result<Condition, Error> {
-        let a = self.number()?;
+        let a = self.number(&[])?;
         let comparison = match self.next() {
             Token::Mark(">") => Comparison::Greater,
             Token::Mark(">=") => Comparison::AtLeast,
@@ -453,7 +492,7 @@ impl<'a> Parser<'a> {
             _ => return Err(self.expected("`>`, `>=` or `=`")),
         };
         self.pass();
-        Ok(Condition::Compare(comparison, a, self.number()?))
+        Ok(Condition::Compare(comparison, a, self.number(&[])?))
     }
 }
 
@@ -462,24 +501,55 @@ fn constant(place: Place, value: i64) -> Result<i16, Error> {
     i16::try_from(value).map_err(|_| wrong(place, "a constant outside -32768 to 32767"))
 }
 
+/// The error of a size that is neither the whole list's nor that of the list so
+/// far, which these removals left.
+fn wrong_size(place: Place, so_far: &[Number]) -> Error {
+    if so_far.is_empty() {
+        let message = "the size between bars must be that of `q`, from which nothing is \
+                       removed so far; a smaller one is a difference, like `|q| - 1`";
+        return wrong(place, message);
+    }
+    let left = list(so_far);
+    let message = format!(
+        "the size between bars must be that of `q`, or of the list so far, here `{left}`; \
+         write `|s|` for the second"
+    );
+    wrong(place, message)
+}
+
 /// The number that finds a position once the positions before it in its
-/// bracket are removed: less by one for each of them that is lower.
-fn after((place, position): Placed, earlier: &[Placed]) -> Result<Number, Error> {
+/// bracket are removed: less by one for each of them that is lower. The size
+/// left is less by one for each of them, which its constant makes good.
+fn after(position: Placed, earlier: &[Placed]) -> Result<Number, Error> {
     let mut lower = 0;
     for &(_, other) in earlier {
-        lower += match (position, other) {
-            _ if position == other => return Err(wrong(place, "the same position twice")),
-            (Number::Constant(own), Number::Constant(other))
-            | (Number::SizePlus(own), Number::SizePlus(other)) => i64::from(other < own),
-            _ => {
-                let message = "positions from both ends in one bracket: which is lower \
-                               depends on the list, so give each end a bracket";
-                return Err(wrong(place, message));
-            }
-        };
+        lower += i64::from(is_lower(other, position)?);
     }
+    let (place, position) = position;
+    let less = |own: i16, by: i64| constant(place, i64::from(own) - by);
     Ok(match position {
-        Number::Constant(own) => Number::Constant(constant(place, i64::from(own) - lower)?),
-        Number::SizePlus(own) => Number::SizePlus(constant(place, i64::from(own) - lower)?),
+        Number::Constant(own) => Number::Constant(less(own, lower)?),
+        Number::SizePlus(own) => Number::SizePlus(less(own, lower)?),
+        Number::LeftPlus(own) => Number::LeftPlus(less(own, lower - earlier.len() as i64)?),
     })
+}
+
+/// Whether an earlier position of a bracket is lower than one behind it.
+fn is_lower(earlier: Number, (place, position): Placed) -> Result<bool, Error> {
+    match (earlier, position) {
+        _ if earlier == position => Err(wrong(place, "the same position twice")),
+        (Number::Constant(earlier), Number::Constant(own))
+        | (Number::SizePlus(earlier), Number::SizePlus(own))
+        | (Number::LeftPlus(earlier), Number::LeftPlus(own)) => Ok(earlier < own),
+        (Number::Constant(_), _) | (_, Number::Constant(_)) => {
+            let message = "positions from both ends in one bracket: which is lower depends on \
+                           the list, so give each end a bracket";
+            Err(wrong(place, message))
+        }
+        _ => {
+            let message = "positions from `|q|`, as `-1` is, and from `|s|` in one bracket: \
+                           give each size a bracket";
+            Err(wrong(place, message))
+        }
+    }
 }

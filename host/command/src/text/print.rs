@@ -84,7 +84,7 @@ fn single(statement: &Statement) -> Lines {
 
 /// A touched qubit.
 fn qubit(touched: &Qubit) -> String {
-    let position = number(touched.position);
+    let position = number(touched.position, &touched.removals);
     if touched.removals.is_empty() {
         return format!("q[{position}]");
     }
@@ -92,22 +92,35 @@ fn qubit(touched: &Qubit) -> String {
 }
 
 /// A list, with its removals one after the other.
-fn list(removals: &[Number]) -> String {
-    let removals = removals
-        .iter()
-        .map(|&removal| format!(" - [{}]", number(removal)));
-    format!("q{}", removals.collect::<String>())
+pub(super) fn list(removals: &[Number]) -> String {
+    let in_turn = removals.iter().enumerate();
+    let written = in_turn.map(|(turn, &removal)| {
+        let removal = number(removal, &removals[..turn]);
+        format!(" - [{removal}]")
+    });
+    format!("q{}", written.collect::<String>())
 }
 
-/// A number; a negative constant is a difference.
-fn number(number: Number) -> String {
+/// The size of what these removals left. The list stands between the bars,
+/// unless a removal has such a size itself: then the text would nest.
+fn size_left(so_far: &[Number]) -> String {
+    let nests = |removal: &Number| matches!(removal, Number::LeftPlus(_));
+    if so_far.is_empty() || so_far.iter().any(nests) {
+        return "|s|".to_string();
+    }
+    format!("|{}|", list(so_far))
+}
+
+/// A number behind these removals; a negative constant is a difference.
+fn number(number: Number, so_far: &[Number]) -> String {
     let (base, constant) = match number {
         Number::Constant(constant @ 0..) => return constant.to_string(),
-        Number::Constant(constant) => ("0", constant),
-        Number::SizePlus(constant) => ("|q|", constant),
+        Number::Constant(constant) => ("0".to_string(), constant),
+        Number::SizePlus(constant) => ("|q|".to_string(), constant),
+        Number::LeftPlus(constant) => (size_left(so_far), constant),
     };
     match constant {
-        0 => base.to_string(),
+        0 => base,
         1.. => format!("{base} + {constant}"),
         _ => format!("{base} - {}", constant.unsigned_abs()),
     }
@@ -143,7 +156,7 @@ fn factor(part: &Condition) -> String {
                 Comparison::AtLeast => ">=",
                 Comparison::Equal => "=",
             };
-            format!("{} {sign} {}", number(*a), number(*b))
+            format!("{} {sign} {}", number(*a, &[]), number(*b, &[]))
         }
         Condition::And(..) | Condition::Or(..) => format!("({})", condition(part)),
     }
