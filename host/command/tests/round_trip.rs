@@ -17,6 +17,14 @@ use foq_generator::tree::{choose, table};
 use foq_generator::{Random, PAIRS};
 use foq_reference::{read_table, verdict, SHORTEST_WORKSPACE};
 
+/// The text of a program, which assembles to the program's table.
+fn comes_back(program: &Program, table: &[u8]) -> String {
+    let text = print(program);
+    let again = parse(&text).unwrap_or_else(|error| panic!("{error}\n{text}"));
+    assert_eq!(encode(&again), table, "{text}");
+    text
+}
+
 /// Checks one table and counts what it is.
 fn check(table: &[u8], counts: &mut Counts) {
     let Some(program) = decode(table) else {
@@ -25,9 +33,7 @@ fn check(table: &[u8], counts: &mut Counts) {
         return;
     };
     assert!(read_table(table).is_ok(), "{table:02x?}");
-    let text = print(&program);
-    let again = parse(&text).unwrap_or_else(|error| panic!("{error}\n{text}"));
-    assert_eq!(encode(&again), table, "{text}");
+    comes_back(&program, table);
     let accepted = verdict(table, 4, SHORTEST_WORKSPACE) == 0;
     count(counts, "reads", true);
     count(counts, "accepted on 4 qubits", accepted);
@@ -153,4 +159,185 @@ fn every_small_tree_comes_back() {
         let program = Program { main, bodies };
         assert_eq!(parse(&print(&program)), Ok(program));
     }
+}
+
+#[test]
+fn bases_0_to_2_read() {
+    for base in 0..=255 {
+        let table = [1, 0, 2, 1, base, 1, 0];
+        assert_eq!(decode(&table).is_some(), base <= 2, "base {base}");
+    }
+}
+
+/// The numbers of a tree, each with the name of its field.
+type Numbers<'a> = Vec<(&'static str, &'a mut Number)>;
+
+/// The numbers of removals.
+fn removed(removals: &mut [Number]) -> Numbers<'_> {
+    removals
+        .iter_mut()
+        .map(|number| ("removal", number))
+        .collect()
+}
+
+/// The numbers of what a NOT or qcase touches.
+fn touched(qubit: &mut Qubit) -> Numbers<'_> {
+    let mut numbers = removed(&mut qubit.removals);
+    numbers.push(("position", &mut qubit.position));
+    numbers
+}
+
+/// The numbers of a statement.
+fn of_statement(statement: &mut Statement) -> Numbers<'_> {
+    match statement {
+        Statement::Skip => Numbers::new(),
+        Statement::Not(qubit) => touched(qubit),
+        Statement::Sequence(first, second) => {
+            let mut numbers = of_statement(first);
+            numbers.extend(of_statement(second));
+            numbers
+        }
+        Statement::If(condition, yes, no) => {
+            let mut numbers = of_condition(condition);
+            numbers.extend(of_statement(yes));
+            numbers.extend(of_statement(no));
+            numbers
+        }
+        Statement::Qcase(qubit, zero, one) => {
+            let mut numbers = touched(qubit);
+            numbers.extend(of_statement(zero));
+            numbers.extend(of_statement(one));
+            numbers
+        }
+        Statement::Call { removals, .. } => removed(removals),
+    }
+}
+
+/// The numbers of a condition.
+fn of_condition(condition: &mut Condition) -> Numbers<'_> {
+    match condition {
+        Condition::Compare(_, a, b) => vec![("a of a comparison", a), ("b of a comparison", b)],
+        Condition::And(first, second) | Condition::Or(first, second) => {
+            let mut numbers = of_condition(first);
+            numbers.extend(of_condition(second));
+            numbers
+        }
+        Condition::Not(inner) => of_condition(inner),
+    }
+}
+
+/// Draws the base of each number anew, and counts the fields with the size left.
+fn turn_bases(random: &mut Random, program: &mut Program, counts: &mut Counts) {
+    let bodies = program.bodies.iter_mut().flat_map(of_statement);
+    for (field, number) in of_statement(&mut program.main).into_iter().chain(bodies) {
+        let (Number::Constant(constant) | Number::SizePlus(constant) | Number::LeftPlus(constant)) =
+            *number;
+        let bases = [Number::Constant, Number::SizePlus, Number::LeftPlus];
+        let base = random.below(bases.len());
+        *number = bases[base](constant);
+        count(counts, field, base == 2);
+    }
+}
+
+#[test]
+fn tables_with_the_size_left_come_back() {
+    let mut random = Random::from_seed(2);
+    let mut counts = Counts::new();
+    for _ in 0..2_000 {
+        for shape in [SMALL, MERGING, LARGE] {
+            let careful = foq_generator::tree::encode(&program(&mut random, &shape));
+            let wild = foq_generator::tree::encode(&wild_program(&mut random, &shape));
+            for mut program in [careful, wild].iter().filter_map(|table| decode(table)) {
+                turn_bases(&mut random, &mut program, &mut counts);
+                let table = encode(&program);
+                assert_eq!(decode(&table).as_ref(), Some(&program));
+                let text = comes_back(&program, &table);
+                count(&mut counts, "texts", true);
+                count(&mut counts, "|s|", text.contains("|s|"));
+                count(&mut counts, "|q - [", text.contains("|q - ["));
+            }
+        }
+    }
+    let least = [
+        ("removal", 60_000),
+        ("position", 30_000),
+        ("a of a comparison", 15_000),
+        ("b of a comparison", 15_000),
+        ("texts", 10_000),
+        ("|s|", 8_000),
+        ("|q - [", 7_000),
+    ];
+    assert_reached(&counts, &least);
+}
+
+/// Numbers of every base.
+const EVERY_BASE: [Number; 6] = [
+    Number::Constant(0),
+    Number::Constant(1),
+    Number::SizePlus(0),
+    Number::SizePlus(-1),
+    Number::LeftPlus(0),
+    Number::LeftPlus(-1),
+];
+
+/// Every row of at most so many removals.
+fn rows_of_removals(most: usize) -> Vec<Vec<Number>> {
+    let mut rows = vec![vec![]];
+    let mut longest = rows.clone();
+    for _ in 0..most {
+        let longer = |row: &Vec<Number>| EVERY_BASE.map(|number| [&row[..], &[number]].concat());
+        longest = longest.iter().flat_map(longer).collect();
+        rows.extend(longest.clone());
+    }
+    rows
+}
+
+/// A program whose main statement is a NOT.
+fn not(removals: &[Number], position: Number) -> Program {
+    let removals = removals.to_vec();
+    Program {
+        main: Statement::Not(Qubit { removals, position }),
+        bodies: vec![],
+    }
+}
+
+#[test]
+fn every_short_row_of_removals_comes_back() {
+    let rows = rows_of_removals(4);
+    assert_eq!(rows.len(), 1 + 6 + 36 + 216 + 1_296);
+    for removals in rows {
+        for position in EVERY_BASE {
+            let program = not(&removals, position);
+            assert_eq!(parse(&print(&program)), Ok(program));
+        }
+    }
+}
+
+#[test]
+fn the_list_so_far_is_printed_where_it_does_not_nest() {
+    let one = Number::Constant(1);
+    let [last, next] = [0, -1].map(Number::SizePlus);
+    let left = Number::LeftPlus(0);
+    let prints = |removals: &[Number], position, text: &str| {
+        let printed = print(&not(removals, position));
+        assert_eq!(printed, format!(":: {text} *= NOT;\n"));
+    };
+    prints(&[], left, "q[|s|]");
+    prints(&[one], left, "(q - [1])[|q - [1]|]");
+    prints(&[one], Number::LeftPlus(-3), "(q - [1])[|q - [1]| - 3]");
+    prints(
+        &[last, next],
+        left,
+        "(q - [|q|] - [|q| - 1])[|q - [|q|] - [|q| - 1]|]",
+    );
+    prints(&[left], left, "(q - [|s|])[|s|]");
+    prints(&[one, left], left, "(q - [1] - [|q - [1]|])[|s|]");
+    prints(
+        &[one, left, left],
+        one,
+        "(q - [1] - [|q - [1]|] - [|s|])[1]",
+    );
+    let compared = ":: if |s| > |s| + 1 then {\n  skip;\n} else {\n  skip;\n}\n";
+    let printed = parse(compared).map(|program| print(&program));
+    assert_eq!(printed.as_deref(), Ok(compared));
 }
