@@ -64,6 +64,7 @@ fn text_table_listing_and_page_say_the_same() {
         "chained_substring",
         "pairs",
         "palindrome",
+        "reversal",
         "two_ones",
     ];
     assert_eq!(names, known.map(String::from).into());
@@ -153,5 +154,36 @@ fn adder_adds() {
             let start = pairs + (carry << (n - 1));
             assert_eq!(end(&table, n, start), expected, "{a} + {b} + {carry}");
         }
+    }
+}
+
+#[test]
+fn reversal_turns_the_list_round() {
+    let table = table("reversal");
+    for n in 1..=10 {
+        for word in 0..1 << n {
+            let turned = (0..n).map(|bit| (word >> bit & 1) << (n - 1 - bit));
+            assert_eq!(end(&table, n, word), turned.sum(), "n {n}, {word}");
+        }
+    }
+}
+
+#[test]
+fn reversal_compiles_as_with_the_sizes_left_computed_by_hand() {
+    let text = fs::read_to_string(example("reversal.foq.txt")).unwrap();
+    let by_hand = text.replace("[|s|]", "[|q| - 1]");
+    let by_hand = by_hand.replace("[|q - [1]|]", "[|q| - 1]");
+    let by_hand = encode(&parse(&by_hand).unwrap());
+    let table = table("reversal");
+    // Four numbers differ, in their bases and in the two bytes of their constants.
+    let differ = table
+        .iter()
+        .zip(&by_hand)
+        .filter(|(one, other)| one != other);
+    assert_eq!((table.len(), differ.count()), (by_hand.len(), 4 * 3));
+    for n in 1..=32 {
+        let circuit = foq::compile_to_vec(&table, n);
+        assert_eq!(circuit, foq::compile_to_vec(&by_hand, n), "n {n}");
+        assert!(circuit.is_ok(), "n {n}");
     }
 }
