@@ -1,52 +1,20 @@
 -- The lengths that calls lead to: a call leaves as many entries less as it carries removals, and the sums of such numbers are closed.
 use mathlib.Core.Path.{_≡_, refl, sym, ap, _∙_, subst}
 use mathlib.Core.Bool.{true, false}
-use mathlib.Core.List.{List, [], _∷_}
+use mathlib.Core.List.{List}
 use Prim.Native.Nat.{ℕ, zero, suc, _+_, _-_, _*_, _/_, _%_, _^_, _≤_, _<_, zero-le}
-use native.Mathlib.Nat.{not-suc-le-zero, le-of-suc-le-suc, mul-assoc}
+use native.Mathlib.Nat.{not-suc-le-zero, mul-assoc}
 use native.Mathlib.Decide.{le-ind}
 use native.Mathlib.Omega.{arith}
-use borrow.Author.Tests.{ltb-true}
 use lib.Bits.{bitOr, shifted-even}
 use lib.Pow.{pow-add, shl-shr, shr-shr, field, mod-mod-pow}
-use lib.ListN.{length}
-use lib.Dec.{eqb, ltb}
-use Rattle.model.specs.Syntax.{Number}
-use Rattle.model.specs.Lists.{sizes, value, position, delete, remove, removeAll, remaining}
+use lib.Dec.{eqb}
 use Rattle.model.specs.Meaning.{bit}
 use Rattle.model.proofs.BooleanLaws.{byBool, byEq, clash, or-left, or-right, or-cases}
-use Rattle.model.proofs.ListLaws.{remove-in, remove-out}
 use Rattle.table.specs.Index.{bodyAt}
 use Rattle.faults.specs.Rows.{rowOf, rowIs}
 use Rattle.faults.specs.CallLengths.{removalCounts, countsBelow, sumsBelow}
 use Rattle.faults.proofs.RowLaws.{or-bit, row-at}
-
--- a removal takes one entry away or empties the list
-delete-length : (i : ℕ) (l : List ℕ) → i < length l → suc (length (delete i l)) ≡ length l
-unfolding delete
-delete-length i [] h = absurd (not-suc-le-zero h)
-delete-length zero (x ∷ l) h = refl
-delete-length (suc i) (x ∷ l) h = ap suc (delete-length i l (le-of-suc-le-suc h))
-
-remove-length : (k : ℕ) (l : List ℕ) → 0 < length (remove k l) → suc (length (remove k l)) ≡ length l
-unfolding remove
-remove-length zero l some = absurd (not-suc-le-zero some)
-remove-length (suc i) l some = byBool (ltb i (length l))
-    (λ e. rw (remove-in i l e) (delete-length i l (ltb-true i (length l) e)))
-    (λ e. absurd (not-suc-le-zero (rw (remove-out i l e) at some)))
-
-removeAll-length : (l : List ℕ) (rs : List Number) (now : List ℕ) → 0 < length (removeAll l rs now) → length (removeAll l rs now) + length rs ≡ length now
-unfolding removeAll
-removeAll-length l [] now some = omega arith
-removeAll-length l (a ∷ rs) now some =
-    let k = position (value a (sizes l now)) in
-    let rest : List ℕ = remove k now in
-    let less : length (removeAll l rs rest) + length rs ≡ length rest = removeAll-length l rs rest some in
-    let one : suc (length rest) ≡ length now = remove-length k now (omega arith) in
-    omega arith
-
-pub remaining-length : (rs : List Number) (l : List ℕ) → 0 < length (remaining rs l) → length (remaining rs l) + length rs ≡ length l
-remaining-length rs l some = removeAll-length l rs l some
 
 -- the bits of a word of which 64 stay when it is shifted up
 bit-mod : (x t d : ℕ) → bit (x % 2 ^ (suc d + t)) t ≡ bit x t

@@ -17,11 +17,11 @@ use Rattle.model.proofs.BooleanLaws.{and-left, and-right, and-both, or-left, or
 use Rattle.model.proofs.ListLaws.{member-head, member-tail, not-in-nil, member-cases, Distinct, subset-out, range-distinct, range-length, holds-same}
 use Rattle.model.proofs.ListLaws.{remaining-map, remaining-subset, remaining-distinct, remaining-no-longer, touched-map}
 use Rattle.model.proofs.ListLaws.{Data, data-zero, data-remaining, data-touched, qubits-data}
+use Rattle.model.proofs.SizeOfWhatIsLeft.{remaining-length}
 use Rattle.model.proofs.ReachAndRank.{Named, Ranked, rank, rank-all, all-ranked}
 use Rattle.model.proofs.EnoughFuel.{faults-yes, faults-no, call-falls}
 use Rattle.faults.specs.TouchedPositions.{Touched, CallTouches, joined, closes, carried, callTouches, touches, touchesWithin}
 use Rattle.faults.specs.CallLengths.{removalCounts}
-use Rattle.faults.proofs.CallLengthLaws.{remaining-length}
 
 -- is one of the positions touched among those that c tells?
 abbrev meets : ℕ → Touched → (ℕ → Bool) → Bool

@@ -1,6 +1,8 @@
 pub mod BooleanLaws
 pub mod OutcomeLaws
 pub mod ListLaws
+pub mod SizeOfWhatIsLeft
+pub mod BasesZeroAndOne
 pub mod AscendingWires
 pub mod ByteAtAPlace
 pub mod GateLaws

@@ -5,8 +5,8 @@ use mathlib.Core.Path.{_≡_, refl}
 use mathlib.Core.List.{List, [], _∷_, _++_, map}
 use Rattle.model.specs.Limits.{mostCircuit, leastWorkspace}
 use Rattle.model.specs.Examples.{
-  Example, examples, orders, Compared, compared, pairs, pairsCircuit, pairsListing, needsSwap, swapCircuit, equalLengths, equalCircuit, twoEntries,
-  entriesCircuit, rightPart, rightCircuit,
+  Example, examples, examplesLeft, orders, Compared, compared, pairs, pairsCircuit, pairsListing, needsSwap, swapCircuit, equalLengths, equalCircuit,
+  twoEntries, entriesCircuit, rightPart, rightCircuit,
 }
 use Rattle.model.specs.Reading.{
   andThen, provided, byteOf, signed16, numberOf, numbers, removals, procedure, statementKind, conditionKind, optional, fields, known, opening,
@@ -54,7 +54,7 @@ runBits e word = blockOf (stateOf (valueOr 0 (run (e .table) (e .n) word leastWo
 
 -- what is proved of the worked programs
 pub record Facts : Type 0 where
-  pub examplesHold : map computed (examples ++ orders) ≡ map stated (examples ++ orders)
+  pub examplesHold : map computed (examples ++ examplesLeft ++ orders) ≡ map stated (examples ++ examplesLeft ++ orders)
   -- the circuit of PAIRS, and the circuit of a body that needs a swap
   pub pairsEmitted : compile pairs 3 mostCircuit leastWorkspace ≡ gives pairsCircuit
   pub swapEmitted : compile needsSwap 4 mostCircuit leastWorkspace ≡ gives swapCircuit

@@ -144,6 +144,26 @@ twoLengths =
     ∷ 0x09 ∷ 0x05 ∷ 0x02 ∷ 0x00 ∷ 0x01 ∷ 0x00 ∷ 0x00 ∷ 0x01 ∷ 0x00 ∷ 0x01
     ∷ 0x02 ∷ 0x01 ∷ 0x00 ∷ 0x01 ∷ 0x00 ∷ []
 
+-- document 02, S-2: "Base 2 of a number adds the size of the list left by the removals already done in that record". Main removes position 1 and the
+-- last of what that leaves, and flips the last of what is left then; both numbers are base 2 and constant 0
+abbrev pub lastLeft : List ℕ
+lastLeft = 0x01 ∷ 0x00 ∷ 0x03 ∷ 0x01 ∷ 0x02 ∷ 0x00 ∷ 0x01 ∷ 0x00 ∷ 0x02 ∷ 0x00 ∷ 0x00 ∷ 0x02 ∷ 0x00 ∷ 0x00 ∷ []
+
+-- "in a comparison it equals base 1": main flips qubit 2 where base 2 and base 1 with constant 0 are equal, else qubit 1
+abbrev pub equalSizes : List ℕ
+equalSizes =
+    0x01 ∷ 0x00 ∷ 0x00 ∷ 0x03 ∷ 0x06 ∷ 0x08 ∷ 0x02 ∷ 0x00 ∷ 0x00 ∷ 0x01 ∷ 0x00 ∷ 0x00
+    ∷ 0x02 ∷ 0x01 ∷ 0x00 ∷ 0x02 ∷ 0x00 ∷ 0x02 ∷ 0x01 ∷ 0x00 ∷ 0x01 ∷ 0x00 ∷ []
+
+-- the list turned round (source 000, example 1, procedure inv): first and last change places, then a self call without both
+abbrev pub reversal : List ℕ
+reversal =
+    0x01 ∷ 0x01 ∷ 0x08 ∷ 0x05 ∷ 0x01 ∷ 0x00 ∷ 0x03 ∷ 0x06 ∷ 0x06 ∷ 0x01 ∷ 0x00 ∷ 0x00 ∷ 0x00 ∷ 0x01 ∷ 0x00 ∷ 0x00 ∷ 0x02 ∷ 0x02 ∷ 0x04 ∷ 0x00
+    ∷ 0x01 ∷ 0x00 ∷ 0x00 ∷ 0x00 ∷ 0x03 ∷ 0x01 ∷ 0x01 ∷ 0x00 ∷ 0x01 ∷ 0x00 ∷ 0x02 ∷ 0x00 ∷ 0x00 ∷ 0x00 ∷ 0x02 ∷ 0x03 ∷ 0x04 ∷ 0x01 ∷ 0x00 ∷ 0x01
+    ∷ 0x00 ∷ 0x02 ∷ 0x00 ∷ 0x00 ∷ 0x00 ∷ 0x00 ∷ 0x02 ∷ 0x01 ∷ 0x00 ∷ 0x01 ∷ 0x00 ∷ 0x00 ∷ 0x02 ∷ 0x02 ∷ 0x04 ∷ 0x00 ∷ 0x01 ∷ 0x00 ∷ 0x00 ∷ 0x00
+    ∷ 0x03 ∷ 0x01 ∷ 0x01 ∷ 0x00 ∷ 0x01 ∷ 0x00 ∷ 0x02 ∷ 0x00 ∷ 0x00 ∷ 0x09 ∷ 0x05 ∷ 0x02 ∷ 0x00 ∷ 0x01 ∷ 0x00 ∷ 0x02 ∷ 0x00 ∷ 0x00 ∷ 0x01 ∷ 0x00
+    ∷ 0x00 ∷ []
+
 -- programs whose circuits are compared with their runs from every start word
 pub record Compared : Type 0 where
   pub table : List ℕ
@@ -155,6 +175,7 @@ compared =
     ∷ record { table = needsSwap; n = 4 }
     ∷ record { table = needsTracking; n = 4 }
     ∷ record { table = twoLengths; n = 4 }
+    ∷ record { table = reversal; n = 4 }
     ∷ []
 
 -- a run of a table: the number and the end word that document 01 gives
@@ -192,6 +213,17 @@ examples =
     ∷ example oneInEachBranch 3 5 0 5
     ∷ example noRemovalThere 1 0 10 0
     ∷ example noRemovalThere 3 0 10 0
+    ∷ []
+
+-- the same of document 02, S-2: at n = 4 the last left is qubit 3, at n = 2 nothing is left
+abbrev pub examplesLeft : List Example
+examplesLeft =
+    example lastLeft 4 0 0 4
+    ∷ example lastLeft 3 0 0 2
+    ∷ example lastLeft 2 0 12 0
+    ∷ example equalSizes 3 0 0 2
+    ∷ example reversal 4 3 0 12
+    ∷ example reversal 5 9 0 18
     ∷ []
 
 -- a sequence of a self call that removes position 1 and one without removal: too wide as well
@@ -245,23 +277,6 @@ orders =
     ∷ refusal pairs 3 8 13
     ∷ refusal pairs 3 7 21
     ∷ []
-
--- document 02, S-2: "Base 2 of a number adds the size of the list left by the removals already done in that record". Main flips the last of what is left
--- (base 2, constant 0) without position 1 and without the last of what that leaves (base 2, constant 0 again)
-abbrev pub lastLeft : List ℕ
-lastLeft = 0x01 ∷ 0x00 ∷ 0x03 ∷ 0x01 ∷ 0x02 ∷ 0x00 ∷ 0x01 ∷ 0x00 ∷ 0x02 ∷ 0x00 ∷ 0x00 ∷ 0x02 ∷ 0x00 ∷ 0x00 ∷ []
-
--- "in a comparison it equals base 1": main flips qubit 2 where a list's size by base 2 and by base 1 are equal, else qubit 1
-abbrev pub equalSizes : List ℕ
-equalSizes =
-    0x01 ∷ 0x00 ∷ 0x00 ∷ 0x03 ∷ 0x06 ∷ 0x08 ∷ 0x02 ∷ 0x00 ∷ 0x00 ∷ 0x01 ∷ 0x00 ∷ 0x00
-    ∷ 0x02 ∷ 0x01 ∷ 0x00 ∷ 0x02 ∷ 0x00 ∷ 0x02 ∷ 0x01 ∷ 0x00 ∷ 0x01 ∷ 0x00 ∷ []
-
--- position 5 is outside and empties the list, so nothing is left and base 2 adds 0: a call with position 1 of nothing removed does nothing
-abbrev pub nothingLeft : List ℕ
-nothingLeft =
-    0x01 ∷ 0x01 ∷ 0x09 ∷ 0x05 ∷ 0x02 ∷ 0x00 ∷ 0x05 ∷ 0x00 ∷ 0x02 ∷ 0x01 ∷ 0x00 ∷ 0x01
-    ∷ 0x02 ∷ 0x01 ∷ 0x00 ∷ 0x01 ∷ 0x00 ∷ []
 
 -- document 02, S-1: the page of PAIRS at n = 3
 --    1----o---+---------------+---o-------

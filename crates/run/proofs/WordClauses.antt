@@ -4,7 +4,6 @@ use mathlib.Core.Bool.{true, false}
 use mathlib.Core.List.{List}
 use Prim.Native.Nat.{ℕ, _≤_}
 use borrow.Author.Tests.{le-ltb}
-use lib.ListN.{length}
 use Rattle.model.specs.Limits.{mostQubits}
 use Rattle.model.specs.Syntax.{Number, Condition, Statement, if, qcase}
 use Rattle.model.specs.Lists.{touched, holds}

@@ -8,7 +8,6 @@ use native.Mathlib.Omega.{arith}
 use native.Mathlib.Nat.{not-suc-le-zero}
 use native.Mathlib.Numerals.{one-add}
 use lib.Bits.{bitXor, xor-lt}
-use lib.ListN.{length}
 use lib.Pow.{pow-lt}
 use Rattle.model.specs.Limits.{mostQubits}
 use Rattle.model.specs.Syntax.{Number, Statement, skip, NOT, sequence, if, qcase, call, Program, body}

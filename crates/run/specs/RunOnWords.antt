@@ -4,7 +4,6 @@ use mathlib.Core.Bool.{Bool, true, false, cond}
 use mathlib.Core.List.{List, [], _∷_}
 use lib.Bits.{bitXor}
 use lib.Dec.{ltb}
-use lib.ListN.{length}
 use Rattle.model.specs.Limits.{mostQubits}
 use Rattle.model.specs.Syntax.{Statement, skip, NOT, sequence, if, qcase, call, Program, body}
 use Rattle.model.specs.Lists.{qubits, remaining, touched, holds}

@@ -4,7 +4,6 @@ use mathlib.Core.Path.{_≡_, sym, ap, _∙_}
 use mathlib.Core.Bool.{Bool, true, false, cond}
 use mathlib.Core.List.{List}
 use borrow.Author.Needs.{needs}
-use lib.ListN.{length}
 use Rattle.model.specs.Syntax.{Condition, Statement, if}
 use Rattle.model.specs.Lists.{holds}
 use Rattle.model.proofs.BooleanLaws.{byBool}
