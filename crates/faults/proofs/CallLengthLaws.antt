@@ -1,4 +1,4 @@
--- The lengths that calls lead to: a call leaves as many entries less as it carries removals, and the sums of such numbers are closed.
+-- The lengths that calls lead to: the sums of the numbers of removals that calls carry are closed.
 use mathlib.Core.Path.{_≡_, refl, sym, ap, _∙_, subst}
 use mathlib.Core.Bool.{true, false}
 use mathlib.Core.List.{List}
