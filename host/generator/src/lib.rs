@@ -8,6 +8,8 @@
 //! - [`tree`] holds the trees and [`tree::encode`].
 //! - [`programs`] makes programs that are mostly accepted and wild ones that
 //!   mostly are not.
+//! - [`numbers`] shows the numbers of a program and the fields that they stand
+//!   in, and [`size_left`] makes programs with base 2.
 //! - [`tables`] holds single tables: small ones of every kind, and those at a
 //!   limit.
 //! - [`published`] holds programs of source 002, [`emissions`] tables whose
@@ -20,8 +22,10 @@
 pub mod circuits;
 pub mod damage;
 pub mod emissions;
+pub mod numbers;
 pub mod programs;
 pub mod published;
+pub mod size_left;
 pub mod tables;
 pub mod tree;
 

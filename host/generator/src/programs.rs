@@ -3,7 +3,9 @@
 //! [`program`] builds its trees so that they are mostly accepted: it keeps
 //! count of the least size the list can have, closes qcase qubits, lets calls
 //! remove them, and hands the right to recur down one path of each sequence.
-//! [`wild_program`] keeps the form of a table and nothing else.
+//! [`program_from_the_end`] does so for longer lists, and knows every position
+//! from the end of its list. [`wild_program`] keeps the form of a table and
+//! nothing else.
 
 use crate::tree::{choose, qcase, sequence, Condition, Number, Program, Statement};
 use crate::Random;
@@ -51,8 +53,48 @@ pub const LARGE: Shape = Shape {
     slips: 1,
 };
 
+/// What a writer knows of the lists, and makes of them.
+#[derive(Clone, Debug)]
+struct Lists {
+    /// The least size of main's list.
+    main: i16,
+    /// The least sizes that conditions ask for.
+    sizes: Vec<i16>,
+    /// The most removals of a NOT or qcase.
+    removals: usize,
+    /// Whether places are known from the front too; otherwise from the end
+    /// alone, so that each position and removal is a size and a constant.
+    from_the_front: bool,
+}
+
 /// A random program that is mostly accepted, for every number of qubits.
 pub fn program(random: &mut Random, shape: &Shape) -> Program {
+    let lists = Lists {
+        main: 1,
+        sizes: vec![1, 2, 2, 3, 3, 3, 4, 4],
+        removals: 3,
+        from_the_front: true,
+    };
+    program_on(random, shape, lists)
+}
+
+/// A random program that is mostly accepted on n qubits. Its records have up
+/// to eight removals, and each of its positions and removals is the size of the
+/// whole list and a constant, but for some that are chosen blindly.
+pub fn program_from_the_end(random: &mut Random, shape: &Shape, n: u32) -> Program {
+    // With eight removals a list of this size still has some entries left.
+    let longest = n.clamp(1, 12) as i16;
+    let lists = Lists {
+        main: longest,
+        sizes: (1..=longest).collect(),
+        removals: 8,
+        from_the_front: false,
+    };
+    program_on(random, shape, lists)
+}
+
+/// A random program on such lists.
+fn program_on(random: &mut Random, shape: &Shape, lists: Lists) -> Program {
     let procedures = 1 + random.below(shape.procedures);
     let procedures = procedures.min(shape.procedures);
     let classes = 1 + random.below(procedures);
@@ -62,6 +104,7 @@ pub fn program(random: &mut Random, shape: &Shape) -> Program {
         random,
         ranks,
         shape: *shape,
+        lists,
     };
     let main = writer.tree(0, 1 + shape.records / 2);
     let bodies = (1..=procedures).map(|own| writer.tree(own, shape.records));
@@ -134,6 +177,8 @@ struct Scope {
     may_recur: bool,
     /// How many records deeper the tree may still go.
     depth: usize,
+    /// Whether places are known from the front too.
+    from_the_front: bool,
 }
 
 impl Scope {
@@ -147,7 +192,8 @@ impl Scope {
 
     /// The places that are apart from all of these.
     fn places_apart_from(&self, taken: &[Place]) -> Vec<Place> {
-        let front = (1..=self.at_least).map(Place::Front);
+        let front = (1..=self.at_least).filter(|_| self.from_the_front);
+        let front = front.map(Place::Front);
         let back = (0..self.at_least).map(Place::Back);
         let free = |place: &Place| taken.iter().all(|other| place.apart(*other, self.at_least));
         front.chain(back).filter(free).collect()
@@ -161,6 +207,7 @@ struct Writer<'r> {
     /// one, never to a lower one.
     ranks: Vec<usize>,
     shape: Shape,
+    lists: Lists,
 }
 
 impl Writer<'_> {
@@ -168,10 +215,11 @@ impl Writer<'_> {
     fn tree(&mut self, own: usize, records: usize) -> Statement {
         let scope = Scope {
             own,
-            at_least: 1,
+            at_least: if own == 0 { self.lists.main } else { 1 },
             closed: Vec::new(),
             may_recur: own > 0,
             depth: 24,
+            from_the_front: self.lists.from_the_front,
         };
         if self.random.chance(60) {
             self.choice(&scope, records)
@@ -211,7 +259,7 @@ impl Writer<'_> {
     /// may then rely on, while the no branch seldom recurs. A negated condition
     /// has its branches exchanged.
     fn choice(&mut self, scope: &Scope, records: usize) -> Statement {
-        let size = self.random.pick(&[1, 2, 2, 3, 3, 3, 4, 4]).unwrap_or(1);
+        let size = self.random.pick(&self.lists.sizes).unwrap_or(1);
         let mut yes = scope.inner();
         let condition = match self.random.below(100) {
             0..70 => {
@@ -280,7 +328,7 @@ impl Writer<'_> {
         }
         let mut others = vec![place];
         if self.random.chance(25) {
-            let most = 1 + self.random.below(3);
+            let most = 1 + self.random.below(self.lists.removals);
             self.add_places(scope, &mut others, most);
         }
         let removed = &others[1..];

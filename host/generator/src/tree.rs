@@ -1,12 +1,15 @@
 //! Trees of programs and their bytes (document 01, "The program table").
 
-/// A number: the constant alone, or the size of the whole list and a constant.
+/// A number: the constant alone, or a constant and the size of the whole list
+/// or of what the removals already done in the record left of it.
 #[derive(Clone, Copy, Debug, PartialEq, Eq)]
 pub enum Number {
     /// Base 0.
     Constant(i16),
     /// Base 1.
     SizePlus(i16),
+    /// Base 2.
+    LeftPlus(i16),
 }
 
 /// A statement, kinds 0 to 5. No removals means that map bit 0 is not set.
@@ -218,6 +221,7 @@ fn number(table: &mut Vec<u8>, of: Number) {
     let (base, constant) = match of {
         Number::Constant(constant) => (0, constant),
         Number::SizePlus(constant) => (1, constant),
+        Number::LeftPlus(constant) => (2, constant),
     };
     table.push(base);
     table.extend(constant.to_le_bytes());
