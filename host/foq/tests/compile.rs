@@ -4,6 +4,7 @@
 //! the circuit in front and its rest as it was. Each test counts the tables of
 //! the classes that it is meant to reach, so that it cannot run empty.
 
+mod compiled;
 mod counts;
 mod lent;
 mod refusals;
@@ -12,9 +13,8 @@ mod small_stack;
 mod steps;
 mod words;
 
+use compiled::{assert_read_back, compile_of_both, end_alike};
 use counts::{assert_reached, count, Counts};
-use foq::border;
-use foq_expected::answer;
 use foq_generator::damage::damaged;
 use foq_generator::emissions::{deepest_emission, filled, merged_lists, ring, FILLED_NEXT};
 use foq_generator::programs::{program, wild_program, Shape, LARGE, MERGING, SMALL};
@@ -25,15 +25,12 @@ use foq_generator::tables::{
 };
 use foq_generator::tree::{call, encode, table, Statement};
 use foq_generator::{Random, PAIRS};
-use foq_reference::{
-    compile, emission, gate_bound, read_table, LONGEST_CIRCUIT, SHORTEST_WORKSPACE,
-};
+use foq_reference::{compile, LONGEST_CIRCUIT, SHORTEST_WORKSPACE};
 use lent::{Workspace, LENGTHS};
 use refusals::tables_in_order;
 use room::Room;
 use small_stack::on_that_stack;
 use std::time::{Duration, Instant};
-use steps::count_steps;
 use words::{every_word, on_few_qubits, on_many_qubits, sampled};
 
 /// Rooms longer than any circuit.
@@ -66,19 +63,8 @@ impl Both {
         workspace: usize,
     ) -> Result<Vec<u8>, u32> {
         count(&mut self.workspaces, workspace, true);
-        let expected = compile(table, n, room, workspace);
-        let length = expected.as_ref().map(|circuit| circuit.len() as u64);
-        let written = expected.as_deref().unwrap_or(&[]);
-        let lender = &mut self.workspace;
-        self.room.lend(room, written, |lent| {
-            let given = lender.lend(workspace, |space| border::compile(table, n, lent, space));
-            assert_eq!(
-                given,
-                answer(length.map_err(|number| *number)),
-                "n = {n}, {room} and {workspace} lent, {table:02x?}"
-            );
-        });
-        expected
+        let lent = (&mut self.room, &mut self.workspace);
+        compile_of_both(lent, table, n, (room, workspace))
     }
 
     /// The same with a workspace that is just long enough.
@@ -145,38 +131,12 @@ impl Both {
             count(counts, "refused", true);
             return;
         };
-        let workspace = &mut vec![0; SHORTEST_WORKSPACE];
-        let (mut changed, mut runs) = (false, 0);
-        for word in words {
-            let end = foq::run(table, n, word, workspace).unwrap();
-            let block = foq::circuit_run(&circuit, word).unwrap();
-            let mut bits = [0; 32];
-            bits[..8].copy_from_slice(&end.to_le_bytes());
-            assert_eq!(block.bits, bits, "n = {n}, {word:x}, {table:02x?}");
-            assert_eq!((u32::from(block.data), block.ancillas), (n, circuit[2]));
-            changed |= end != word;
-            runs += 1;
-        }
+        let (changed, runs) = end_alike(table, n, &circuit, words);
         count(counts, "accepted", true);
         count(counts, "changes a word", changed);
         *counts.entry("runs").or_default() += runs;
         assert_read_back(table, n, &circuit, counts);
     }
-}
-
-/// The circuit reader gives back n, the most ancillas in use and the number of
-/// gates emitted, which is within the bound. Counts the classes of the calls.
-fn assert_read_back(table: &[u8], n: u32, circuit: &[u8], counts: &mut Counts) {
-    let program = read_table(table).unwrap();
-    let emitted = emission(&program, n, LONGEST_CIRCUIT).unwrap();
-    let header = foq::Circuit {
-        qubits: n,
-        ancillas: emitted.ancillas.into(),
-        gates: emitted.gates.len() as u32,
-    };
-    assert_eq!(foq::circuit_read(circuit), Ok(header));
-    assert!(u128::from(header.gates) <= gate_bound(&program, n));
-    count_steps(&emitted.tally, counts);
 }
 
 /// A number of qubits, mostly small.

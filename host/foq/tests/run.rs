@@ -3,6 +3,7 @@
 //! as zeros. Each test counts the tables of the classes that it is meant to
 //! reach, so that it cannot run empty.
 
+mod asked;
 mod counts;
 mod lent;
 mod refusals;
@@ -10,9 +11,9 @@ mod small_stack;
 mod steps;
 mod words;
 
+use asked::run_of_both;
 use counts::{assert_reached, count, Counts};
-use foq::border::{self, Answer};
-use foq_expected::answer;
+use foq::border::Answer;
 use foq_generator::damage::damaged;
 use foq_generator::programs::{program, wild_program, Shape, LARGE, MERGING, SMALL};
 use foq_generator::tables::{
@@ -42,14 +43,7 @@ impl Both {
 
     /// The run with a workspace of this length.
     fn run_with(&mut self, table: &[u8], n: u32, word: u64, length: usize) -> Answer {
-        let workspace = &mut self.workspace;
-        let given = workspace.lend(length, |lent| border::run(table, n, word, lent));
-        let expected = answer(run(table, n, word, length));
-        assert_eq!(
-            given, expected,
-            "n = {n}, {word:x}, {length} lent, {table:02x?}"
-        );
-        given
+        run_of_both(&mut self.workspace, table, n, word, length)
     }
 
     /// The run with a workspace that is just long enough.

@@ -3,9 +3,12 @@
 //! back as zeros. Each test counts the answers that it is meant to reach, so
 //! that it cannot run empty.
 
+mod asked;
 mod counts;
 mod lent;
+mod limits;
 
+use asked::verdict_of_both;
 use counts::{assert_reached, count, Counts};
 use foq::border;
 use foq_generator::damage::{damaged, single_changes, truncations};
@@ -19,8 +22,9 @@ use foq_generator::tree::{
     call, case, choose, encode, longer_than, not, sequence, table, Condition, Number, Statement,
 };
 use foq_generator::{Random, PAIRS};
-use foq_reference::{plain_verdict, verdict, SHORTEST_WORKSPACE};
+use foq_reference::{plain_verdict, SHORTEST_WORKSPACE};
 use lent::{Workspace, LENGTHS};
+use limits::CONSTANTS;
 use Number::{Constant, SizePlus};
 
 /// Asks the product and the second interpreter, and counts the answers.
@@ -39,10 +43,7 @@ impl Both {
 
     /// The verdict with a workspace of this length.
     fn verdict_with(&mut self, table: &[u8], n: u32, length: usize) -> u32 {
-        let workspace = &mut self.workspace;
-        let given = workspace.lend(length, |lent| border::verdict(table, n, lent));
-        let expected = verdict(table, n, length);
-        assert_eq!(given, expected, "n = {n}, {length} lent, {table:02x?}");
+        let given = verdict_of_both(&mut self.workspace, table, n, length);
         count(&mut self.verdicts, given, true);
         given
     }
@@ -463,25 +464,8 @@ fn there_are_at_most_16_procedures() {
 /// Constants at the ends of 16 bits and about the sizes of lists, with both
 /// bases.
 fn numbers() -> Vec<Number> {
-    let constants = [
-        i16::MIN,
-        i16::MIN + 1,
-        -33,
-        -32,
-        -31,
-        -1,
-        0,
-        1,
-        2,
-        31,
-        32,
-        33,
-        i16::MAX - 32,
-        i16::MAX - 1,
-        i16::MAX,
-    ];
-    let plain = constants.map(Constant);
-    let sized = constants.map(SizePlus);
+    let plain = CONSTANTS.map(Constant);
+    let sized = CONSTANTS.map(SizePlus);
     [plain, sized].concat()
 }
 

@@ -1,5 +1,8 @@
 //! Start words of n qubits, and random programs to run from some of them.
 
+// Each test uses a part of this.
+#![allow(dead_code)]
+
 use foq_generator::programs::{program, Shape, LARGE, MERGING, SMALL};
 use foq_generator::tree::encode;
 use foq_generator::Random;
