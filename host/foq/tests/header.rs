@@ -2,7 +2,7 @@
 //! of the bindings, and of the bytes that tables and circuits are made of.
 
 use foq::{Refusal, BLOCK_LENGTH, LEAST_WORKSPACE, MOST_BAND, MOST_CIRCUIT};
-use foq_generator::tree::{choose, not, sequence, table, Condition, Number, Statement};
+use foq_generator::tree::{choose, table, Condition, Number, Statement};
 use foq_reference::{circuit_bytes, Action, Circuit, Control, Gate};
 use std::collections::BTreeMap;
 
@@ -134,12 +134,16 @@ fn the_header_has_the_kinds_and_maps_of_conditions() {
 
 #[test]
 fn the_header_has_the_bases_of_numbers() {
-    let size = Statement::Not(vec![], Number::SizePlus(0));
-    let bytes = table(sequence(not(1), size), &[]);
     let bases = defined_as("BASE_");
-    assert_eq!(u32::from(bytes[6]), bases["CONSTANT"]);
-    assert_eq!(u32::from(bytes[11]), bases["SIZE"]);
-    assert_eq!(bases.len(), 2);
+    for (base, number) in [
+        ("CONSTANT", Number::Constant(0)),
+        ("SIZE", Number::SizePlus(0)),
+        ("LEFT", Number::LeftPlus(0)),
+    ] {
+        let bytes = table(Statement::Not(vec![], number), &[]);
+        assert_eq!(u32::from(bytes[4]), bases[base]);
+    }
+    assert_eq!(bases.len(), 3);
 }
 
 #[test]

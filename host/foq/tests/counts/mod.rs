@@ -1,5 +1,8 @@
 //! Counts of the inputs of each class that a test is meant to reach.
 
+// Each test uses a part of this.
+#![allow(dead_code)]
+
 use std::collections::BTreeMap;
 use std::fmt::Debug;
 
@@ -9,6 +12,13 @@ pub type Counts<Class = &'static str> = BTreeMap<Class, usize>;
 /// Counts an input where it shows the class.
 pub fn count<Class: Ord>(counts: &mut Counts<Class>, class: Class, shown: bool) {
     *counts.entry(class).or_default() += usize::from(shown);
+}
+
+/// Adds the counts of other inputs.
+pub fn add<Class: Ord>(counts: &mut Counts<Class>, others: Counts<Class>) {
+    for (class, inputs) in others {
+        *counts.entry(class).or_default() += inputs;
+    }
 }
 
 /// Asserts that each class has at least so many inputs.
