@@ -11,11 +11,12 @@ use foq::{LEAST_WORKSPACE, MOST_BAND, MOST_CIRCUIT, PAIRS};
 use foq_generator::circuits::{circuit, circuit_of, crowded_circuit, sizes};
 use foq_generator::damage::damaged;
 use foq_generator::programs::{program, SMALL};
+use foq_generator::size_left::{program_by_size_left, reversal, reversal_by_hand};
 use foq_generator::tables::{
     every_kind, full, nested_classes, one_in_each_branch, sixteen_in_turn, two_in_sequence,
     without_removal,
 };
-use foq_generator::tree::{encode, not, table, Statement};
+use foq_generator::tree::{encode, not, table, Number, Statement};
 use foq_generator::Random;
 use foq_reference::{page, read_circuit, Action, Control, Gate};
 use programs::{compiled, example, flags, output, page_example, printed, scratch};
@@ -115,6 +116,34 @@ fn drawn() -> Vec<Vec<u8>> {
     circuits
 }
 
+/// Tables with base 2, numbers of qubits and words: accepted, refused with 12,
+/// cut off behind the base and with another base, and some at random.
+fn tables_with_base_2() -> Vec<(Vec<u8>, u32, u64)> {
+    let mut random = Random::from_seed(44);
+    let last = Number::LeftPlus(0);
+    let behind = |removed| table(Statement::Not(vec![last; removed], last), &[]);
+    let cut_off = behind(1)[..6].to_vec();
+    let mut base_3 = behind(1);
+    base_3[5] = 3;
+    let mut tables = vec![
+        (reversal(), 32, 0x89AB_CDEF),
+        (reversal_by_hand(), 32, 0x89AB_CDEF),
+        (behind(0), 3, 5),
+        (behind(8), 9, 0),
+        (behind(8), 8, 0),
+        (cut_off, 3, 0),
+        (base_3, 3, 0),
+    ];
+    for _ in 0..20 {
+        let n = 1 + random.below(32) as u32;
+        let whole = encode(&program_by_size_left(&mut random, n));
+        let word = random.word() % (1 << n);
+        tables.push((damaged(&mut random, &whole), n, word));
+        tables.push((whole, n, word));
+    }
+    tables
+}
+
 /// Tables, numbers of qubits and words of every answer, and some at random.
 fn tables() -> Vec<(Vec<u8>, u32, u64)> {
     let mut random = Random::from_seed(42);
@@ -154,6 +183,7 @@ fn tables() -> Vec<(Vec<u8>, u32, u64)> {
         tables.push((damaged(&mut random, &whole), n, word));
         tables.push((whole, n, word));
     }
+    tables.extend(tables_with_base_2());
     tables
 }
 

@@ -9,24 +9,28 @@ use foq_generator::tree::{call, choose, longer_than, qcase, table, Number, State
 use programs::{compiled, printed, C11, HEADER};
 use std::collections::BTreeMap;
 use std::path::Path;
+use Number::{LeftPlus, SizePlus};
 
 /// A tree of this depth that ends with this statement.
 type Lean = fn(usize, Statement) -> Statement;
 
+/// The size of a list and a constant, by base 1 or 2.
+type BySize = fn(i16) -> Number;
+
 /// A call without the last position.
-fn onward(procedure: u8) -> Statement {
-    Statement::Call(vec![Number::SizePlus(0)], procedure)
+fn onward(size: BySize, procedure: u8) -> Statement {
+    Statement::Call(vec![size(0)], procedure)
 }
 
 /// Calls of all these procedures from different branches: the qcases are on
 /// the positions before the last `taken` ones.
-fn fan(procedures: &[u8], taken: i16) -> Statement {
+fn fan(size: BySize, procedures: &[u8], taken: i16) -> Statement {
     if let [procedure] = procedures {
-        return onward(*procedure);
+        return onward(size, *procedure);
     }
     let (zero, one) = procedures.split_at(procedures.len() / 2);
-    let position = Number::SizePlus(-taken);
-    qcase(vec![], position, fan(zero, taken + 1), fan(one, taken + 1))
+    let branch = |procedures| fan(size, procedures, taken + 1);
+    qcase(vec![], size(-taken), branch(zero), branch(one))
 }
 
 /// A table of 254 records with an emission as deep as it could be made, on 30
@@ -35,11 +39,11 @@ fn fan(procedures: &[u8], taken: i16) -> Statement {
 /// branches, until three qubits are left; the others call it with an empty list.
 /// So 217 bodies of one chain lie around one another, inside eight chains of one
 /// body, and no wire is left.
-fn most_bodies(lean: Lean) -> Vec<u8> {
+fn most_bodies(lean: Lean, size: BySize) -> Vec<u8> {
     let depths = [32, 32, 32, 18, 1, 1, 1, 1, 1];
     let lead = |own: u8| lean(depths[usize::from(own)], call(own + 1, &[]));
     let others: Vec<u8> = (10..=16).collect();
-    let each = qcase(vec![], Number::SizePlus(0), onward(9), fan(&others, 1));
+    let each = qcase(vec![], size(0), onward(size, 9), fan(size, &others, 1));
     let mut bodies: Vec<Statement> = (1..9).map(lead).collect();
     bodies.push(choose(longer_than(3), each, Statement::Skip));
     bodies.extend(others.iter().map(|_| call(9, &[0])));
@@ -73,9 +77,11 @@ fn said() -> BTreeMap<&'static str, usize> {
 #[test]
 fn the_deepest_tables_have_a_longest_band() {
     for lean in [leaning_left, leaning_right] {
-        let circuit = compile_to_vec(&most_bodies(lean), 30).unwrap();
-        let band = page_band(&circuit, 0, &mut []).unwrap();
-        assert_eq!(band.length, MOST_BAND);
+        for size in [SizePlus, LeftPlus] {
+            let circuit = compile_to_vec(&most_bodies(lean, size), 30).unwrap();
+            let band = page_band(&circuit, 0, &mut []).unwrap();
+            assert_eq!(band.length, MOST_BAND);
+        }
     }
 }
 
@@ -90,7 +96,9 @@ fn the_deepest_tables_take_the_stack_that_the_header_says() {
             }
         }
         for n in [1, 29, 30, 31, 32] {
-            measure(&program, &most_bodies(lean), n, 0, &mut most);
+            for size in [SizePlus, LeftPlus] {
+                measure(&program, &most_bodies(lean, size), n, 0, &mut most);
+            }
         }
     }
     println!("{most:?}");
