@@ -5,6 +5,7 @@ use crate::trees::{replaced, trees, Tree};
 use foq_generator::circuits::{circuit, crowded_circuit, sizes};
 use foq_generator::damage::damaged;
 use foq_generator::programs::{program, wild_program, LARGE, MERGING, SMALL};
+use foq_generator::size_left::{program_by_size_left, reversal, wild_program_by_size_left};
 use foq_generator::tables::{
     deepest, eight_removals, every_kind, leaning_left, leaning_right, nested_classes,
     one_in_each_branch, sixteen_in_turn, two_in_turn,
@@ -17,7 +18,7 @@ use foq_reference::{circuit_bytes, read_circuit, LONGEST_CIRCUIT, SHORTEST_WORKS
 const LONG_TABLE: usize = 8_000;
 
 /// Tables to begin with.
-fn known_tables() -> [Vec<u8>; 11] {
+fn known_tables() -> [Vec<u8>; 12] {
     [
         PAIRS.to_vec(),
         every_kind(),
@@ -30,6 +31,7 @@ fn known_tables() -> [Vec<u8>; 11] {
         sixteen_in_turn(),
         deepest(leaning_left),
         deepest(leaning_right),
+        reversal(),
     ]
 }
 
@@ -70,9 +72,8 @@ fn room(random: &mut Random) -> usize {
     }
 }
 
-/// A table with numbers of every sort.
-fn with_numbers(random: &mut Random, bytes: Vec<u8>) -> Table {
-    let n = qubits(random);
+/// A table on n qubits with other numbers of every sort.
+fn with_numbers(random: &mut Random, bytes: Vec<u8>, n: u32) -> Table {
     Table {
         bytes,
         n,
@@ -85,14 +86,17 @@ fn with_numbers(random: &mut Random, bytes: Vec<u8>) -> Table {
 /// A table out of nothing.
 #[must_use]
 pub fn fresh_table(random: &mut Random) -> Table {
-    let bytes = match random.below(12) {
+    let n = qubits(random);
+    let bytes = match random.below(18) {
         0..4 => encode(&program(random, &SMALL)),
         4..8 => encode(&program(random, &MERGING)),
         8..10 => encode(&program(random, &LARGE)),
-        10 => encode(&wild_program(random, &SMALL)),
-        _ => known_tables()[random.below(11)].clone(),
+        10..15 => encode(&program_by_size_left(random, n)),
+        15 => encode(&wild_program(random, &SMALL)),
+        16 => encode(&wild_program_by_size_left(random)),
+        _ => known_tables()[random.below(12)].clone(),
     };
-    with_numbers(random, bytes)
+    with_numbers(random, bytes, n)
 }
 
 /// A circuit out of nothing.
@@ -114,7 +118,10 @@ pub fn fresh_circuit(random: &mut Random) -> Circuit {
 pub fn changed_table(random: &mut Random, old: &Table, other: &Table) -> Table {
     let trees = trees(&old.bytes);
     let changed = match random.below(10) {
-        0 => return with_numbers(random, old.bytes.clone()),
+        0 => {
+            let n = qubits(random);
+            return with_numbers(random, old.bytes.clone(), n);
+        }
         1..4 => grafted(random, &old.bytes, &trees, &other.bytes),
         4..6 => wrapped(random, &old.bytes, &trees),
         6..9 => nudged(random, &old.bytes, &trees),
@@ -168,9 +175,10 @@ fn wrapped(random: &mut Random, table: &[u8], trees: &[Tree]) -> Option<Vec<u8>>
 
 /// The bytes of a short statement in a table of p procedures.
 fn short(random: &mut Random, p: u8) -> Vec<u8> {
-    let number = |random: &mut Random| match random.below(2) {
+    let number = |random: &mut Random| match random.below(3) {
         0 => Number::Constant(random.between(0, 4)),
-        _ => Number::SizePlus(random.between(-3, 1)),
+        1 => Number::SizePlus(random.between(-3, 1)),
+        _ => Number::LeftPlus(random.between(-3, 1)),
     };
     let removals = (0..random.below(3)).map(|_| number(random)).collect();
     let statement = match random.below(4) {
@@ -188,7 +196,8 @@ fn nudged(random: &mut Random, table: &[u8], trees: &[Tree]) -> Option<Vec<u8>> 
     let at = random.pick(&numbers)?;
     let mut bytes = table.to_vec();
     if random.chance(20) {
-        bytes[at] ^= 1;
+        // A number that is read has base 0, 1 or 2; this is one of the others.
+        bytes[at] = (bytes[at] + 1 + random.below(2) as u8) % 3;
     } else {
         let constant = i16::from_le_bytes([bytes[at + 1], bytes[at + 2]]);
         let nudged = constant.wrapping_add(random.between(-2, 2));

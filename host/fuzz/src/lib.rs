@@ -8,12 +8,12 @@
 
 pub mod input;
 pub mod operations;
+pub mod trees;
 
 mod comparison;
 mod corpus;
 mod invention;
 mod shrinking;
-mod trees;
 
 use comparison::{compare, compare_listing, Class, Difference};
 use corpus::Corpus;

@@ -6,8 +6,9 @@ use foq_reference::{circuit_bytes, read_circuit, Action, Gate, SHORTEST_WORKSPAC
 use std::iter::successors;
 use std::ops::Range;
 
-/// Goes on to a smaller input for as long as one fails. Each is smaller in its
-/// bytes or, with the same bytes, in a number beside them, so this ends.
+/// Goes on to a smaller input for as long as one fails. Each has fewer bytes, a
+/// lower base among as many bytes or, with the same bytes, a smaller number
+/// beside them, so this ends.
 pub fn shrunk(input: Input, fails: impl Fn(&Input) -> bool) -> Input {
     let steps = successors(Some(input.clone()), |input| smaller(input).find(&fails));
     steps.last().unwrap_or(input)
@@ -24,11 +25,12 @@ fn smaller(input: &Input) -> Box<dyn Iterator<Item = Input> + '_> {
 fn smaller_tables(table: &Table) -> impl Iterator<Item = Table> + '_ {
     let fewer_trees = with_smaller_trees(&table.bytes).into_iter();
     let shorter = fewer_trees.chain(with_pieces_cut(&table.bytes));
-    let shorter = shorter.map(|bytes| Table {
+    let simpler = shorter.chain(with_lower_bases(&table.bytes));
+    let simpler = simpler.map(|bytes| Table {
         bytes,
         ..table.clone()
     });
-    let tables = shorter.chain(with_smaller_numbers(table));
+    let tables = simpler.chain(with_smaller_numbers(table));
     tables.filter(move |smaller| smaller != table)
 }
 
@@ -54,7 +56,7 @@ fn with_smaller_numbers(table: &Table) -> Vec<Table> {
 }
 
 /// The table with a statement made a skip or made one of its own parts, with
-/// a record without its removals, or without its last body.
+/// a record without its removals or one of them, or without its last body.
 fn with_smaller_trees(table: &[u8]) -> Vec<Vec<u8>> {
     const SKIP: &[u8] = &[0, 0];
     let trees = trees(table);
@@ -70,6 +72,7 @@ fn with_smaller_trees(table: &[u8]) -> Vec<Vec<u8>> {
         });
         tables.extend(parts.map(|part| replaced(table, range, &table[part.range.clone()])));
         tables.extend(without_removals(table, range.start));
+        tables.extend(without_one_removal(table, range.start));
     }
     tables
 }
@@ -90,6 +93,35 @@ fn without_removals(table: &[u8], start: usize) -> Option<Vec<u8>> {
     let mut shorter = (map & 1 != 0).then(|| replaced(table, &(count..end), &[]))?;
     shorter[start] = map & !1;
     Some(shorter)
+}
+
+/// The table with the record that begins here without one of its removals, of
+/// which it keeps others.
+fn without_one_removal(table: &[u8], start: usize) -> Vec<Vec<u8>> {
+    let count = start + 2;
+    let removals = match table[start] & 1 {
+        0 => 0,
+        _ => usize::from(table[count]),
+    };
+    let turns = (0..removals).filter(|_| removals > 1);
+    let without = turns.map(|turn| {
+        let at = count + 1 + 3 * turn;
+        let mut shorter = replaced(table, &(at..at + 3), &[]);
+        shorter[count] -= 1;
+        shorter
+    });
+    without.collect()
+}
+
+/// The table with a lower base in one of its numbers.
+fn with_lower_bases(table: &[u8]) -> Vec<Vec<u8>> {
+    let mut tables = Vec::new();
+    for at in trees(table).into_iter().flat_map(|tree| tree.numbers) {
+        for base in 0..table[at] {
+            tables.push(replaced(table, &(at..at + 1), &[base]));
+        }
+    }
+    tables
 }
 
 /// Pieces that can be cut out of so many things, long ones first.

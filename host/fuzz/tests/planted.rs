@@ -4,6 +4,7 @@
 use foq::border::{self, Answer, Band, Block, Circuit};
 use foq_fuzz::input::Input;
 use foq_fuzz::operations::{Operations, Product};
+use foq_fuzz::trees::trees;
 use foq_fuzz::{fuzz, Tried};
 
 /// Inputs that are tried at most.
@@ -56,6 +57,19 @@ impl Operations for Lazy {
             answer.value = word;
         }
         answer
+    }
+}
+
+/// Takes base 2 as base 1 in a run.
+struct Stale;
+
+impl Operations for Stale {
+    fn run(&self, table: &[u8], n: u32, word: u64, workspace: &mut [u8]) -> Answer {
+        let mut taken = table.to_vec();
+        for at in trees(table).into_iter().flat_map(|tree| tree.numbers) {
+            taken[at] = taken[at].min(1);
+        }
+        border::run(&taken, n, word, workspace)
     }
 }
 
@@ -155,6 +169,7 @@ impl Operations for Mute {
 fn planted_faults_are_found() {
     assert_found(&Lenient, "verdict");
     assert_found(&Lazy, "run");
+    assert_found(&Stale, "run");
     assert_found(&Untidy, "room's rest");
     assert_found(&Forgetful, "workspace");
     assert_found(&Careless, "circuit read");
