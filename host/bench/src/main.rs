@@ -14,6 +14,7 @@ mod timing;
 
 use foq::LEAST_WORKSPACE;
 use foq_generator::circuits::{circuit, circuit_of, crowded_circuit};
+use foq_generator::size_left::{reversal, reversal_by_hand};
 use foq_generator::tables::{nested_classes, one_in_each_branch, sixteen_in_turn};
 use foq_generator::{Random, PAIRS};
 use foq_reference::{LONGEST_CIRCUIT, SHORTEST_WORKSPACE};
@@ -68,6 +69,18 @@ fn run_cases() -> Vec<TableCase> {
         TableCase {
             name: "three nested classes",
             table: nested_classes(3),
+            n: 32,
+            words: words.clone(),
+        },
+        TableCase {
+            name: "reversal, base 1",
+            table: reversal_by_hand(),
+            n: 32,
+            words: words.clone(),
+        },
+        TableCase {
+            name: "reversal, base 2",
+            table: reversal(),
             n: 32,
             words,
         },
