@@ -116,6 +116,12 @@ fn drawn() -> Vec<Vec<u8>> {
     circuits
 }
 
+/// A table damaged and whole, on n qubits, with a word.
+fn damaged_and_whole(random: &mut Random, whole: Vec<u8>, n: u32) -> [(Vec<u8>, u32, u64); 2] {
+    let word = random.word() % (1 << n);
+    [(damaged(random, &whole), n, word), (whole, n, word)]
+}
+
 /// Tables with base 2, numbers of qubits and words: accepted, refused with 12,
 /// cut off behind the base and with another base, and some at random.
 fn tables_with_base_2() -> Vec<(Vec<u8>, u32, u64)> {
@@ -137,9 +143,7 @@ fn tables_with_base_2() -> Vec<(Vec<u8>, u32, u64)> {
     for _ in 0..20 {
         let n = 1 + random.below(32) as u32;
         let whole = encode(&program_by_size_left(&mut random, n));
-        let word = random.word() % (1 << n);
-        tables.push((damaged(&mut random, &whole), n, word));
-        tables.push((whole, n, word));
+        tables.extend(damaged_and_whole(&mut random, whole, n));
     }
     tables
 }
@@ -179,9 +183,7 @@ fn tables() -> Vec<(Vec<u8>, u32, u64)> {
     for _ in 0..40 {
         let whole = encode(&program(&mut random, &SMALL));
         let n = 1 + random.below(32) as u32;
-        let word = random.word() % (1 << n);
-        tables.push((damaged(&mut random, &whole), n, word));
-        tables.push((whole, n, word));
+        tables.extend(damaged_and_whole(&mut random, whole, n));
     }
     tables.extend(tables_with_base_2());
     tables
