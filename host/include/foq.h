@@ -57,8 +57,8 @@
  * measured, on x86-64, at the deepest tables that could be made:
  *
  *     foq_verdict       30 KiB
- *     foq_run          319 KiB
- *     foq_compile      317 KiB
+ *     foq_run          284 KiB
+ *     foq_compile      315 KiB
  *     foq_circuit_read   1 KiB
  *     foq_circuit_run    1 KiB
  *     foq_page_band      6 KiB

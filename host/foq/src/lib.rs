@@ -145,6 +145,20 @@ pub fn verdict(table: &[u8], n: u32, workspace: &mut [u8]) -> Result<(), Refusal
 /// assert_eq!(run(PAIRS, 3, 8, workspace), Err(Refusal::HIGH_BIT));
 /// ```
 ///
+/// A number of base 2 adds the size of what the removals of its record have
+/// left so far. Here a NOT removes the first qubit and the last of the others,
+/// and flips the last that is left:
+///
+/// ```
+/// use foq::{run, LEAST_WORKSPACE};
+///
+/// let first = [0, 1, 0]; // base 0, constant 1
+/// let last_left = [2, 0, 0]; // base 2, constant 0
+/// let mut table = vec![1, 0, 3, 1, 2];
+/// table.extend([first, last_left, last_left].concat());
+/// assert_eq!(run(&table, 4, 0, &mut [0; LEAST_WORKSPACE]), Ok(0b0100));
+/// ```
+///
 /// # Errors
 /// Those of [`verdict`], with [`Refusal::HIGH_BIT`] before
 /// [`Refusal::SHORT_WORKSPACE`].

@@ -9,6 +9,7 @@ fn number(from: tree::Number) -> Number {
     match from {
         tree::Number::Constant(constant) => Number::Constant(constant),
         tree::Number::SizePlus(constant) => Number::SizePlus(constant),
+        tree::Number::LeftPlus(constant) => Number::LeftPlus(constant),
     }
 }
 
