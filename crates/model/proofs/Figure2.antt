@@ -2,7 +2,7 @@
 use mathlib.Core.Path.{_≡_, refl, sym, ap, _∙_, subst}
 use mathlib.Core.Logic.{_↔_}
 use mathlib.Core.Bool.{Bool}
-use mathlib.Core.List.{List, [], _∷_}
+use mathlib.Core.List.{List, [], _∷_, _++_}
 use Prim.Native.Nat.{ℕ, zero, suc, _≤_, _<_}
 use native.Mathlib.Omega.{arith}
 use borrow.Author.Tests.{lt-ltb, le-ltb}
@@ -110,6 +110,12 @@ set-only (rmOut {now = now} {k = k} x n d) = rw (← number-only x, remove-outsi
 -- (Var), (Rm∈), (Rm∉): the rules take a list to what the removals leave of it, and to no other
 pub set-is : (l now : List ℕ) (rs : List Number) (m : List ℕ) → SetIs l now rs m ↔ (m ≡ removeAll l rs now)
 set-is l now rs m = (set-only, λ e. subst (λ (v : List ℕ). SetIs l now rs v) (sym e) (set-derived l rs now))
+
+-- what the rules take the set expression so far to is what the next removal takes from, and whose size base 2 adds there
+pub set-so-far : {l start now end : List ℕ} {done rest : List Number} → SetIs l start done now → SetIs l now rest end → SetIs l start (done ++ rest) end
+set-so-far var e = e
+set-so-far (rmIn x i d) e = rmIn x i (set-so-far d e)
+set-so-far (rmOut x n d) e = rmOut x n (set-so-far d e)
 
 -- the qubit that is touched has a derivation
 pub qubit-derived : (l : List ℕ) (rs : List Number) (a : Number) → QubitIs l rs a (touched rs a l)

@@ -3,17 +3,15 @@
 //! comparison it equals base 1." Expected values are worked out by hand from
 //! this sentence.
 
+mod judged;
+
 use foq_generator::programs::{program, LARGE, MERGING, SMALL};
 use foq_generator::tree::encode;
 use foq_generator::Random;
-use foq_reference::{
-    circuit_run, compile, listing, plain_verdict, read_table, remaining, run, verdict, Number,
-    Statement,
-};
+use foq_reference::{circuit_run, compile, listing, read_table, remaining, run, Number, Statement};
+use judged::{bytes, judged, WORKSPACE};
 use Number::{Constant, LeftPlus, SizePlus};
 
-/// A workspace that is just long enough.
-const WORKSPACE: usize = 32_768;
 /// The longest room that is used.
 const ROOM: usize = 65_536;
 
@@ -80,20 +78,6 @@ fn table(main: &[u8], bodies: &[Vec<u8>]) -> Vec<u8> {
 /// The table of a procedure 1 that main calls with its whole list.
 fn procedure(body: &[u8]) -> Vec<u8> {
     table(&call(&[], 1), &[body.to_vec()])
-}
-
-fn bytes(hexadecimal: &str) -> Vec<u8> {
-    let words = hexadecimal.split_whitespace();
-    words
-        .map(|word| u8::from_str_radix(word, 16).unwrap())
-        .collect()
-}
-
-/// The verdict, the same from the quick and the plain look for faults.
-fn judged(table: &[u8], n: u32) -> u32 {
-    let number = verdict(table, n, WORKSPACE);
-    assert_eq!(number, plain_verdict(table, n, WORKSPACE));
-    number
 }
 
 /// The end word of a run; the circuit gives it too, where there is one.

@@ -1,6 +1,8 @@
 //! The worked programs of document 01, a table for each refusal, and the order
 //! of refusals where two apply.
 
+mod judged;
+
 use foq_generator::tables::{
     closed_through_a_call, full, leaning_right, negations, one_in_each_branch, two_in_sequence,
     without_removal,
@@ -12,10 +14,9 @@ use foq_reference::{
     circuit_run, compile, emission, gate_bound, listing, plain_verdict, read_circuit, read_table,
     run, verdict, Action, Control, Emission,
 };
+use judged::{bytes, judged, WORKSPACE};
 use Number::{Constant, SizePlus};
 
-/// A workspace that is just long enough.
-const WORKSPACE: usize = 32_768;
 /// The longest room that is used.
 const ROOM: usize = 65_536;
 
@@ -23,20 +24,6 @@ const ROOM: usize = 65_536;
 const PAIRS: &str = "01 01 08 05 01 00 03 06 06 01 00 00 00 01 00 02 04 00 01 00 02 04 00 02 00 \
                      09 05 02 00 01 00 00 01 00 01 00 00 02 04 00 02 00 00 00 09 05 02 00 01 00 \
                      00 01 00 01 02 01 00 01 00";
-
-fn bytes(hexadecimal: &str) -> Vec<u8> {
-    let words = hexadecimal.split_whitespace();
-    words
-        .map(|word| u8::from_str_radix(word, 16).unwrap())
-        .collect()
-}
-
-/// The verdict, the same from the quick and the plain look for faults.
-fn judged(table: &[u8], n: u32) -> u32 {
-    let number = verdict(table, n, WORKSPACE);
-    assert_eq!(number, plain_verdict(table, n, WORKSPACE));
-    number
-}
 
 fn emitted(table: &[u8], n: u32) -> Emission {
     emission(&read_table(table).unwrap(), n, ROOM).unwrap()
