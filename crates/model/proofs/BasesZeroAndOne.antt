@@ -6,14 +6,13 @@ use native.Mathlib.Omega.{arith}
 use mathlib.Core.Path.{_≡_, refl}
 use mathlib.Core.Bool.{Bool, not, _&&_, _||_}
 use mathlib.Core.List.{List, [], _∷_}
-use borrow.Author.Tests.{le-leb}
 use lib.ListN.{length}
 use lib.Dec.{leb}
 use lib.IntN.{ℤ, pos, _+ℤ_}
 use lib.Signed.{ltZ, leZ}
 use Rattle.model.specs.Limits.{wrongField}
 use Rattle.model.specs.Syntax.{Number, constant, sizePlus, leftPlus, Condition, greater, atLeast, equal, conjunction, disjunction, negation}
-use Rattle.model.specs.Reading.{Input, Parsed, parsed, andThen, provided, byteOf, byte, signed16, numberOf, mostBase, number}
+use Rattle.model.specs.Reading.{Input, Parsed, parsed, andThen, provided, byteOf, byte, signed16, numberOf, number}
 use Rattle.model.specs.Lists.{sizes, value, position, remove, removeAll, remaining, entry, touched, holds}
 
 -- a number of base 0 or 1
@@ -59,10 +58,14 @@ oldHolds (conjunction c d) old size = oldHolds c (old .0) size && oldHolds d (ol
 oldHolds (disjunction c d) old size = oldHolds c (old .0) size || oldHolds d (old .1) size
 oldHolds (negation c) old size = not (oldHolds c old size)
 
--- "a base other than 0 and 1 gives 6"
+unfoldable pub oldNumberOf : ℕ → ℤ → Number
+oldNumberOf zero z = constant z
+oldNumberOf (suc base) z = sizePlus z
+
+-- a base other than 0 and 1 gave 6 before the constant was looked for
 unfoldable pub oldNumber : Input → Parsed Number
 oldNumber i = andThen (byte i) (λ base j. provided (leb base 1) wrongField
-    (andThen (byte j) (λ low k. andThen (byte k) (λ high l. parsed (numberOf base (signed16 low high)) l))))
+    (andThen (byte j) (λ low k. andThen (byte k) (λ high l. parsed (oldNumberOf base (signed16 low high)) l))))
 
 -- a number has the value it had
 pub value-stays : (a : Number) (old : Old a) (l now : List ℕ) → value a (sizes l now) ≡ oldValue a old (length l)
@@ -98,12 +101,13 @@ holds-stays (negation c) old l = rw (holds-stays c old l)
 -- behind base 0 or 1 a number is read, or refused, as it was
 pub number-stays : (base : ℕ) (rest : List ℕ) (k : ℕ) → base ≤ 1 →
     number (record { bytes = base ∷ rest; records = k }) ≡ oldNumber (record { bytes = base ∷ rest; records = k })
-unfolding number oldNumber byteOf andThen provided
-number-stays base rest k h = rw (le-leb base mostBase (omega arith), le-leb base 1 h)
+unfolding number oldNumber numberOf oldNumberOf andThen byteOf
+number-stays zero rest k h = refl
+number-stays (suc zero) rest k h = refl
+number-stays (suc (suc base)) rest k h = absurd (omega arith)
 
--- and is one of base 0 or 1
-pub number-old : (base : ℕ) (z : ℤ) → base ≤ 1 → Old (numberOf base z)
-unfolding numberOf
-number-old zero z h = tt
-number-old (suc zero) z h = tt
-number-old (suc (suc base)) z h = absurd (omega arith)
+-- and all that was read are of base 0 or 1
+pub number-old : (base : ℕ) (z : ℤ) → Old (oldNumberOf base z)
+unfolding oldNumberOf
+number-old zero z = tt
+number-old (suc base) z = tt

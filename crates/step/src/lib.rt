@@ -83,7 +83,7 @@ fn sum(constant: i32, size: u8) -> i32
     constant + size as i32
 }
 
-// A number's value.
+// A number's value: its constant, alone or with one of the sizes.
 fn value(a: Number, sizes: Sizes) -> i32
     ensures { λ r. ⌜ r ≡ valueOf a sizes ⌝ }
 {
