@@ -25,7 +25,8 @@ pub fn merged_lists() -> Vec<u8> {
 
 /// One of the statements in each branch of qcases on positions from this one
 /// on.
-fn spread(position: i16, statements: &[Statement]) -> Statement {
+#[must_use]
+pub fn spread(position: i16, statements: &[Statement]) -> Statement {
     match statements {
         [] => Statement::Skip,
         [statement] => statement.clone(),

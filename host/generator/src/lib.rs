@@ -13,7 +13,8 @@
 //! - [`tables`] holds single tables: small ones of every kind, and those at a
 //!   limit.
 //! - [`published`] holds programs of source 002, [`emissions`] tables whose
-//!   emission is at a limit.
+//!   emission is at a limit, and [`merged_lists`] makes programs whose circuits
+//!   are mostly swaps.
 //! - [`circuits`] makes well-formed circuits, and circuits of given gates.
 //! - [`damage`] spoils bytes.
 
@@ -22,6 +23,7 @@
 pub mod circuits;
 pub mod damage;
 pub mod emissions;
+pub mod merged_lists;
 pub mod numbers;
 pub mod programs;
 pub mod published;

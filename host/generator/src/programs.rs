@@ -116,7 +116,7 @@ fn program_on(random: &mut Random, shape: &Shape, lists: Lists) -> Program {
 
 /// A position known from one end of a list.
 #[derive(Clone, Copy, Debug, PartialEq, Eq)]
-enum Place {
+pub(crate) enum Place {
     /// This position, 1 or more.
     Front(i16),
     /// The size less this, 0 or more.
@@ -147,7 +147,7 @@ impl Place {
     }
 
     /// The number that finds this place after others were removed.
-    fn after(self, removed: &[Place]) -> Number {
+    pub(crate) fn after(self, removed: &[Place]) -> Number {
         let nearer = removed.iter().filter(|other| other.before(self)).count() as i16;
         match self {
             Place::Front(front) => Number::Constant(front - nearer),
@@ -157,7 +157,7 @@ impl Place {
 }
 
 /// The removals of these places, in this order.
-fn removals(places: &[Place]) -> Vec<Number> {
+pub(crate) fn removals(places: &[Place]) -> Vec<Number> {
     let in_turn = places.iter().enumerate();
     in_turn
         .map(|(turn, place)| place.after(&places[..turn]))
