@@ -6,6 +6,7 @@ use foq_fuzz::input::Input;
 use foq_fuzz::operations::{Operations, Product};
 use foq_fuzz::trees::trees;
 use foq_fuzz::{fuzz, Tried};
+use foq_reference::{circuit_bytes, read_circuit, Action};
 
 /// Inputs that are tried at most.
 const INPUTS: u64 = 4_000;
@@ -84,6 +85,37 @@ impl Operations for Untidy {
             *byte ^= u8::from(behind && answer.number == 0);
         }
         answer
+    }
+}
+
+/// Takes a qubit that a swap has pushed away from its own wire: swaps of 1 with
+/// 2 and then of 1 with 3 become those of 1 with 2 and of 2 with 3.
+struct Astray;
+
+impl Operations for Astray {
+    fn compile(&self, table: &[u8], n: u32, room: &mut [u8], workspace: &mut [u8]) -> Answer {
+        let answer = border::compile(table, n, room, workspace);
+        let written = room.get_mut(..answer.value as usize).unwrap_or_default();
+        if let Ok(mut circuit) = read_circuit(written) {
+            for at in 1..circuit.gates.len() {
+                let [before, gate] = [at - 1, at].map(|at| circuit.gates[at].action);
+                circuit.gates[at].action = astray(before, gate);
+            }
+            written.copy_from_slice(&circuit_bytes(&circuit));
+        }
+        answer
+    }
+}
+
+/// What [`Astray`] makes of a gate behind another one.
+fn astray(before: Action, gate: Action) -> Action {
+    match (before, gate) {
+        (Action::Swap { lower, upper: own }, Action::Swap { lower: now, upper })
+            if lower == now && own < upper =>
+        {
+            Action::Swap { lower: own, upper }
+        }
+        _ => gate,
     }
 }
 
@@ -170,6 +202,8 @@ fn planted_faults_are_found() {
     assert_found(&Lenient, "verdict");
     assert_found(&Lazy, "run");
     assert_found(&Stale, "run");
+    // Two calls whose lists differ in two qubits at least.
+    assert_found_within(&Astray, "circuit", 49);
     assert_found(&Untidy, "room's rest");
     assert_found(&Forgetful, "workspace");
     assert_found(&Careless, "circuit read");
