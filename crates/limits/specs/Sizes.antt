@@ -66,6 +66,14 @@ slotsLength = slotLength * wireCount
 abbrev pub mostCalls : ℕ
 mostCalls = 2 ^ 16 - 1
 
+-- document 02, S-3: the lookup of an entry's swaps has an entry for each qubit and one for each wire
+abbrev pub lookupLength : ℕ
+lookupLength = wireCount + wireCount
+
+-- the entries of a lookup that are read and written are counted in 16 bits, and no further
+abbrev pub mostCount : ℕ
+mostCount = 2 ^ 16 - 1
+
 -- the wires whose bits stand in a block
 abbrev pub blockBits : ℕ
 blockBits = 8 * blockLength

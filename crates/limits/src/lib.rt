@@ -13,7 +13,7 @@ ghost use Rattle.model.specs.Reading.{mostBase};
 ghost use Rattle.model.specs.Page.{bandGates};
 ghost use Rattle.limits.specs.Sizes.{
   bodyCount, matrixLength, lengthCount, rowCount, endsAt, rootsAt, indexLength, placeCount, mostControls, slotLength, mostCalls, kindCount,
-  firstCondition, mostConstant, wireCount, marksLength, lineColumns,
+  firstCondition, mostConstant, wireCount, marksLength, lineColumns, lookupLength, mostCount,
 };
 
 // "Byte 0 is the edition, 1." "Byte 1 is p, the number of procedures, 0 to 16."
@@ -154,6 +154,12 @@ pub const MOST_BAND: usize = MOST_WIRES as usize * (LINE_COLUMNS + 1);
 // The numbers of wires, 0 among them, which is none.
 pub const WIRE_COUNT: usize = MOST_WIRES as usize + 1;
 
+// Document 02, S-3: the lookup of an entry's swaps has an entry for each qubit and one for each wire.
+pub const LOOKUP_LENGTH: usize = WIRE_COUNT + WIRE_COUNT;
+
+// The entries of a lookup that are read and written are counted in 16 bits, and no further.
+pub const MOST_COUNT: u16 = 65535;
+
 // The marks of a band: a column for each gate, a byte for each number of a wire.
 pub const MARKS_LENGTH: usize = BAND_GATES as usize * WIRE_COUNT;
 
@@ -185,13 +191,16 @@ fn numbers() -> [u8; 17]
 }
 
 // Each size is the one that follows from the definitions' limits.
-fn sizes() -> [usize; 11]
+fn sizes() -> [usize; 13]
     ensures {
         λ r. ⌜ r ≡ bodyCount ∷ matrixLength ∷ lengthCount ∷ rowCount ∷ endsAt ∷ rootsAt ∷ indexLength ∷ placeCount ∷ mostControls ∷
-            slotLength ∷ mostCalls ∷ [] ⌝
+            slotLength ∷ mostCalls ∷ lookupLength ∷ mostCount ∷ [] ⌝
     }
 {
-    [BODY_COUNT, MATRIX_LENGTH, LENGTH_COUNT, ROW_COUNT, ENDS_AT, ROOTS_AT, INDEX_LENGTH, PLACE_COUNT, CONTROLS_LENGTH, SLOT_LENGTH, MOST_CALLS as usize]
+    [
+        BODY_COUNT, MATRIX_LENGTH, LENGTH_COUNT, ROW_COUNT, ENDS_AT, ROOTS_AT, INDEX_LENGTH, PLACE_COUNT, CONTROLS_LENGTH, SLOT_LENGTH,
+        MOST_CALLS as usize, LOOKUP_LENGTH, MOST_COUNT as usize,
+    ]
 }
 
 // Each number of a page is the definition's, or follows from it.

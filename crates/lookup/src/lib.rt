@@ -1,0 +1,162 @@
+// Document 02, S-3: the swaps of an entry, planned. A lookup says for each qubit which wire holds it, and for each wire which qubit it holds. It is built before
+// the loop over k and updated at each swap, so no list is searched; and every entry of it that is read or written is counted.
+ghost use mathlib.Core.Path.{_≡_};
+ghost use Prim.Native.Nat.{_+_, _*_, _≤_, min, max};
+ghost use lib.ListN.{length, getD, set};
+ghost use Rattle.model.specs.Emission.{swaps};
+ghost use Rattle.step.specs.Steps.{qubitsOf};
+ghost use Rattle.lookup.specs.Entries.{raised, counted, wireAt, kept, built, pushed, tracked, accesses};
+ghost use Rattle.lookup.specs.Plans.{highest, covered, swapCount, entriesTouched, PlansSwaps};
+use limits::{LIST_LENGTH, LOOKUP_LENGTH, MOST_COUNT, WIRE_COUNT};
+use step::{Qubits, entry_at, size};
+
+// The swaps of an entry as pairs of wires, in order: the wire that holds the qubit, and the one that it goes to. `touched` is how many entries of the lookup
+// were read and written for them.
+pub struct Plan {
+    pub from: [u8; LIST_LENGTH],
+    pub to: [u8; LIST_LENGTH],
+    pub len: u8,
+    pub touched: u16,
+}
+
+// One access more.
+fn raise(count: u16) -> u16
+    ensures { λ r. ⌜ r ≡ raised count ⌝ }
+{
+    if count < MOST_COUNT { count + 1 } else { count }
+}
+
+// An entry is read. This function and the next are the only two that touch an entry, and both count it.
+fn read(entries: &[u8], count: &mut u16, at: usize) -> u8
+    ensures { λ r. ⌜ r ≡ getD (now (entries .entry)) at 0 ⌝ }
+    ensures { λ r. ⌜ now (count .exit) ≡ raised (now (count .entry)) ⌝ }
+{
+    *count = raise(*count);
+    if entries.len() <= at {
+        return 0;
+    }
+    entries[at]
+}
+
+// An entry is written.
+fn write(entries: &mut [u8], count: &mut u16, at: usize, value: u8)
+    ensures { λ r. ⌜ now (entries .exit) ≡ set (now (entries .entry)) at value ⌝ }
+    ensures { λ r. ⌜ now (count .exit) ≡ raised (now (count .entry)) ⌝ }
+{
+    *count = raise(*count);
+    if at < entries.len() {
+        entries[at] = value;
+    }
+}
+
+// Qubit q is on wire w now: an entry in each direction.
+fn keep(entries: &mut [u8], count: &mut u16, q: u8, w: u8)
+    ensures { λ r. ⌜ now (entries .exit) ≡ kept (now (entries .entry)) q w ⌝ }
+    ensures { λ r. ⌜ now (count .exit) ≡ counted (now (count .entry)) 2 ⌝ }
+{
+    write(entries, count, q as usize, w);
+    write(entries, count, WIRE_COUNT + w as usize, q);
+}
+
+// Each qubit up to the last on its own wire. Entry 0, of no qubit, is 0 as it is.
+fn build(entries: &mut [u8], count: &mut u16, last: u8)
+    ensures { λ r. ⌜ now (entries .exit) ≡ built (now (entries .entry)) last ⌝ }
+    ensures { λ r. ⌜ now (count .exit) ≡ counted (now (count .entry)) (2 * last) ⌝ }
+{
+    let mut q = 0;
+    while q < last {
+        q += 1;
+        keep(entries, count, q, q);
+    }
+}
+
+// Qubit q goes from its wire to another, and the qubit that it pushes away from there goes where q was.
+fn push(entries: &mut [u8], count: &mut u16, q: u8, from: u8, to: u8)
+    ensures { λ r. ⌜ now (entries .exit) ≡ pushed (now (entries .entry)) q from to ⌝ }
+    ensures { λ r. ⌜ now (count .exit) ≡ counted (now (count .entry)) 5 ⌝ }
+{
+    let other = read(entries, count, WIRE_COUNT + to as usize);
+    keep(entries, count, q, to);
+    keep(entries, count, other, from);
+}
+
+// The wire that holds qubit q, for one k: unless it is the wire `to`, the qubit goes there.
+fn track(entries: &mut [u8], count: &mut u16, q: u8, to: u8) -> u8
+    ensures { λ r. ⌜ r ≡ wireAt (now (entries .entry)) q ⌝ }
+    ensures { λ r. ⌜ now (entries .exit) ≡ tracked (now (entries .entry)) q to ⌝ }
+    ensures { λ r. ⌜ now (count .exit) ≡ counted (now (count .entry)) (accesses (now (entries .entry)) q to) ⌝ }
+{
+    let from = read(entries, count, q as usize);
+    if from != to {
+        push(entries, count, q, from, to);
+        return from;
+    }
+    from
+}
+
+fn larger(a: u8, b: u8) -> u8
+    ensures { λ r. ⌜ r ≡ max a b ⌝ }
+{
+    if a < b { b } else { a }
+}
+
+fn smaller(a: u8, b: u8) -> u8
+    ensures { λ r. ⌜ r ≡ min a b ⌝ }
+{
+    if a < b { a } else { b }
+}
+
+// The highest wire that a list names, 0 for an empty list.
+fn highest(list: Qubits) -> u8
+    ensures { λ r. ⌜ r ≡ highest (qubitsOf list) ⌝ }
+{
+    let m = size(list);
+    let mut top = 0;
+    let mut i = 0;
+    while i < m {
+        top = larger(top, entry_at(list, i));
+        i += 1;
+    }
+    top
+}
+
+// The last qubit that a lookup covers: n, for lists of qubits 1 to n, as those of an accepted table are.
+fn covered(n: u8, first: Qubits, later: Qubits) -> u8
+    ensures { λ r. ⌜ r ≡ covered n (qubitsOf first) (qubitsOf later) ⌝ }
+{
+    larger(n, larger(highest(first), highest(later)))
+}
+
+// One swap where the wires differ, none where they are equal.
+fn swap_count(from: u8, to: u8) -> u8
+    ensures { λ r. ⌜ r ≡ swapCount from to ⌝ }
+{
+    if from == to { 0 } else { 1 }
+}
+
+// "for k = 1 up to the length, swap, under the entry ancilla, the wire now holding the k-th qubit of the later list with the k-th wire of the first list,
+// unless equal": the pairs of wires, on n qubits.
+pub fn plan_swaps(n: u8, first: Qubits, later: Qubits) -> Plan
+    ensures { λ r. ⌜ PlansSwaps (qubitsOf first) (qubitsOf later) r ⌝ }
+    ensures { λ r. ⌜ r .touched ≡ entriesTouched n (qubitsOf first) (qubitsOf later) ⌝ }
+    ensures { λ r. ⌜ r .touched ≤ 4 * covered n (qubitsOf first) (qubitsOf later) + 8 * length (qubitsOf later) ⌝ }
+{
+    let m = smaller(size(first), size(later));
+    let mut entries = [0u8; LOOKUP_LENGTH];
+    let mut count = 0u16;
+    build(&mut entries[..], &mut count, covered(n, first, later));
+    let mut from = [0u8; LIST_LENGTH];
+    let mut to = [0u8; LIST_LENGTH];
+    let mut len = 0u8;
+    let mut i = 0u8;
+    while i < m {
+        let wire = entry_at(first, i);
+        let holder = track(&mut entries[..], &mut count, entry_at(later, i), wire);
+        let place = len as usize;
+        from[place] = holder;
+        to[place] = wire;
+        len += swap_count(holder, wire);
+        i += 1;
+    }
+    Plan { from, to, len, touched: count }
+}
