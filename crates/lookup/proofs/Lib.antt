@@ -1,3 +1,4 @@
 pub mod CountedEntries
 pub mod TrackedWires
 pub mod PlannedSwaps
+pub mod EntriesTouched
