@@ -1,6 +1,5 @@
 -- The ways out of the walkers over chains: a call, the bodies of a chain, one body around those that follow it.
 use mathlib.Core.Path.{_≡_, refl, sym, ap, _∙_}
-use mathlib.Core.Bool.{Bool}
 use mathlib.Core.List.{List, [], _∷_, _++_, reverse, append-assoc}
 use Prim.Native.Nat.{ℕ, zero, suc, _+_, _-_, _≤_, _<_}
 use native.Mathlib.Nat.{le-refl}
@@ -8,6 +7,7 @@ use native.Mathlib.Omega.{arith}
 use borrow.Author.Needs.{needs}
 use borrow.Author.Tests.{lt-ltb, le-ltb, eqb-true, ne-eqb}
 use lib.ListN.{length}
+use lib.Seq.{sets}
 use lib.Dec.{eqb}
 use Rattle.limits.specs.Sizes.{rootsAt, wireCount, slotsLength}
 use Rattle.model.specs.Limits.{mostWires, mostDepth, mostCircuit}
@@ -28,7 +28,7 @@ use Rattle.table.specs.Index.{startOf, statementAt, programAt}
 use Rattle.reach.proofs.MatrixOfAProgram.{count-at, body-at}
 use Rattle.step.proofs.StatementAtARecord.{spent-skip}
 use Rattle.events.specs.declared.Emit.{Emit}
-use Rattle.events.specs.Scan.{Progress, progress, emitOf, freed, placed, stored, scan, slotProcedure, slotList, wireOf, slotOf, heldIn}
+use Rattle.events.specs.Scan.{Progress, progress, emitOf, freed, placed, scan, slotProcedure, slotList, wireOf, slotOf, heldIn}
 use Rattle.events.specs.Slots.{appears, seekOf}
 use Rattle.events.specs.FollowedEvents.{Follows, Opens, Invokes}
 use Rattle.emit.specs.WalkPromises.{
@@ -73,25 +73,25 @@ none-done : (ws : List ℕ) (base n : ℕ) → DoneIn ws base n base []
 unfolding appears member
 none-done ws base n f = let e : base - base ≡ 0 = omega arith in rw e
 
-module _ {bs ix m : List ℕ} {p k : ℕ} {write : Bool} {st : Emit} {room ws : List ℕ} {r : Emit} {room₁ ws₁ : List ℕ} where
-  use-body-left : {d : ℕ} → BodyLeft bs ix m p k write st room ws r room₁ ws₁ d → Ready bs ix m p st ws → d ≤ mostWires →
-      Opens write (leftOf bs ix p k (slotOf ws d) (st .next)) (bodyInvocations (programAt p bs ix) (chainsIn bs ix p k) (slotOf ws d) (st .next))
+module _ {bs ix m : List ℕ} {p k : ℕ} {st : Emit} {room ws : List ℕ} {r : Emit} {room₁ ws₁ : List ℕ} where
+  use-body-left : {d : ℕ} → BodyLeft bs ix m p k st room ws r room₁ ws₁ d → Ready bs ix m p st ws → d ≤ mostWires →
+      Opens (leftOf bs ix p k (slotOf ws d) (st .next)) (bodyInvocations (programAt p bs ix) (chainsIn bs ix p k) (slotOf ws d) (st .next))
         st room ws r room₁ ws₁
   use-body-left (walks-body-left g) = g
 
-  use-body-right : {d first : ℕ} → BodyRight bs ix m p k write st room ws r room₁ ws₁ d first → Ready bs ix m p st ws → d ≤ mostWires →
+  use-body-right : {d first : ℕ} → BodyRight bs ix m p k st room ws r room₁ ws₁ d first → Ready bs ix m p st ws → d ≤ mostWires →
       (st .status ≡ 0 → first + length (bodyInvocations (programAt p bs ix) (chainsIn bs ix p k) (slotOf ws d) first) ≤ wireCount) →
-      Follows write (rightOf bs ix p k (slotOf ws d) first (st .next)) st room ws r room₁ ws₁
+      Follows (rightOf bs ix p k (slotOf ws d) first (st .next)) st room ws r room₁ ws₁
   use-body-right (walks-body-right g) = g
 
-  use-bodies : {base n j upto : ℕ} → Bodies bs ix m p k write st room ws r room₁ ws₁ base n j upto → Ready bs ix m p st ws → base ≤ j →
+  use-bodies : {base n j upto : ℕ} → Bodies bs ix m p k st room ws r room₁ ws₁ base n j upto → Ready bs ix m p st ws → base ≤ j →
       upto ≤ st .next → base ≤ st .next → (known : List ℕ) → DoneIn ws base n j known →
-      Follows write (bodiesUpTo bs ix p k n known (heldIn ws j (upto - j)) (heldIn ws base (st .next - base)) (st .next) .events) st room ws r room₁ ws₁
+      Follows (bodiesUpTo bs ix p k n known (heldIn ws j (upto - j)) (heldIn ws base (st .next - base)) (st .next) .events) st room ws r room₁ ws₁
   use-bodies (walks-bodies g) = g
 
-  use-body : {base n d upto : ℕ} → Body bs ix m p k write st room ws r room₁ ws₁ base n d upto → Ready bs ix m p st ws → base ≤ d → d < upto →
+  use-body : {base n d upto : ℕ} → Body bs ix m p k st room ws r room₁ ws₁ base n d upto → Ready bs ix m p st ws → base ≤ d → d < upto →
       upto ≤ st .next → (known : List ℕ) → DoneIn ws base n (d + 1) known →
-      Follows write
+      Follows
         (let news = bodyInvocations (programAt p bs ix) (chainsIn bs ix p k) (slotOf ws d) (st .next) in
           around (programAt p bs ix) (chainsIn bs ix p k) (slotOf ws d) (heldIn ws (d + 1) (upto - (d + 1))) (st .next)
             (bodiesUpTo bs ix p k n known (heldIn ws (d + 1) (upto - (d + 1))) (heldIn ws base (st .next - base) ++ news)
@@ -135,39 +135,39 @@ module _ (bs ix : List ℕ) (p k : ℕ) (ws : List ℕ) (base n j upto : ℕ) wh
       le S (omega arith))
 
 -- the ways out of `emit_bodies`
-module _ {bs ix m : List ℕ} {p k : ℕ} {write : Bool} {st : Emit} {room ws : List ℕ} {base n j upto : ℕ} where
-  pub bodies-stopped : (st .status ≡ 0 → ⊥) → Bodies bs ix m p k write st room ws st room ws base n j upto
-  bodies-stopped h = walks-bodies (λ R a b c known S. follows-stopped write _ st room ws h)
+module _ {bs ix m : List ℕ} {p k : ℕ} {st : Emit} {room ws : List ℕ} {base n j upto : ℕ} where
+  pub bodies-stopped : (st .status ≡ 0 → ⊥) → Bodies bs ix m p k st room ws st room ws base n j upto
+  bodies-stopped h = walks-bodies (λ R a b c known S. follows-stopped _ st room ws h)
 
-  pub bodies-empty : n ≡ 0 → Bodies bs ix m p k write st room ws st room ws base n j upto
-  bodies-empty e = walks-bodies (λ R a b c known S. follows-as write
-    (no-bodies bs ix p k ws base n j upto known _ _ (st .next) e) (follows-none write st room ws))
+  pub bodies-empty : n ≡ 0 → Bodies bs ix m p k st room ws st room ws base n j upto
+  bodies-empty e = walks-bodies (λ R a b c known S. follows-as
+    (no-bodies bs ix p k ws base n j upto known _ _ (st .next) e) (follows-none st room ws))
 
   module _ {r : Emit} {room₁ ws₁ : List ℕ} where
     pub bodies-found : {d : ℕ} → (n ≡ 0 → ⊥) → d ≡ seekOf ws base n j (upto - j) → d < upto →
-        Body bs ix m p k write st room ws r room₁ ws₁ base n d upto → Bodies bs ix m p k write st room ws r room₁ ws₁ base n j upto
+        Body bs ix m p k st room ws r room₁ ws₁ base n d upto → Bodies bs ix m p k st room ws r room₁ ws₁ base n j upto
     bodies-found {d = d} nz e h A = walks-bodies (λ R le top over known S.
       let low = seek-low ws base n j (upto - j) in
       let t = up-found bs ix p k ws base n j upto n d refl nz le known S (heldIn ws base (st .next - base)) (st .next) e h in
-      follows-as write (sym (ap (λ (o : Emitted). o .events) (t .0))) (use-body A R (omega arith) h top (slotProcedure ws d ∷ known) (t .1)))
+      follows-as (sym (ap (λ (o : Emitted). o .events) (t .0))) (use-body A R (omega arith) h top (slotProcedure ws d ∷ known) (t .1)))
 
     pub bodies-on : {d : ℕ} → (n ≡ 0 → ⊥) → d ≡ seekOf ws base n j (upto - j) → upto ≤ d →
-        Bodies bs ix m p k write st room ws r room₁ ws₁ base (n - 1) base (st .next) → Bodies bs ix m p k write st room ws r room₁ ws₁ base n j upto
+        Bodies bs ix m p k st room ws r room₁ ws₁ base (n - 1) base (st .next) → Bodies bs ix m p k st room ws r room₁ ws₁ base n j upto
     bodies-on {d = d} nz e h A = walks-bodies (λ R le top over known S.
       let all = heldIn ws base (st .next - base) in
-      follows-as write
+      follows-as
         (ap (λ (o : Emitted). o .events) (bodies-all bs ix p k (n - 1) all (st .next) ∙
           sym (up-none bs ix p k ws base n j upto n d refl nz le known S all (st .next) e h)))
         (use-bodies A R (le-refl base) (le-refl (st .next)) over [] (none-done ws base (n - 1))))
 
 -- the ways out of `emit_rest`: the bodies that follow and the right part
-module _ {bs ix m : List ℕ} {p k : ℕ} {write : Bool} {st : Emit} {room ws : List ℕ} {base n d upto first : ℕ} where
-  pub rest-past : upto ≤ d → Rest bs ix m p k write st room ws st room ws base n d upto first
+module _ {bs ix m : List ℕ} {p k : ℕ} {st : Emit} {room ws : List ℕ} {base n d upto first : ℕ} where
+  pub rest-past : upto ≤ d → Rest bs ix m p k st room ws st room ws base n d upto first
   rest-past h = walks-rest (λ R le lt top over Q known S. not-below d upto h lt)
 
   pub rest-walk : {a : Emit} {room₁ ws₁ : List ℕ} {b : Emit} {room₂ ws₂ : List ℕ} → d < upto →
-      Bodies bs ix m p k write st room ws a room₁ ws₁ base n (d + 1) upto → BodyRight bs ix m p k write a room₁ ws₁ b room₂ ws₂ d first →
-      Rest bs ix m p k write st room ws b room₂ ws₂ base n d upto first
+      Bodies bs ix m p k st room ws a room₁ ws₁ base n (d + 1) upto → BodyRight bs ix m p k a room₁ ws₁ b room₂ ws₂ d first →
+      Rest bs ix m p k st room ws b room₂ ws₂ base n d upto first
   rest-walk {a = a} {ws₁ = ws₁} h A B = walks-rest (λ R le lt top over Q known S.
     let F = use-bodies A R (omega arith) (omega arith) (omega arith) known S in
     let slot : slotOf ws₁ d ≡ slotOf ws d = slot-kept ws ws₁ (st .next) (F .kept) d (omega arith) in
@@ -175,23 +175,23 @@ module _ {bs ix m : List ℕ} {p k : ℕ} {write : Bool} {st : Emit} {room ws : 
     let G = use-body-right B (ready-then R F) (omega arith) (λ ok. rw slot (Q (was-ok F ok))) in
     let later = heldIn ws (d + 1) (upto - (d + 1)) in
     let all = heldIn ws base (st .next - base) in
-    follows-append write F (follows-if write
-      (λ ok. rw (slot, follows-next write F ok ∙ bodies-next bs ix p k n known later all (st .next) (R .some))) G))
+    follows-append F (follows-if
+      (λ ok. rw (slot, follows-next F ok ∙ bodies-next bs ix p k n known later all (st .next) (R .some))) G))
 
 -- the ways out of `emit_inner`: the left part, then the rest
-module _ {bs ix m : List ℕ} {p k : ℕ} {write : Bool} {st : Emit} {room ws : List ℕ} {base n d upto : ℕ} where
-  use-rest : {first : ℕ} {r : Emit} {room₁ ws₁ : List ℕ} → Rest bs ix m p k write st room ws r room₁ ws₁ base n d upto first →
+module _ {bs ix m : List ℕ} {p k : ℕ} {st : Emit} {room ws : List ℕ} {base n d upto : ℕ} where
+  use-rest : {first : ℕ} {r : Emit} {room₁ ws₁ : List ℕ} → Rest bs ix m p k st room ws r room₁ ws₁ base n d upto first →
       Ready bs ix m p st ws → base ≤ d → d < upto → upto ≤ first → first ≤ st .next →
       (st .status ≡ 0 → first + length (bodyInvocations (programAt p bs ix) (chainsIn bs ix p k) (slotOf ws d) first) ≤ wireCount) →
       (known : List ℕ) → DoneIn ws base n (d + 1) known →
-      Follows write
+      Follows
         (let inner = bodiesUpTo bs ix p k n known (heldIn ws (d + 1) (upto - (d + 1))) (heldIn ws base (st .next - base)) (st .next) in
           inner .events ++ rightOf bs ix p k (slotOf ws d) first (inner .next)) st room ws r room₁ ws₁
   use-rest (walks-rest g) = g
 
-module _ {bs ix m : List ℕ} {p k : ℕ} {write : Bool} {st : Emit} {room ws : List ℕ} {base n d upto : ℕ} where
-  pub inner-walk : {a : Emit} {room₁ ws₁ : List ℕ} {b : Emit} {room₂ ws₂ : List ℕ} → BodyLeft bs ix m p k write st room ws a room₁ ws₁ d →
-      Rest bs ix m p k write a room₁ ws₁ b room₂ ws₂ base n d upto (st .next) → Inner bs ix m p k write st room ws b room₂ ws₂ base n d upto
+module _ {bs ix m : List ℕ} {p k : ℕ} {st : Emit} {room ws : List ℕ} {base n d upto : ℕ} where
+  pub inner-walk : {a : Emit} {room₁ ws₁ : List ℕ} {b : Emit} {room₂ ws₂ : List ℕ} → BodyLeft bs ix m p k st room ws a room₁ ws₁ d →
+      Rest bs ix m p k a room₁ ws₁ b room₂ ws₂ base n d upto (st .next) → Inner bs ix m p k st room ws b room₂ ws₂ base n d upto
   inner-walk {a = a} {ws₁ = ws₁} A B = walks-inner (λ R le lt top known S.
     let P = programAt p bs ix in
     let ch = chainsIn bs ix p k in
@@ -203,7 +203,7 @@ module _ {bs ix m : List ℕ} {p k : ℕ} {write : Bool} {st : Emit} {room ws : 
     let slot : slotOf ws₁ d ≡ s = slot-kept ws ws₁ (st .next) (F .kept) d (omega arith) in
     let later : heldIn ws₁ (d + 1) (upto - (d + 1)) ≡ heldIn ws (d + 1) (upto - (d + 1)) =
           held-kept ws ws₁ (st .next) (F .kept) (d + 1) (upto - (d + 1)) (omega arith) in
-    let up : a .status ≡ 0 → a .next ≡ st .next + length news = λ ok. follows-next write F ok
+    let up : a .status ≡ 0 → a .next ≡ st .next + length news = λ ok. follows-next F ok
           ∙ left-next bs ix p k (recursive P (s .procedure)) (body P (s .procedure)) (s .list) (under (s .ancilla)) (st .next) (R .some) in
     let done₁ : DoneIn ws₁ base n (d + 1) known = λ f. S f ∙ sym (appears-kept ws ws₁ (st .next) (F .kept) base (d + 1 - base) f n (omega arith)) in
     let R₁ = ready-then R F in
@@ -213,11 +213,11 @@ module _ {bs ix m : List ℕ} {p k : ℕ} {write : Bool} {st : Emit} {room ws : 
           rw (e, held-append ws₁ base (st .next - base) (length news), w, O .held ok,
             held-kept ws ws₁ (st .next) (F .kept) base (st .next - base) (omega arith)) in
     let G = use-rest B R₁ le lt top (F .rises) (λ ok. rw slot (let z = up ok in let l = R₁ .low in omega arith)) known done₁ in
-    follows-append write F (follows-if write (λ ok. rw (slot, later, all ok, up ok)) G))
+    follows-append F (follows-if (λ ok. rw (slot, later, all ok, up ok)) G))
 
-  use-inner : {r : Emit} {room₁ ws₁ : List ℕ} → Inner bs ix m p k write st room ws r room₁ ws₁ base n d upto →
+  use-inner : {r : Emit} {room₁ ws₁ : List ℕ} → Inner bs ix m p k st room ws r room₁ ws₁ base n d upto →
       Ready bs ix m p st ws → base ≤ d → d < upto → upto ≤ st .next → (known : List ℕ) → DoneIn ws base n (d + 1) known →
-      Follows write
+      Follows
         (let news = bodyInvocations (programAt p bs ix) (chainsIn bs ix p k) (slotOf ws d) (st .next) in
           let inner = bodiesUpTo bs ix p k n known (heldIn ws (d + 1) (upto - (d + 1))) (heldIn ws base (st .next - base) ++ news)
             (st .next + length news) in
@@ -226,8 +226,8 @@ module _ {bs ix m : List ℕ} {p k : ℕ} {write : Bool} {st : Emit} {room ws : 
   use-inner (walks-inner g) = g
 
 -- the ways out of `emit_body`: entry gates, what is inside them, entry gates reversed
-module _ {bs ix m : List ℕ} {p k : ℕ} {write : Bool} {st : Emit} {room ws : List ℕ} {base n d upto : ℕ} where
-  pub body-past : upto ≤ d → Body bs ix m p k write st room ws st room ws base n d upto
+module _ {bs ix m : List ℕ} {p k : ℕ} {st : Emit} {room ws : List ℕ} {base n d upto : ℕ} where
+  pub body-past : upto ≤ d → Body bs ix m p k st room ws st room ws base n d upto
   body-past h = walks-body (λ R le lt top known S. not-below d upto h lt)
 
 around-is : (P : Program) (ch : Chains) (d : Invocation) (later : List Invocation) (next : ℕ) (inner : Emitted) →
@@ -242,28 +242,28 @@ around-is P ch d later next inner =
     let E = reverse (allEntryGates d later) in
     rw (append-assoc L (inner .events ++ Q) E, append-assoc (inner .events) Q E)
 
-module _ {bs ix m : List ℕ} {p k : ℕ} {write : Bool} {st : Emit} {room ws : List ℕ} {base n d upto : ℕ} where
+module _ {bs ix m : List ℕ} {p k : ℕ} {st : Emit} {room ws : List ℕ} {base n d upto : ℕ} where
   pub body-walk : {a : Emit} {room₁ : List ℕ} {b : Emit} {room₂ ws₂ : List ℕ} {r : Emit} {room₃ : List ℕ} → d < upto →
-      progress a room₁ ≡ scan write (allEntryGates (slotOf ws d) (heldIn ws (d + 1) (upto - (d + 1)))) (progress st room) →
-      Inner bs ix m p k write a room₁ ws b room₂ ws₂ base n d upto →
-      progress r room₃ ≡ scan write (reverse (allEntryGates (slotOf ws₂ d) (heldIn ws₂ (d + 1) (upto - (d + 1))))) (progress b room₂) →
-      Body bs ix m p k write st room ws r room₃ ws₂ base n d upto
+      progress a room₁ ≡ scan (allEntryGates (slotOf ws d) (heldIn ws (d + 1) (upto - (d + 1)))) (progress st room) →
+      Inner bs ix m p k a room₁ ws b room₂ ws₂ base n d upto →
+      progress r room₃ ≡ scan (reverse (allEntryGates (slotOf ws₂ d) (heldIn ws₂ (d + 1) (upto - (d + 1))))) (progress b room₂) →
+      Body bs ix m p k st room ws r room₃ ws₂ base n d upto
   body-walk {a = a} {room₁ = room₁} {b = b} {room₂ = room₂} {ws₂ = ws₂} {r = r} {room₃ = room₃} h e A q = walks-body (λ R le lt top known S.
     let s = slotOf ws d in
     let later = heldIn ws (d + 1) (upto - (d + 1)) in
     let E = allEntryGates s later in
     let only = entries-only s later in
-    let same : a .next ≡ st .next = ap (λ (x : Progress). emitOf x .next) e ∙ gates-next write E st room only in
-    let F = follows-gates write E st room ws a room₁ only e in
+    let same : a .next ≡ st .next = ap (λ (x : Progress). emitOf x .next) e ∙ gates-next E st room only in
+    let F = follows-gates E st room ws a room₁ only e in
     let G = use-inner A (ready-then R F) le lt (omega arith) known S in
     let slot : slotOf ws₂ d ≡ s = slot-kept ws ws₂ (a .next) (G .kept) d (omega arith) in
     let held : heldIn ws₂ (d + 1) (upto - (d + 1)) ≡ later = held-kept ws ws₂ (a .next) (G .kept) (d + 1) (upto - (d + 1)) (omega arith) in
-    let H = follows-gates write (reverse E) b room₂ ws₂ r room₃ (only-reverse E only) (rw (slot, held) at q) in
+    let H = follows-gates (reverse E) b room₂ ws₂ r room₃ (only-reverse E only) (rw (slot, held) at q) in
     let news = bodyInvocations (programAt p bs ix) (chainsIn bs ix p k) s (st .next) in
     let inner = bodiesUpTo bs ix p k n known later (heldIn ws base (st .next - base) ++ news) (st .next + length news) in
-    let G₁ : Follows write (leftOf bs ix p k s (st .next) ++ (inner .events ++ rightOf bs ix p k s (st .next) (inner .next))) a room₁ ws b room₂ ws₂ =
-          follows-as write (rw same) G in
-    follows-as write (around-is (programAt p bs ix) (chainsIn bs ix p k) s later (st .next) inner) (follows-append write F (follows-append write G₁ H)))
+    let G₁ : Follows (leftOf bs ix p k s (st .next) ++ (inner .events ++ rightOf bs ix p k s (st .next) (inner .next))) a room₁ ws b room₂ ws₂ =
+          follows-as (rw same) G in
+    follows-as (around-is (programAt p bs ix) (chainsIn bs ix p k) s later (st .next) inner) (follows-append F (follows-append G₁ H)))
 
 -- the body of f by its record
 body-is : (p : ℕ) (bs ix : List ℕ) (f i depth : ℕ) → i ≡ startOf ix (rootsAt + f) → depth ≡ bodyDepth p f →
@@ -280,49 +280,49 @@ under-roomy p f depth w cs deep e = byLt p f
     (λ le. let all : depth ≡ mostDepth = deep ∙ rw (le-ltb p f le) in rw e (record { ones = omega arith; zeros = omega arith }))
 
 -- the ways out of `emit_body_left` and `emit_body_right`
-module _ {bs ix m : List ℕ} {p k : ℕ} {write : Bool} {st : Emit} {room ws : List ℕ} {d : ℕ} {r : Emit} {room₁ ws₁ : List ℕ} {f i depth w : ℕ} {l : List ℕ}
+module _ {bs ix m : List ℕ} {p k : ℕ} {st : Emit} {room ws : List ℕ} {d : ℕ} {r : Emit} {room₁ ws₁ : List ℕ} {f i depth w : ℕ} {l : List ℕ}
     {cs : Controls} (is-f : f ≡ slotProcedure ws d) (is-l : l ≡ slotList ws d) (at : i ≡ startOf ix (rootsAt + f)) (deep : depth ≡ bodyDepth p f)
     (is-w : w ≡ wireOf d) (is-cs : cs ≡ under w) where
-  pub body-left-walk : Left bs ix m p k write st room ws r room₁ ws₁ f i depth l cs → BodyLeft bs ix m p k write st room ws r room₁ ws₁ d
+  pub body-left-walk : Left bs ix m p k st room ws r room₁ ws₁ f i depth l cs → BodyLeft bs ix m p k st room ws r room₁ ws₁ d
   unfolding slotOf
   body-left-walk A = walks-body-left (λ R h.
     let O = use-left A R (under-roomy p f depth w cs deep is-cs) in
     rw (body-is p bs ix f i depth at deep, is-f, is-l, is-cs, is-w) at O)
 
-  pub body-right-walk : {first : ℕ} → Right bs ix m p k write st room ws r room₁ ws₁ f i depth l cs first →
-      BodyRight bs ix m p k write st room ws r room₁ ws₁ d first
+  pub body-right-walk : {first : ℕ} → Right bs ix m p k st room ws r room₁ ws₁ f i depth l cs first →
+      BodyRight bs ix m p k st room ws r room₁ ws₁ d first
   unfolding slotOf
   body-right-walk {first = first} A = walks-body-right (λ R h Q.
     let F = use-right A R (under-roomy p f depth w cs deep is-cs) (λ ok. rw (body-is p bs ix f i depth at deep, is-f, is-l) (Q ok)) in
     rw (body-is p bs ix f i depth at deep, is-f, is-l, is-cs, is-w) at F)
 
 -- a chain's end: its first ancilla is flipped back, and all its ancillas are given back
-finish-between : (write : Bool) (g : Gate) (a : ℕ) (b : Emit) (room : List ℕ) → a ≤ b .next →
-    (a ≤ emitOf (scan write (places g ∷ frees a ∷ []) (progress b room)) .next)
-      × (emitOf (scan write (places g ∷ frees a ∷ []) (progress b room)) .next ≤ b .next)
-finish-between write g a b room h = byBool (eqb (b .status) 0)
+finish-between : (g : Gate) (a : ℕ) (b : Emit) (room : List ℕ) → a ≤ b .next →
+    (a ≤ emitOf (scan (places g ∷ frees a ∷ []) (progress b room)) .next)
+      × (emitOf (scan (places g ∷ frees a ∷ []) (progress b room)) .next ≤ b .next)
+finish-between g a b room h = byBool (eqb (b .status) 0)
     (λ z. let ok = eqb-true (b .status) 0 z in byLt (usable (length room)) (b .used + length (encode g))
-      (λ lt. rw (scan-no-gate write (frees a ∷ []) b room ok g lt) (h, le-refl (b .next)))
+      (λ lt. rw (scan-no-gate (frees a ∷ []) b room ok g lt) (h, le-refl (b .next)))
       (λ le. byLt (b .gates) mostCircuit
-        (λ few. rw (scan-places write (frees a ∷ []) b room ok g le few,
-            scan-frees write [] (placed b (length (encode g))) (stored write room (b .used) (encode g)) refl a,
-            ← scan-nothing write (progress (freed (placed b (length (encode g))) a) (stored write room (b .used) (encode g)))) (le-refl a, h))
-        (λ many. rw (scan-many write (frees a ∷ []) b room ok g many) (h, le-refl (b .next)))))
-    (λ z. rw (scan-stopped write (places g ∷ frees a ∷ []) b room z) (h, le-refl (b .next)))
+        (λ few. rw (scan-places (frees a ∷ []) b room ok g le few,
+            scan-frees [] (placed b (length (encode g))) (sets room (b .used) (encode g)) refl a,
+            ← scan-nothing (progress (freed (placed b (length (encode g))) a) (sets room (b .used) (encode g)))) (le-refl a, h))
+        (λ many. rw (scan-many (frees a ∷ []) b room ok g many) (h, le-refl (b .next)))))
+    (λ z. rw (scan-stopped (places g ∷ frees a ∷ []) b room z) (h, le-refl (b .next)))
 
-follows-finish : {write : Bool} {xs : List Event} {st : Emit} {room ws : List ℕ} {b : Emit} {room₁ ws₁ : List ℕ} {r : Emit} {room₂ : List ℕ} (g h : Gate) →
-    Follows write xs st room ws b room₁ ws₁ → (b .status ≡ 0 → g ≡ h) →
-    progress r room₂ ≡ scan write (places g ∷ frees (st .next) ∷ []) (progress b room₁) →
-    Follows write (xs ++ (places h ∷ frees (st .next) ∷ [])) st room ws r room₂ ws₁
-follows-finish {write = write} {xs = xs} {st = st} {room = room} {b = b} {room₁ = room₁} {r = r} {room₂ = room₂} g h F w e =
-    let t = finish-between write g (st .next) b room₁ (F .rises) in
-    let n : r .next ≡ emitOf (scan write (places g ∷ frees (st .next) ∷ []) (progress b room₁)) .next = ap (λ (x : Progress). emitOf x .next) e in
-    let e₁ : progress r room₂ ≡ scan write (places h ∷ frees (st .next) ∷ []) (progress b room₁) = byEq (b .status) 0
-          (λ z. e ∙ ap (λ (v : Gate). scan write (places v ∷ frees (st .next) ∷ []) (progress b room₁)) (w z))
-          (λ z. e ∙ scan-stopped write _ b room₁ (ne-eqb (b .status) 0 z) ∙ sym (scan-stopped write _ b room₁ (ne-eqb (b .status) 0 z))) in
+follows-finish : {xs : List Event} {st : Emit} {room ws : List ℕ} {b : Emit} {room₁ ws₁ : List ℕ} {r : Emit} {room₂ : List ℕ} (g h : Gate) →
+    Follows xs st room ws b room₁ ws₁ → (b .status ≡ 0 → g ≡ h) →
+    progress r room₂ ≡ scan (places g ∷ frees (st .next) ∷ []) (progress b room₁) →
+    Follows (xs ++ (places h ∷ frees (st .next) ∷ [])) st room ws r room₂ ws₁
+follows-finish {xs = xs} {st = st} {room = room} {b = b} {room₁ = room₁} {r = r} {room₂ = room₂} g h F w e =
+    let t = finish-between g (st .next) b room₁ (F .rises) in
+    let n : r .next ≡ emitOf (scan (places g ∷ frees (st .next) ∷ []) (progress b room₁)) .next = ap (λ (x : Progress). emitOf x .next) e in
+    let e₁ : progress r room₂ ≡ scan (places h ∷ frees (st .next) ∷ []) (progress b room₁) = byEq (b .status) 0
+          (λ z. e ∙ ap (λ (v : Gate). scan (places v ∷ frees (st .next) ∷ []) (progress b room₁)) (w z))
+          (λ z. e ∙ scan-stopped _ b room₁ (ne-eqb (b .status) 0 z) ∙ sym (scan-stopped _ b room₁ (ne-eqb (b .status) 0 z))) in
     record {
-      scanned = e₁ ∙ ap (scan write (places h ∷ frees (st .next) ∷ [])) (F .scanned)
-        ∙ sym (scan-append write xs (places h ∷ frees (st .next) ∷ []) (progress st room));
+      scanned = e₁ ∙ ap (scan (places h ∷ frees (st .next) ∷ [])) (F .scanned)
+        ∙ sym (scan-append xs (places h ∷ frees (st .next) ∷ []) (progress st room));
       long = F .long;
       rises = rw n (t .0);
       low = λ k. let a = F .low k in let c = t .1 in rw n (omega arith);
@@ -357,32 +357,32 @@ chain-is P zero f l a h = absurd (h refl)
 chain-is P (suc k) f l a h = let e : suc k - 1 ≡ k = omega arith in rw e
 
 -- an ancilla that was taken is a wire
-taken-low : {f : ℕ} {l : List ℕ} {cs : Controls} {write : Bool} {st : Emit} {room ws : List ℕ} {a : Emit} {room₁ ws₁ : List ℕ} →
-    Invokes f l cs write st room ws a room₁ ws₁ → (length l ≡ 0 → ⊥) → slotsLength ≤ length ws → st .next ≤ wireCount → a .status ≡ 0 →
+taken-low : {f : ℕ} {l : List ℕ} {cs : Controls} {st : Emit} {room ws : List ℕ} {a : Emit} {room₁ ws₁ : List ℕ} →
+    Invokes f l cs st room ws a room₁ ws₁ → (length l ≡ 0 → ⊥) → slotsLength ≤ length ws → st .next ≤ wireCount → a .status ≡ 0 →
     (a .next ≡ st .next + 1) × (wireOf (st .next) ≡ st .next)
-taken-low {f = f} {l = l} {cs = cs} {write = write} {st = st} {a = a} A some space small ok =
+taken-low {f = f} {l = l} {cs = cs} {st = st} {a = a} A some space small ok =
     let O = use-invokes A space in
-    let e : a .next ≡ st .next + 1 = follows-next write (O .follows) ok ∙ one-more f l cs (st .next) some .0 in
+    let e : a .next ≡ st .next + 1 = follows-next (O .follows) ok ∙ one-more f l cs (st .next) some .0 in
     let top = O .follows .low small in
     let le : st .next ≤ mostWires = omega arith in
     (e, rw (le-ltb mostWires (st .next) le))
 
 -- the ways out of `emit_call`
-module _ {bs ix m : List ℕ} {p k : ℕ} {write : Bool} {st : Emit} {room ws : List ℕ} {f : ℕ} {l : List ℕ} {cs : Controls} where
-  pub call-stopped : (st .status ≡ 0 → ⊥) → Call bs ix m p k write st room ws st room ws f l cs
-  call-stopped h = walks-call (λ R. follows-stopped write _ st room ws h)
+module _ {bs ix m : List ℕ} {p k : ℕ} {st : Emit} {room ws : List ℕ} {f : ℕ} {l : List ℕ} {cs : Controls} where
+  pub call-stopped : (st .status ≡ 0 → ⊥) → Call bs ix m p k st room ws st room ws f l cs
+  call-stopped h = walks-call (λ R. follows-stopped _ st room ws h)
 
   module _ {n : ℕ} (is : n ≡ length l) where
-    pub call-empty : n ≡ 0 → Call bs ix m p k write st room ws st room ws f l cs
-    call-empty e = walks-call (λ R. follows-as write (no-start (chainsIn bs ix p k) f l cs (st .next) (sym is ∙ e)) (follows-none write st room ws))
+    pub call-empty : n ≡ 0 → Call bs ix m p k st room ws st room ws f l cs
+    call-empty e = walks-call (λ R. follows-as (no-start (chainsIn bs ix p k) f l cs (st .next) (sym is ∙ e)) (follows-none st room ws))
 
-    module _ {a : Emit} {room₁ ws₁ : List ℕ} (nz : n ≡ 0 → ⊥) (A : Invokes f l cs write st room ws a room₁ ws₁) where
+    module _ {a : Emit} {room₁ ws₁ : List ℕ} (nz : n ≡ 0 → ⊥) (A : Invokes f l cs st room ws a room₁ ws₁) where
       pub call-flat : {r : Emit} {room₂ : List ℕ} → k ≡ 0 →
-          progress r room₂ ≡ scan write (places (flip cs (wireOf (st .next))) ∷ frees (st .next) ∷ []) (progress a room₁) →
-          Call bs ix m p k write st room ws r room₂ ws₁ f l cs
+          progress r room₂ ≡ scan (places (flip cs (wireOf (st .next))) ∷ frees (st .next) ∷ []) (progress a room₁) →
+          Call bs ix m p k st room ws r room₂ ws₁ f l cs
       call-flat e q = walks-call (λ R.
         let O = use-invokes A (R .space) in
-        follows-as write
+        follows-as
           (ap (λ (es : List Event). invokes l cs (st .next) ++ (es ++ (places (flip cs (st .next)) ∷ frees (st .next) ∷ [])))
               (chain-none (programAt p bs ix) k f l (st .next) e)
             ∙ start-is (chainsIn bs ix p k) f l cs (st .next) (λ e. nz (is ∙ e)))
@@ -390,9 +390,9 @@ module _ {bs ix m : List ℕ} {p k : ℕ} {write : Bool} {st : Emit} {room ws : 
             (λ ok. ap (flip cs) (taken-low A (λ e. nz (is ∙ e)) (R .space) (R .low) ok .1)) q))
 
       pub call-chain : {b : Emit} {room₂ ws₂ : List ℕ} {r : Emit} {room₃ : List ℕ} → (k ≡ 0 → ⊥) →
-          Bodies bs ix m p (k - 1) write a room₁ ws₁ b room₂ ws₂ (st .next) n (st .next) (a .next) →
-          progress r room₃ ≡ scan write (places (flip cs (wireOf (st .next))) ∷ frees (st .next) ∷ []) (progress b room₂) →
-          Call bs ix m p k write st room ws r room₃ ws₂ f l cs
+          Bodies bs ix m p (k - 1) a room₁ ws₁ b room₂ ws₂ (st .next) n (st .next) (a .next) →
+          progress r room₃ ≡ scan (places (flip cs (wireOf (st .next))) ∷ frees (st .next) ∷ []) (progress b room₂) →
+          Call bs ix m p k st room ws r room₃ ws₂ f l cs
       call-chain {b = b} {room₂ = room₂} {ws₂ = ws₂} h B q = walks-call (λ R.
         let P = programAt p bs ix in
         let some : length l ≡ 0 → ⊥ = λ e. nz (is ∙ e) in
@@ -411,8 +411,8 @@ module _ {bs ix m : List ℕ} {p k : ℕ} {write : Bool} {st : Emit} {room ws : 
               let up : a .next ≡ suc next = let z = taken-low A some (R .space) (R .low) ok .0 in omega arith in
               rw (held ok, up, is) (ap (λ (o : Emitted). o .events) (bodies-all bs ix p (k - 1) (length l) (invocation f l next ∷ []) (suc next))
                 ∙ chain-is P k f l next h) in
-        let both = follows-append write F (follows-if write events G) in
-        follows-as write
+        let both = follows-append F (follows-if events G) in
+        follows-as
           (append-assoc (invokes l cs next) (chainsWithin P k f l next) end ∙ start-is (chainsIn bs ix p k) f l cs next some)
           (follows-finish (flip cs (wireOf next)) (flip cs next) both (λ ok. ap (flip cs) (taken-low A some (R .space) (R .low) (was-ok G ok) .1)) q))
 

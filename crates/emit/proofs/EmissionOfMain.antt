@@ -1,6 +1,5 @@
 -- Main emitted from its start: the whole emission is scanned.
 use mathlib.Core.Path.{_≡_, refl, ap, _∙_}
-use mathlib.Core.Bool.{Bool}
 use mathlib.Core.List.{List}
 use Prim.Native.Nat.{ℕ, suc, _+_, _≤_, min}
 use native.Mathlib.Omega.{arith}
@@ -30,19 +29,19 @@ emission-is p bs ix n k root l cs h e a q c =
     let next : n + 1 ≡ suc n = omega arith in
     rw (e, a, q, c, all, next, count-at p bs ix)
 
-pub main-walk : {bs ix m : List ℕ} {p n : ℕ} {write : Bool} {room ws : List ℕ} {r : Emit} {room₁ ws₁ : List ℕ} {root : ℕ} {l : List ℕ} {cs : Controls} →
-    root ≡ startOf ix rootsAt → l ≡ qubits (min n mostQubits) → cs ≡ noControls → Whole bs ix m p p write (begun n) room ws r room₁ ws₁ root mostDepth l cs →
-    Emits bs ix m p n write room ws r room₁ ws₁
-main-walk {bs = bs} {ix = ix} {m = m} {p = p} {n = n} {write = write} {room = room} {ws = ws} {root = root} {l = l} {cs = cs} a q c A =
+pub main-walk : {bs ix m : List ℕ} {p n : ℕ} {room ws : List ℕ} {r : Emit} {room₁ ws₁ : List ℕ} {root : ℕ} {l : List ℕ} {cs : Controls} →
+    root ≡ startOf ix rootsAt → l ≡ qubits (min n mostQubits) → cs ≡ noControls → Whole bs ix m p p (begun n) room ws r room₁ ws₁ root mostDepth l cs →
+    Emits bs ix m p n room ws r room₁ ws₁
+main-walk {bs = bs} {ix = ix} {m = m} {p = p} {n = n} {room = room} {ws = ws} {root = root} {l = l} {cs = cs} a q c A =
     walks-main (λ few reach small space.
     let R : Ready bs ix m p (begun n) ws = record { few = few; reach = reach; some = omega arith; low = omega arith; space = space } in
     let C : Roomy mostDepth cs = rw c (record { ones = omega arith; zeros = omega arith }) in
     let F = use-whole A R C in
-    (F .scanned ∙ ap (λ es. scan write es (progress (begun n) room)) (emission-is p bs ix n p root l cs small refl a q c), F .long))
+    (F .scanned ∙ ap (λ es. scan es (progress (begun n) room)) (emission-is p bs ix n p root l cs small refl a q c), F .long))
 
-pub use-main : {bs ix m : List ℕ} {p n : ℕ} {write : Bool} {room ws : List ℕ} {r : Emit} {room₁ ws₁ : List ℕ} → Emits bs ix m p n write room ws r room₁ ws₁ →
+pub use-main : {bs ix m : List ℕ} {p n : ℕ} {room ws : List ℕ} {r : Emit} {room₁ ws₁ : List ℕ} → Emits bs ix m p n room ws r room₁ ws₁ →
     p ≤ mostProcedures → m ≡ reachAt p bs ix → n ≤ mostQubits → slotsLength ≤ length ws →
-    (progress r room₁ ≡ scan write (emission (programAt p bs ix) n) (progress (begun n) room)) × (length ws₁ ≡ length ws)
+    (progress r room₁ ≡ scan (emission (programAt p bs ix) n) (progress (begun n) room)) × (length ws₁ ≡ length ws)
 use-main (walks-main g) = g
 
 pub ruleset emitting = (needs, main-walk)

@@ -52,30 +52,30 @@ module _ {r r₁ : ℕ → Bool} (s : Statement) {w : ℕ} (e : r₁ ≡ r) (is 
   wide-not h = let q = same-width in le-ltb 0 (width r s) (omega arith)
 
 -- nothing was refused before
-pub was-ok : {write : Bool} {es : List Event} {st : Emit} {room ws : List ℕ} {r : Emit} {room₁ ws₁ : List ℕ} →
-    Follows write es st room ws r room₁ ws₁ → r .status ≡ 0 → st .status ≡ 0
-was-ok {write = write} {es = es} {st = st} {room = room} F ok =
-    scan-was write es st room (sym (ap (λ (s : Progress). emitOf s .status) (F .scanned)) ∙ ok)
+pub was-ok : {es : List Event} {st : Emit} {room ws : List ℕ} {r : Emit} {room₁ ws₁ : List ℕ} →
+    Follows es st room ws r room₁ ws₁ → r .status ≡ 0 → st .status ≡ 0
+was-ok {es = es} {st = st} {room = room} F ok =
+    scan-was es st room (sym (ap (λ (s : Progress). emitOf s .status) (F .scanned)) ∙ ok)
 
-module _ {write : Bool} {st : Emit} {room ws : List ℕ} {r : Emit} {room₁ ws₁ : List ℕ} where
-  opens-by : {es es₁ : List Event} {news news₁ : List Invocation} → es ≡ es₁ → news ≡ news₁ → Opens write es news st room ws r room₁ ws₁ →
-      Opens write es₁ news₁ st room ws r room₁ ws₁
+module _ {st : Emit} {room ws : List ℕ} {r : Emit} {room₁ ws₁ : List ℕ} where
+  opens-by : {es es₁ : List Event} {news news₁ : List Invocation} → es ≡ es₁ → news ≡ news₁ → Opens es news st room ws r room₁ ws₁ →
+      Opens es₁ news₁ st room ws r room₁ ws₁
   opens-by {es = es} {news₁ = news₁} e n O =
-    subst (λ (v : List Event). Opens write v news₁ st room ws r room₁ ws₁) e (subst (λ (v : List Invocation). Opens write es v st room ws r room₁ ws₁) n O)
+    subst (λ (v : List Event). Opens v news₁ st room ws r room₁ ws₁) e (subst (λ (v : List Invocation). Opens es v st room ws r room₁ ws₁) n O)
 
   -- no new invocation
-  opens-none : {es : List Event} → Follows write es st room ws r room₁ ws₁ → Opens write es [] st room ws r room₁ ws₁
+  opens-none : {es : List Event} → Follows es st room ws r room₁ ws₁ → Opens es [] st room ws r room₁ ws₁
   unfolding heldIn
   opens-none F = record { follows = F; held = λ z. refl }
 
-  pub use-left : {bs ix m : List ℕ} {p k f i depth : ℕ} {l : List ℕ} {cs : Controls} → Left bs ix m p k write st room ws r room₁ ws₁ f i depth l cs →
+  pub use-left : {bs ix m : List ℕ} {p k f i depth : ℕ} {l : List ℕ} {cs : Controls} → Left bs ix m p k st room ws r room₁ ws₁ f i depth l cs →
       Ready bs ix m p st ws → Roomy depth cs →
-      Opens write (left (chainsIn bs ix p k) (recursive (programAt p bs ix) f) (statementAt p bs ix depth i) l cs (st .next))
+      Opens (left (chainsIn bs ix p k) (recursive (programAt p bs ix) f) (statementAt p bs ix depth i) l cs (st .next))
         (invocations (recursive (programAt p bs ix) f) (statementAt p bs ix depth i) l (st .next)) st room ws r room₁ ws₁
   use-left (walks-left g) = g
 
-  pub use-invokes : {f : ℕ} {l : List ℕ} {cs : Controls} → Invokes f l cs write st room ws r room₁ ws₁ → slotsLength ≤ length ws →
-      Opens write (invokes l cs (st .next)) (invoked f l (st .next)) st room ws r room₁ ws₁
+  pub use-invokes : {f : ℕ} {l : List ℕ} {cs : Controls} → Invokes f l cs st room ws r room₁ ws₁ → slotsLength ≤ length ws →
+      Opens (invokes l cs (st .next)) (invoked f l (st .next)) st room ws r room₁ ws₁
   use-invokes (fills-slot g) = g
 
 -- the left part of a statement and its invocations, by what it is
@@ -97,43 +97,43 @@ module _ (ch : Chains) (r : ℕ → Bool) (l : List ℕ) (cs : Controls) (next :
 
 -- a part whole, then a part's left
 module _ (bs ix : List ℕ) (p k : ℕ) (f : ℕ) (l : List ℕ) (cs : Controls) (x y : Statement) where
-  whole-then-left : {m : List ℕ} {write : Bool} {st : Emit} {room ws : List ℕ} {r : Emit} {room₁ ws₁ : List ℕ} {b : Emit} {room₂ ws₂ : List ℕ} →
-      Ready bs ix m p st ws → Follows write (whole (chainsIn bs ix p k) x l cs (st .next)) st room ws r room₁ ws₁ →
-      Opens write (left (chainsIn bs ix p k) (recursive (programAt p bs ix) f) y l cs (r .next))
+  whole-then-left : {m : List ℕ} {st : Emit} {room ws : List ℕ} {r : Emit} {room₁ ws₁ : List ℕ} {b : Emit} {room₂ ws₂ : List ℕ} →
+      Ready bs ix m p st ws → Follows (whole (chainsIn bs ix p k) x l cs (st .next)) st room ws r room₁ ws₁ →
+      Opens (left (chainsIn bs ix p k) (recursive (programAt p bs ix) f) y l cs (r .next))
         (invocations (recursive (programAt p bs ix) f) y l (r .next)) r room₁ ws₁ b room₂ ws₂ →
-      Opens write (whole (chainsIn bs ix p k) x l cs (st .next) ++ left (chainsIn bs ix p k) (recursive (programAt p bs ix) f) y l cs (st .next))
+      Opens (whole (chainsIn bs ix p k) x l cs (st .next) ++ left (chainsIn bs ix p k) (recursive (programAt p bs ix) f) y l cs (st .next))
         (invocations (recursive (programAt p bs ix) f) y l (st .next)) st room ws b room₂ ws₂
-  whole-then-left {write = write} {st = st} {r = r} {ws₂ = ws₂} R F O =
-    let back : r .status ≡ 0 → r .next ≡ st .next = λ ok. follows-next write F ok ∙ whole-next bs ix p k x l cs (st .next) (R .some) in
+  whole-then-left {st = st} {r = r} {ws₂ = ws₂} R F O =
+    let back : r .status ≡ 0 → r .next ≡ st .next = λ ok. follows-next F ok ∙ whole-next bs ix p k x l cs (st .next) (R .some) in
     let rec = recursive (programAt p bs ix) f in
     record {
-      follows = follows-append write F (follows-if write (λ ok. ap (λ (n : ℕ). left (chainsIn bs ix p k) rec y l cs n) (back ok)) (O .follows));
+      follows = follows-append F (follows-if (λ ok. ap (λ (n : ℕ). left (chainsIn bs ix p k) rec y l cs n) (back ok)) (O .follows));
       held = λ ok. subst (λ (n : ℕ). heldIn ws₂ n (length (invocations rec y l n)) ≡ invocations rec y l n) (back (was-ok (O .follows) ok)) (O .held ok) }
 
 -- a part's left, then another's
 module _ (bs ix : List ℕ) (p k : ℕ) (f : ℕ) (l : List ℕ) (cs₁ cs₂ : Controls) (x y : Statement) where
-  left-then-left : {m : List ℕ} {write : Bool} {st : Emit} {room ws : List ℕ} {r : Emit} {room₁ ws₁ : List ℕ} {b : Emit} {room₂ ws₂ : List ℕ} →
+  left-then-left : {m : List ℕ} {st : Emit} {room ws : List ℕ} {r : Emit} {room₁ ws₁ : List ℕ} {b : Emit} {room₂ ws₂ : List ℕ} →
       Ready bs ix m p st ws →
-      Opens write (left (chainsIn bs ix p k) (recursive (programAt p bs ix) f) x l cs₁ (st .next))
+      Opens (left (chainsIn bs ix p k) (recursive (programAt p bs ix) f) x l cs₁ (st .next))
         (invocations (recursive (programAt p bs ix) f) x l (st .next)) st room ws r room₁ ws₁ →
-      Opens write (left (chainsIn bs ix p k) (recursive (programAt p bs ix) f) y l cs₂ (r .next))
+      Opens (left (chainsIn bs ix p k) (recursive (programAt p bs ix) f) y l cs₂ (r .next))
         (invocations (recursive (programAt p bs ix) f) y l (r .next)) r room₁ ws₁ b room₂ ws₂ →
-      Opens write
+      Opens
         (left (chainsIn bs ix p k) (recursive (programAt p bs ix) f) x l cs₁ (st .next) ++
           left (chainsIn bs ix p k) (recursive (programAt p bs ix) f) y l cs₂
             (st .next + length (invocations (recursive (programAt p bs ix) f) x l (st .next))))
         (invocations (recursive (programAt p bs ix) f) x l (st .next) ++
           invocations (recursive (programAt p bs ix) f) y l (st .next + length (invocations (recursive (programAt p bs ix) f) x l (st .next))))
         st room ws b room₂ ws₂
-  left-then-left {write = write} {st = st} {r = r} {ws₁ = ws₁} {ws₂ = ws₂} R O Q =
+  left-then-left {st = st} {r = r} {ws₁ = ws₁} {ws₂ = ws₂} R O Q =
     let rec = recursive (programAt p bs ix) f in
     let n = st .next in
     let xs = invocations rec x l n in
     let ys = invocations rec y l (n + length xs) in
-    let up : r .status ≡ 0 → r .next ≡ n + length xs = λ ok. follows-next write (O .follows) ok ∙ left-next bs ix p k rec x l cs₁ n (R .some) in
+    let up : r .status ≡ 0 → r .next ≡ n + length xs = λ ok. follows-next (O .follows) ok ∙ left-next bs ix p k rec x l cs₁ n (R .some) in
     record {
-      follows = follows-append write (O .follows)
-        (follows-if write (λ ok. ap (λ (v : ℕ). left (chainsIn bs ix p k) rec y l cs₂ v) (up ok)) (Q .follows));
+      follows = follows-append (O .follows)
+        (follows-if (λ ok. ap (λ (v : ℕ). left (chainsIn bs ix p k) rec y l cs₂ v) (up ok)) (Q .follows));
       held = λ ok.
         let before = was-ok (Q .follows) ok in
         let top : r .next ≡ n + length xs = up before in
@@ -144,33 +144,33 @@ module _ (bs ix : List ℕ) (p k : ℕ) (f : ℕ) (l : List ℕ) (cs₁ cs₂ : 
         rw (length-append xs ys, held-append ws₂ n (length xs) (length ys), first, second) }
 
 -- the ways out of `emit_left`
-module _ {bs ix m : List ℕ} {p k : ℕ} {write : Bool} {st : Emit} {room ws : List ℕ} {f i depth : ℕ} {l : List ℕ} {cs : Controls} where
-  left-skipped : statementAt p bs ix depth i ≡ skip → Left bs ix m p k write st room ws st room ws f i depth l cs
+module _ {bs ix m : List ℕ} {p k : ℕ} {st : Emit} {room ws : List ℕ} {f i depth : ℕ} {l : List ℕ} {cs : Controls} where
+  left-skipped : statementAt p bs ix depth i ≡ skip → Left bs ix m p k st room ws st room ws f i depth l cs
   left-skipped e =
     let h = left-skip (chainsIn bs ix p k) (recursive (programAt p bs ix) f) l cs (st .next) (statementAt p bs ix depth i) e in
-    walks-left (λ R C. opens-by (h .0) (h .1) (opens-none (follows-none write st room ws)))
+    walks-left (λ R C. opens-by (h .0) (h .1) (opens-none (follows-none st room ws)))
 
-  pub left-stopped : (st .status ≡ 0 → ⊥) → Left bs ix m p k write st room ws st room ws f i depth l cs
-  left-stopped h = walks-left (λ R C. record { follows = follows-stopped write _ st room ws h; held = λ z. absurd (h z) })
+  pub left-stopped : (st .status ≡ 0 → ⊥) → Left bs ix m p k st room ws st room ws f i depth l cs
+  left-stopped h = walks-left (λ R C. record { follows = follows-stopped _ st room ws h; held = λ z. absurd (h z) })
 
-  pub left-spent : depth ≡ 0 → Left bs ix m p k write st room ws st room ws f i depth l cs
+  pub left-spent : depth ≡ 0 → Left bs ix m p k st room ws st room ws f i depth l cs
   left-spent e = left-skipped (spent-skip p bs ix depth i e)
 
   module _ {found : Step} (nz : depth ≡ 0 → ⊥) (is : found ≡ stepAt p bs ix i l) where
-    pub left-idle : (x : Step) → found ≡ x → Idle x → Left bs ix m p k write st room ws st room ws f i depth l cs
+    pub left-idle : (x : Step) → found ≡ x → Idle x → Left bs ix m p k st room ws st room ws f i depth l cs
     left-idle x e o = left-skipped (idle-skip p bs ix depth i l nz is x e o)
 
     module _ {r : Emit} {room₁ : List ℕ} where
-      pub left-touches : {q : ℕ} → found ≡ step.Touches q → progress r room₁ ≡ scan write (places (flip cs q) ∷ []) (progress st room) →
-          Left bs ix m p k write st room ws r room₁ ws f i depth l cs
+      pub left-touches : {q : ℕ} → found ≡ step.Touches q → progress r room₁ ≡ scan (places (flip cs q) ∷ []) (progress st room) →
+          Left bs ix m p k st room ws r room₁ ws f i depth l cs
       left-touches {q = q} e g =
         let h = at-step p bs ix depth i l nz is e in
         let t = left-not (chainsIn bs ix p k) (recursive (programAt p bs ix) f) l cs (st .next) (statementAt p bs ix depth i) (h .0) (h .1) q (h .2) (h .3) in
-        walks-left (λ R C. opens-by (t .0) (t .1) (opens-none (follows-gates write _ st room ws r room₁ tt g)))
+        walks-left (λ R C. opens-by (t .0) (t .1) (opens-none (follows-gates _ st room ws r room₁ tt g)))
 
       module _ {ws₁ : List ℕ} where
         pub left-chosen : {c a b x : ℕ} → found ≡ step.Chooses c a b → x ≡ cond (holds (testAt p bs ix (depth - 1) c) l) a b →
-            Left bs ix m p k write st room ws r room₁ ws₁ f x (depth - 1) l cs → Left bs ix m p k write st room ws r room₁ ws₁ f i depth l cs
+            Left bs ix m p k st room ws r room₁ ws₁ f x (depth - 1) l cs → Left bs ix m p k st room ws r room₁ ws₁ f i depth l cs
         left-chosen e q A =
           let ch = chainsIn bs ix p k in
           let rec = recursive (programAt p bs ix) f in
@@ -182,7 +182,7 @@ module _ {bs ix m : List ℕ} {p k : ℕ} {write : Bool} {st : Emit} {room ws : 
             (use-left A R (roomy-less nz C)))
 
         pub left-first : {a b w : ℕ} → found ≡ step.Sequence a b → w ≡ min 2 (width (recursiveIn m f) (statementAt p bs ix (depth - 1) a)) → 0 < w →
-            Left bs ix m p k write st room ws r room₁ ws₁ f a (depth - 1) l cs → Left bs ix m p k write st room ws r room₁ ws₁ f i depth l cs
+            Left bs ix m p k st room ws r room₁ ws₁ f a (depth - 1) l cs → Left bs ix m p k st room ws r room₁ ws₁ f i depth l cs
         left-first {a = a} {b = b} e h t A =
           let rec = recursive (programAt p bs ix) f in
           let q = at-step p bs ix depth i l nz is e in
@@ -194,7 +194,7 @@ module _ {bs ix m : List ℕ} {p k : ℕ} {write : Bool} {st : Emit} {room ws : 
               (use-left A R (roomy-less nz C)))
 
         pub left-recurs : {g at : ℕ} {rest : List ℕ} {b : Bool} → found ≡ step.Calls g at → rest ≡ remaining (removalsOf bs at) l → b ≡ recursiveIn m f g →
-            b ≡ true → Invokes g rest cs write st room ws r room₁ ws₁ → Left bs ix m p k write st room ws r room₁ ws₁ f i depth l cs
+            b ≡ true → Invokes g rest cs st room ws r room₁ ws₁ → Left bs ix m p k st room ws r room₁ ws₁ f i depth l cs
         left-recurs {g = g} {at = at} {rest = rest} e d h t A =
           let rec = recursive (programAt p bs ix) f in
           let q = at-step p bs ix depth i l nz is e in
@@ -204,7 +204,7 @@ module _ {bs ix m : List ℕ} {p k : ℕ} {write : Bool} {st : Emit} {room ws : 
               (rw (q, d) (sym (invocations-recursive rec l (st .next) (removalsOf bs at) g yes))) (use-invokes A (R .space)))
 
         pub left-calls : {g at : ℕ} {rest : List ℕ} {b : Bool} → found ≡ step.Calls g at → rest ≡ remaining (removalsOf bs at) l → b ≡ recursiveIn m f g →
-            b ≡ false → Call bs ix m p k write st room ws r room₁ ws₁ g rest cs → Left bs ix m p k write st room ws r room₁ ws₁ f i depth l cs
+            b ≡ false → Call bs ix m p k st room ws r room₁ ws₁ g rest cs → Left bs ix m p k st room ws r room₁ ws₁ f i depth l cs
         left-calls {g = g} {at = at} {rest = rest} e d h t A =
           let rec = recursive (programAt p bs ix) f in
           let q = at-step p bs ix depth i l nz is e in
@@ -215,8 +215,8 @@ module _ {bs ix m : List ℕ} {p k : ℕ} {write : Bool} {st : Emit} {room ws : 
 
         module _ {b : Emit} {room₂ ws₂ : List ℕ} where
           pub left-second : {x y w : ℕ} → found ≡ step.Sequence x y → w ≡ min 2 (width (recursiveIn m f) (statementAt p bs ix (depth - 1) x)) → w ≤ 0 →
-              Whole bs ix m p k write st room ws r room₁ ws₁ x (depth - 1) l cs → Left bs ix m p k write r room₁ ws₁ b room₂ ws₂ f y (depth - 1) l cs →
-              Left bs ix m p k write st room ws b room₂ ws₂ f i depth l cs
+              Whole bs ix m p k st room ws r room₁ ws₁ x (depth - 1) l cs → Left bs ix m p k r room₁ ws₁ b room₂ ws₂ f y (depth - 1) l cs →
+              Left bs ix m p k st room ws b room₂ ws₂ f i depth l cs
           left-second {x = x} {y = y} e h t A B =
             let rec = recursive (programAt p bs ix) f in
             let q = at-step p bs ix depth i l nz is e in
@@ -229,8 +229,8 @@ module _ {bs ix m : List ℕ} {p k : ℕ} {write : Bool} {st : Emit} {room ws : 
                 (whole-then-left bs ix p k f l cs X Y R F (use-left B (ready-then R F) (roomy-less nz C))))
 
           pub left-branches : {q x y : ℕ} {cs₁ cs₂ : Controls} → found ≡ step.Branches q x y → cs₁ ≡ withControlWithin q false cs →
-              Left bs ix m p k write st room ws r room₁ ws₁ f x (depth - 1) l cs₁ → cs₂ ≡ withControlWithin q true cs →
-              Left bs ix m p k write r room₁ ws₁ b room₂ ws₂ f y (depth - 1) l cs₂ → Left bs ix m p k write st room ws b room₂ ws₂ f i depth l cs
+              Left bs ix m p k st room ws r room₁ ws₁ f x (depth - 1) l cs₁ → cs₂ ≡ withControlWithin q true cs →
+              Left bs ix m p k r room₁ ws₁ b room₂ ws₂ f y (depth - 1) l cs₂ → Left bs ix m p k st room ws b room₂ ws₂ f i depth l cs
           left-branches {q = q} {x = x} {y = y} e c₁ A c₂ B =
             let rec = recursive (programAt p bs ix) f in
             let X = statementAt p bs ix (depth - 1) x in
@@ -238,8 +238,8 @@ module _ {bs ix m : List ℕ} {p k : ℕ} {write : Bool} {st : Emit} {room ws : 
             let h = at-step p bs ix depth i l nz is e in
             let t = left-case (chainsIn bs ix p k) rec l cs (st .next) (statementAt p bs ix depth i) (h .0) (h .1) q X Y (h .2) (h .3) in
             walks-left (λ R C.
-              let A′ = subst (λ (v : Controls). Left bs ix m p k write st room ws r room₁ ws₁ f x (depth - 1) l v) (c₁ ∙ within-is nz C q false) A in
-              let B′ = subst (λ (v : Controls). Left bs ix m p k write r room₁ ws₁ b room₂ ws₂ f y (depth - 1) l v) (c₂ ∙ within-is nz C q true) B in
+              let A′ = subst (λ (v : Controls). Left bs ix m p k st room ws r room₁ ws₁ f x (depth - 1) l v) (c₁ ∙ within-is nz C q false) A in
+              let B′ = subst (λ (v : Controls). Left bs ix m p k r room₁ ws₁ b room₂ ws₂ f y (depth - 1) l v) (c₂ ∙ within-is nz C q true) B in
               let O = use-left A′ R (roomy-with-control nz C q false) in
               opens-by (t .0) (t .1) (left-then-left bs ix p k f l (withControl q false cs) (withControl q true cs) X Y R O
                 (use-left B′ (ready-then R (O .follows)) (roomy-with-control nz C q true))))

@@ -38,11 +38,11 @@ use Rattle.emit.proofs.WalkPreconditions.{ready-then}
 use Rattle.emit.proofs.WholeStatement.{within-is, roomy-less, roomy-with-control, right-next, use-whole}
 use Rattle.emit.proofs.LeftPart.{recursive-is, wide-so, wide-not, was-ok}
 
-module _ {bs ix m : List ℕ} {p k : ℕ} {write : Bool} {st : Emit} {room ws : List ℕ} {r : Emit} {room₁ ws₁ : List ℕ} where
-  pub use-right : {f i depth : ℕ} {l : List ℕ} {cs : Controls} {first : ℕ} → Right bs ix m p k write st room ws r room₁ ws₁ f i depth l cs first →
+module _ {bs ix m : List ℕ} {p k : ℕ} {st : Emit} {room ws : List ℕ} {r : Emit} {room₁ ws₁ : List ℕ} where
+  pub use-right : {f i depth : ℕ} {l : List ℕ} {cs : Controls} {first : ℕ} → Right bs ix m p k st room ws r room₁ ws₁ f i depth l cs first →
       Ready bs ix m p st ws → Roomy depth cs →
       (st .status ≡ 0 → first + length (invocations (recursive (programAt p bs ix) f) (statementAt p bs ix depth i) l first) ≤ wireCount) →
-      Follows write (right (chainsIn bs ix p k) (recursive (programAt p bs ix) f) (statementAt p bs ix depth i) l cs first (st .next)) st room ws r room₁ ws₁
+      Follows (right (chainsIn bs ix p k) (recursive (programAt p bs ix) f) (statementAt p bs ix depth i) l cs first (st .next)) st room ws r room₁ ws₁
   use-right (walks-right g) = g
 
 -- the right part of a statement, by what it is
@@ -79,85 +79,85 @@ returns-wire g (q ∷ l) cs a h = let le : a ≤ mostWires = omega arith in rw (
 
 -- a right part, then a part whole
 module _ (bs ix : List ℕ) (p k : ℕ) (f : ℕ) (l : List ℕ) (cs : Controls) (first : ℕ) (x y : Statement) where
-  right-then-whole : {m : List ℕ} {write : Bool} {st : Emit} {room ws : List ℕ} {r : Emit} {room₁ ws₁ : List ℕ} {b : Emit} {room₂ ws₂ : List ℕ} →
-      Ready bs ix m p st ws → Follows write (right (chainsIn bs ix p k) (recursive (programAt p bs ix) f) x l cs first (st .next)) st room ws r room₁ ws₁ →
-      Follows write (whole (chainsIn bs ix p k) y l cs (r .next)) r room₁ ws₁ b room₂ ws₂ →
-      Follows write (right (chainsIn bs ix p k) (recursive (programAt p bs ix) f) x l cs first (st .next) ++ whole (chainsIn bs ix p k) y l cs (st .next))
+  right-then-whole : {m : List ℕ} {st : Emit} {room ws : List ℕ} {r : Emit} {room₁ ws₁ : List ℕ} {b : Emit} {room₂ ws₂ : List ℕ} →
+      Ready bs ix m p st ws → Follows (right (chainsIn bs ix p k) (recursive (programAt p bs ix) f) x l cs first (st .next)) st room ws r room₁ ws₁ →
+      Follows (whole (chainsIn bs ix p k) y l cs (r .next)) r room₁ ws₁ b room₂ ws₂ →
+      Follows (right (chainsIn bs ix p k) (recursive (programAt p bs ix) f) x l cs first (st .next) ++ whole (chainsIn bs ix p k) y l cs (st .next))
         st room ws b room₂ ws₂
-  right-then-whole {write = write} {st = st} R F G = follows-append write F
-    (follows-if write (λ ok. ap (λ (n : ℕ). whole (chainsIn bs ix p k) y l cs n)
-      (follows-next write F ok ∙ right-next bs ix p k (recursive (programAt p bs ix) f) x l cs first (st .next) (R .some))) G)
+  right-then-whole {st = st} R F G = follows-append F
+    (follows-if (λ ok. ap (λ (n : ℕ). whole (chainsIn bs ix p k) y l cs n)
+      (follows-next F ok ∙ right-next bs ix p k (recursive (programAt p bs ix) f) x l cs first (st .next) (R .some))) G)
 
 -- a right part, then another
 module _ (bs ix : List ℕ) (p k : ℕ) (f : ℕ) (l : List ℕ) (cs₁ cs₂ : Controls) (first second : ℕ) (x y : Statement) where
-  right-then-right : {m : List ℕ} {write : Bool} {st : Emit} {room ws : List ℕ} {r : Emit} {room₁ ws₁ : List ℕ} {b : Emit} {room₂ ws₂ : List ℕ} →
-      Ready bs ix m p st ws → Follows write (right (chainsIn bs ix p k) (recursive (programAt p bs ix) f) y l cs₁ second (st .next)) st room ws r room₁ ws₁ →
-      Follows write (right (chainsIn bs ix p k) (recursive (programAt p bs ix) f) x l cs₂ first (r .next)) r room₁ ws₁ b room₂ ws₂ →
-      Follows write (right (chainsIn bs ix p k) (recursive (programAt p bs ix) f) y l cs₁ second (st .next) ++
+  right-then-right : {m : List ℕ} {st : Emit} {room ws : List ℕ} {r : Emit} {room₁ ws₁ : List ℕ} {b : Emit} {room₂ ws₂ : List ℕ} →
+      Ready bs ix m p st ws → Follows (right (chainsIn bs ix p k) (recursive (programAt p bs ix) f) y l cs₁ second (st .next)) st room ws r room₁ ws₁ →
+      Follows (right (chainsIn bs ix p k) (recursive (programAt p bs ix) f) x l cs₂ first (r .next)) r room₁ ws₁ b room₂ ws₂ →
+      Follows (right (chainsIn bs ix p k) (recursive (programAt p bs ix) f) y l cs₁ second (st .next) ++
         right (chainsIn bs ix p k) (recursive (programAt p bs ix) f) x l cs₂ first (st .next)) st room ws b room₂ ws₂
-  right-then-right {write = write} {st = st} R F G = follows-append write F
-    (follows-if write (λ ok. ap (λ (n : ℕ). right (chainsIn bs ix p k) (recursive (programAt p bs ix) f) x l cs₂ first n)
-      (follows-next write F ok ∙ right-next bs ix p k (recursive (programAt p bs ix) f) y l cs₁ second (st .next) (R .some))) G)
+  right-then-right {st = st} R F G = follows-append F
+    (follows-if (λ ok. ap (λ (n : ℕ). right (chainsIn bs ix p k) (recursive (programAt p bs ix) f) x l cs₂ first n)
+      (follows-next F ok ∙ right-next bs ix p k (recursive (programAt p bs ix) f) y l cs₁ second (st .next) (R .some))) G)
 
 -- the ways out of `emit_right`
-module _ {bs ix m : List ℕ} {p k : ℕ} {write : Bool} {st : Emit} {room ws : List ℕ} {f i depth : ℕ} {l : List ℕ} {cs : Controls} {first : ℕ} where
-  right-skipped : statementAt p bs ix depth i ≡ skip → Right bs ix m p k write st room ws st room ws f i depth l cs first
-  right-skipped e = walks-right (λ R C Q. follows-as write
-    (right-skip (chainsIn bs ix p k) (recursive (programAt p bs ix) f) l cs first (st .next) (statementAt p bs ix depth i) e) (follows-none write st room ws))
+module _ {bs ix m : List ℕ} {p k : ℕ} {st : Emit} {room ws : List ℕ} {f i depth : ℕ} {l : List ℕ} {cs : Controls} {first : ℕ} where
+  right-skipped : statementAt p bs ix depth i ≡ skip → Right bs ix m p k st room ws st room ws f i depth l cs first
+  right-skipped e = walks-right (λ R C Q. follows-as
+    (right-skip (chainsIn bs ix p k) (recursive (programAt p bs ix) f) l cs first (st .next) (statementAt p bs ix depth i) e) (follows-none st room ws))
 
-  pub right-stopped : (st .status ≡ 0 → ⊥) → Right bs ix m p k write st room ws st room ws f i depth l cs first
-  right-stopped h = walks-right (λ R C Q. follows-stopped write _ st room ws h)
+  pub right-stopped : (st .status ≡ 0 → ⊥) → Right bs ix m p k st room ws st room ws f i depth l cs first
+  right-stopped h = walks-right (λ R C Q. follows-stopped _ st room ws h)
 
-  pub right-spent : depth ≡ 0 → Right bs ix m p k write st room ws st room ws f i depth l cs first
+  pub right-spent : depth ≡ 0 → Right bs ix m p k st room ws st room ws f i depth l cs first
   right-spent e = right-skipped (spent-skip p bs ix depth i e)
 
   module _ {found : Step} (nz : depth ≡ 0 → ⊥) (is : found ≡ stepAt p bs ix i l) where
-    pub right-idle : (x : Step) → found ≡ x → Idle x → Right bs ix m p k write st room ws st room ws f i depth l cs first
+    pub right-idle : (x : Step) → found ≡ x → Idle x → Right bs ix m p k st room ws st room ws f i depth l cs first
     right-idle x e o = right-skipped (idle-skip p bs ix depth i l nz is x e o)
 
-    pub right-touches : {q : ℕ} → found ≡ step.Touches q → Right bs ix m p k write st room ws st room ws f i depth l cs first
-    right-touches e = let h = at-step p bs ix depth i l nz is e in walks-right (λ R C Q. follows-as write
+    pub right-touches : {q : ℕ} → found ≡ step.Touches q → Right bs ix m p k st room ws st room ws f i depth l cs first
+    right-touches e = let h = at-step p bs ix depth i l nz is e in walks-right (λ R C Q. follows-as
       (right-not (chainsIn bs ix p k) (recursive (programAt p bs ix) f) l cs first (st .next) (statementAt p bs ix depth i) (h .0) (h .1) (h .2))
-      (follows-none write st room ws))
+      (follows-none st room ws))
 
     pub right-calls : {g at : ℕ} {b : Bool} → found ≡ step.Calls g at → b ≡ recursiveIn m f g → b ≡ false →
-        Right bs ix m p k write st room ws st room ws f i depth l cs first
+        Right bs ix m p k st room ws st room ws f i depth l cs first
     right-calls {g = g} {at = at} e h t =
       let rec = recursive (programAt p bs ix) f in
       let q = at-step p bs ix depth i l nz is e in
       walks-right (λ R C Q.
         let no : rec g ≡ false = ap (λ (v : ℕ → Bool). v g) (sym (recursive-is f R)) ∙ sym h ∙ t in
-        follows-as write (rw q (sym (right-other (chainsIn bs ix p k) rec l cs first (removalsOf bs at) g (st .next) no))) (follows-none write st room ws))
+        follows-as (rw q (sym (right-other (chainsIn bs ix p k) rec l cs first (removalsOf bs at) g (st .next) no))) (follows-none st room ws))
 
     module _ {r : Emit} {room₁ : List ℕ} where
       pub right-recurs : {g at : ℕ} {rest : List ℕ} {b : Bool} → found ≡ step.Calls g at → b ≡ recursiveIn m f g → b ≡ true →
-          rest ≡ remaining (removalsOf bs at) l → progress r room₁ ≡ scan write (returns rest cs (wireOf first)) (progress st room) →
-          Right bs ix m p k write st room ws r room₁ ws f i depth l cs first
+          rest ≡ remaining (removalsOf bs at) l → progress r room₁ ≡ scan (returns rest cs (wireOf first)) (progress st room) →
+          Right bs ix m p k st room ws r room₁ ws f i depth l cs first
       right-recurs {g = g} {at = at} {rest = rest} e h t d s =
         let rec = recursive (programAt p bs ix) f in
         let q = at-step p bs ix depth i l nz is e in
         walks-right (λ R C Q.
           let yes : rec g ≡ true = ap (λ (v : ℕ → Bool). v g) (sym (recursive-is f R)) ∙ sym h ∙ t in
           let all = invocations-recursive rec l first (removalsOf bs at) g yes in
-          follows-as write (rw q (sym (right-recursive (chainsIn bs ix p k) rec l cs first (removalsOf bs at) g (st .next) yes)))
-            (follows-if write
+          follows-as (rw q (sym (right-recursive (chainsIn bs ix p k) rec l cs first (removalsOf bs at) g (st .next) yes)))
+            (follows-if
               (λ ok. returns-wire g (remaining (removalsOf bs at) l) cs first (rw (q, all) at (Q ok)))
-              (follows-gates write _ st room ws r room₁ (returns-only (remaining (removalsOf bs at) l) cs (wireOf first)) (rw d at s))))
+              (follows-gates _ st room ws r room₁ (returns-only (remaining (removalsOf bs at) l) cs (wireOf first)) (rw d at s))))
 
       module _ {ws₁ : List ℕ} where
         pub right-chosen : {c a b x : ℕ} → found ≡ step.Chooses c a b → x ≡ cond (holds (testAt p bs ix (depth - 1) c) l) a b →
-            Right bs ix m p k write st room ws r room₁ ws₁ f x (depth - 1) l cs first → Right bs ix m p k write st room ws r room₁ ws₁ f i depth l cs first
+            Right bs ix m p k st room ws r room₁ ws₁ f x (depth - 1) l cs first → Right bs ix m p k st room ws r room₁ ws₁ f i depth l cs first
         right-chosen e q A =
           let ch = chainsIn bs ix p k in
           let rec = recursive (programAt p bs ix) f in
           let calls = chosen-means (λ s. invocations rec s l first) l (invocations-yes rec l first) (invocations-no rec l first) p bs ix depth i nz is e q in
-          walks-right (λ R C Q. follows-as write
+          walks-right (λ R C Q. follows-as
             (sym (chosen-means (λ s. right ch rec s l cs first (st .next)) l
               (λ c s t. right-yes ch rec l cs first c s t (st .next)) (λ c s t. right-no ch rec l cs first c s t (st .next)) p bs ix depth i nz is e q))
             (use-right A R (roomy-less nz C) (λ ok. rw calls at (Q ok))))
 
         pub right-second : {a b w : ℕ} → found ≡ step.Sequence a b → w ≡ min 2 (width (recursiveIn m f) (statementAt p bs ix (depth - 1) a)) → w ≤ 0 →
-            Right bs ix m p k write st room ws r room₁ ws₁ f b (depth - 1) l cs first → Right bs ix m p k write st room ws r room₁ ws₁ f i depth l cs first
+            Right bs ix m p k st room ws r room₁ ws₁ f b (depth - 1) l cs first → Right bs ix m p k st room ws r room₁ ws₁ f i depth l cs first
         right-second {a = a} {b = b} e h t A =
           let rec = recursive (programAt p bs ix) f in
           let q = at-step p bs ix depth i l nz is e in
@@ -165,13 +165,13 @@ module _ {bs ix m : List ℕ} {p k : ℕ} {write : Bool} {st : Emit} {room ws : 
           let Y = statementAt p bs ix (depth - 1) b in
           walks-right (λ R C Q.
             let thin = wide-not X (recursive-is f R) h t in
-            follows-as write (rw q (sym (right-thin (chainsIn bs ix p k) rec l cs first X Y (st .next) thin)))
+            follows-as (rw q (sym (right-thin (chainsIn bs ix p k) rec l cs first X Y (st .next) thin)))
               (use-right A R (roomy-less nz C) (λ ok. rw (q, invocations-thin rec l first X Y thin) at (Q ok))))
 
         module _ {b : Emit} {room₂ ws₂ : List ℕ} where
           pub right-first : {x y w : ℕ} → found ≡ step.Sequence x y → w ≡ min 2 (width (recursiveIn m f) (statementAt p bs ix (depth - 1) x)) → 0 < w →
-              Right bs ix m p k write st room ws r room₁ ws₁ f x (depth - 1) l cs first → Whole bs ix m p k write r room₁ ws₁ b room₂ ws₂ y (depth - 1) l cs →
-              Right bs ix m p k write st room ws b room₂ ws₂ f i depth l cs first
+              Right bs ix m p k st room ws r room₁ ws₁ f x (depth - 1) l cs first → Whole bs ix m p k r room₁ ws₁ b room₂ ws₂ y (depth - 1) l cs →
+              Right bs ix m p k st room ws b room₂ ws₂ f i depth l cs first
           right-first {x = x} {y = y} e h t A B =
             let rec = recursive (programAt p bs ix) f in
             let q = at-step p bs ix depth i l nz is e in
@@ -180,14 +180,14 @@ module _ {bs ix m : List ℕ} {p k : ℕ} {write : Bool} {st : Emit} {room ws : 
             walks-right (λ R C Q.
               let wide = wide-so X (recursive-is f R) h t in
               let F = use-right A R (roomy-less nz C) (λ ok. rw (q, invocations-wide rec l first X Y wide) at (Q ok)) in
-              follows-as write (rw q (sym (right-wide (chainsIn bs ix p k) rec l cs first X Y (st .next) wide)))
+              follows-as (rw q (sym (right-wide (chainsIn bs ix p k) rec l cs first X Y (st .next) wide)))
                 (right-then-whole bs ix p k f l cs first X Y R F (use-whole B (ready-then R F) (roomy-less nz C))))
 
           pub right-branches : {q x y n second : ℕ} {cs₁ cs₂ : Controls} → found ≡ step.Branches q x y →
               n ≡ min mostCalls (length (invocations (recursiveIn m f) (statementAt p bs ix (depth - 1) x) l 0)) → second ≡ min mostCalls (first + n) →
-              cs₁ ≡ withControlWithin q true cs → Right bs ix m p k write st room ws r room₁ ws₁ f y (depth - 1) l cs₁ second →
-              cs₂ ≡ withControlWithin q false cs → Right bs ix m p k write r room₁ ws₁ b room₂ ws₂ f x (depth - 1) l cs₂ first →
-              Right bs ix m p k write st room ws b room₂ ws₂ f i depth l cs first
+              cs₁ ≡ withControlWithin q true cs → Right bs ix m p k st room ws r room₁ ws₁ f y (depth - 1) l cs₁ second →
+              cs₂ ≡ withControlWithin q false cs → Right bs ix m p k r room₁ ws₁ b room₂ ws₂ f x (depth - 1) l cs₂ first →
+              Right bs ix m p k st room ws b room₂ ws₂ f i depth l cs first
           right-branches {q = q} {x = x} {y = y} {n = n} {second = second} e is-n is-s c₁ A c₂ B =
             let rec = recursive (programAt p bs ix) f in
             let X = statementAt p bs ix (depth - 1) x in
@@ -196,8 +196,8 @@ module _ {bs ix m : List ℕ} {p k : ℕ} {write : Bool} {st : Emit} {room ws : 
             let h = at-step p bs ix depth i l nz is e in
             let both = count-case (chainsIn bs ix p k) rec l cs first (st .next) S (h .0) (h .1) X Y (h .2) in
             walks-right (λ R C Q.
-              let A′ = subst (λ (v : Controls). Right bs ix m p k write st room ws r room₁ ws₁ f y (depth - 1) l v second) (c₁ ∙ within-is nz C q true) A in
-              let B′ = subst (λ (v : Controls). Right bs ix m p k write r room₁ ws₁ b room₂ ws₂ f x (depth - 1) l v first) (c₂ ∙ within-is nz C q false) B in
+              let A′ = subst (λ (v : Controls). Right bs ix m p k st room ws r room₁ ws₁ f y (depth - 1) l v second) (c₁ ∙ within-is nz C q true) A in
+              let B′ = subst (λ (v : Controls). Right bs ix m p k r room₁ ws₁ b room₂ ws₂ f x (depth - 1) l v first) (c₂ ∙ within-is nz C q false) B in
               let counted : n ≡ min mostCalls (length (invocations rec X l 0)) = rw (recursive-is f R) at is-n in
               let same = same-count rec X l 0 first in
               let second-is : st .status ≡ 0 → second ≡ first + length (invocations rec X l first) = λ ok.
@@ -208,8 +208,8 @@ module _ {bs ix m : List ℕ} {p k : ℕ} {write : Bool} {st : Emit} {room ws : 
                       (total first (length (invocations rec X l first)) _ (length (invocations rec S l first)) both (Q ok))) in
               let G = use-right B′ (ready-then R F) (roomy-with-control nz C q false) (λ ok.
                     part first (length (invocations rec X l first)) _ (length (invocations rec S l first)) both (Q (was-ok F ok))) in
-              follows-as write (right-case (chainsIn bs ix p k) rec l cs first (st .next) S (h .0) (h .1) q X Y (h .2) (h .3))
-                (follows-if write (λ ok. ap (λ (v : ℕ). right (chainsIn bs ix p k) rec Y l (withControl q true cs) v (st .next)
+              follows-as (right-case (chainsIn bs ix p k) rec l cs first (st .next) S (h .0) (h .1) q X Y (h .2) (h .3))
+                (follows-if (λ ok. ap (λ (v : ℕ). right (chainsIn bs ix p k) rec Y l (withControl q true cs) v (st .next)
                     ++ right (chainsIn bs ix p k) rec X l (withControl q false cs) first (st .next)) (second-is ok))
                   (right-then-right bs ix p k f l (withControl q true cs) (withControl q false cs) first second X Y R F G)))
             where

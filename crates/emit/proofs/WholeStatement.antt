@@ -88,88 +88,88 @@ module _ (ch : Chains) (l : List ℕ) (cs : Controls) (next : ℕ) (s : Statemen
   unfolding whole
   whole-call e = rw e
 
-module _ {bs ix m : List ℕ} {p k : ℕ} {write : Bool} {st : Emit} {room ws : List ℕ} {r : Emit} {room₁ ws₁ : List ℕ} where
+module _ {bs ix m : List ℕ} {p k : ℕ} {st : Emit} {room ws : List ℕ} {r : Emit} {room₁ ws₁ : List ℕ} where
   -- what a walk promises
-  pub use-whole : {i depth : ℕ} {l : List ℕ} {cs : Controls} → Whole bs ix m p k write st room ws r room₁ ws₁ i depth l cs →
+  pub use-whole : {i depth : ℕ} {l : List ℕ} {cs : Controls} → Whole bs ix m p k st room ws r room₁ ws₁ i depth l cs →
       Ready bs ix m p st ws → Roomy depth cs →
-      Follows write (whole (chainsIn bs ix p k) (statementAt p bs ix depth i) l cs (st .next)) st room ws r room₁ ws₁
+      Follows (whole (chainsIn bs ix p k) (statementAt p bs ix depth i) l cs (st .next)) st room ws r room₁ ws₁
   use-whole (walks-whole f) = f
 
-  pub use-call : {f : ℕ} {l : List ℕ} {cs : Controls} → Call bs ix m p k write st room ws r room₁ ws₁ f l cs → Ready bs ix m p st ws →
-      Follows write (startChain (chainsIn bs ix p k) f l cs (st .next)) st room ws r room₁ ws₁
+  pub use-call : {f : ℕ} {l : List ℕ} {cs : Controls} → Call bs ix m p k st room ws r room₁ ws₁ f l cs → Ready bs ix m p st ws →
+      Follows (startChain (chainsIn bs ix p k) f l cs (st .next)) st room ws r room₁ ws₁
   use-call (walks-call f) = f
 
 -- two parts whole, one after the other
 module _ (bs ix : List ℕ) (p k : ℕ) (l : List ℕ) (x y : Statement) (cs₁ cs₂ : Controls) where
-  two-parts : {m : List ℕ} {write : Bool} {st : Emit} {room ws : List ℕ} {r : Emit} {room₁ ws₁ : List ℕ} {b : Emit} {room₂ ws₂ : List ℕ} →
+  two-parts : {m : List ℕ} {st : Emit} {room ws : List ℕ} {r : Emit} {room₁ ws₁ : List ℕ} {b : Emit} {room₂ ws₂ : List ℕ} →
       Ready bs ix m p st ws →
-      Follows write (whole (chainsIn bs ix p k) x l cs₁ (st .next)) st room ws r room₁ ws₁ →
-      Follows write (whole (chainsIn bs ix p k) y l cs₂ (r .next)) r room₁ ws₁ b room₂ ws₂ →
-      Follows write (whole (chainsIn bs ix p k) x l cs₁ (st .next) ++ whole (chainsIn bs ix p k) y l cs₂ (st .next)) st room ws b room₂ ws₂
-  two-parts {write = write} {st = st} R F G = follows-append write F
-    (follows-if write (λ ok. ap (λ (n : ℕ). whole (chainsIn bs ix p k) y l cs₂ n)
-      (follows-next write F ok ∙ whole-next bs ix p k x l cs₁ (st .next) (R .some))) G)
+      Follows (whole (chainsIn bs ix p k) x l cs₁ (st .next)) st room ws r room₁ ws₁ →
+      Follows (whole (chainsIn bs ix p k) y l cs₂ (r .next)) r room₁ ws₁ b room₂ ws₂ →
+      Follows (whole (chainsIn bs ix p k) x l cs₁ (st .next) ++ whole (chainsIn bs ix p k) y l cs₂ (st .next)) st room ws b room₂ ws₂
+  two-parts {st = st} R F G = follows-append F
+    (follows-if (λ ok. ap (λ (n : ℕ). whole (chainsIn bs ix p k) y l cs₂ n)
+      (follows-next F ok ∙ whole-next bs ix p k x l cs₁ (st .next) (R .some))) G)
 
 -- the ways out of `emit_whole`
-module _ {bs ix m : List ℕ} {p k : ℕ} {write : Bool} {st : Emit} {room ws : List ℕ} {i depth : ℕ} {l : List ℕ} {cs : Controls} where
-  pub whole-stopped : (st .status ≡ 0 → ⊥) → Whole bs ix m p k write st room ws st room ws i depth l cs
-  whole-stopped f = walks-whole (λ R C. follows-stopped write _ st room ws f)
+module _ {bs ix m : List ℕ} {p k : ℕ} {st : Emit} {room ws : List ℕ} {i depth : ℕ} {l : List ℕ} {cs : Controls} where
+  pub whole-stopped : (st .status ≡ 0 → ⊥) → Whole bs ix m p k st room ws st room ws i depth l cs
+  whole-stopped f = walks-whole (λ R C. follows-stopped _ st room ws f)
 
-  pub whole-spent : depth ≡ 0 → Whole bs ix m p k write st room ws st room ws i depth l cs
-  whole-spent e = walks-whole (λ R C. follows-as write
-    (whole-skip (chainsIn bs ix p k) l cs (st .next) (statementAt p bs ix depth i) (spent-skip p bs ix depth i e)) (follows-none write st room ws))
+  pub whole-spent : depth ≡ 0 → Whole bs ix m p k st room ws st room ws i depth l cs
+  whole-spent e = walks-whole (λ R C. follows-as
+    (whole-skip (chainsIn bs ix p k) l cs (st .next) (statementAt p bs ix depth i) (spent-skip p bs ix depth i e)) (follows-none st room ws))
 
   module _ {found : Step} (nz : depth ≡ 0 → ⊥) (is : found ≡ stepAt p bs ix i l) where
-    whole-skipped : statementAt p bs ix depth i ≡ skip → Whole bs ix m p k write st room ws st room ws i depth l cs
-    whole-skipped e = walks-whole (λ R C. follows-as write
-      (whole-skip (chainsIn bs ix p k) l cs (st .next) (statementAt p bs ix depth i) e) (follows-none write st room ws))
+    whole-skipped : statementAt p bs ix depth i ≡ skip → Whole bs ix m p k st room ws st room ws i depth l cs
+    whole-skipped e = walks-whole (λ R C. follows-as
+      (whole-skip (chainsIn bs ix p k) l cs (st .next) (statementAt p bs ix depth i) e) (follows-none st room ws))
 
-    pub whole-idle : (x : Step) → found ≡ x → Idle x → Whole bs ix m p k write st room ws st room ws i depth l cs
+    pub whole-idle : (x : Step) → found ≡ x → Idle x → Whole bs ix m p k st room ws st room ws i depth l cs
     whole-idle x e o = whole-skipped (idle-skip p bs ix depth i l nz is x e o)
 
     module _ {r : Emit} {room₁ : List ℕ} where
-      pub whole-touches : {q : ℕ} → found ≡ step.Touches q → progress r room₁ ≡ scan write (places (flip cs q) ∷ []) (progress st room) →
-          Whole bs ix m p k write st room ws r room₁ ws i depth l cs
+      pub whole-touches : {q : ℕ} → found ≡ step.Touches q → progress r room₁ ≡ scan (places (flip cs q) ∷ []) (progress st room) →
+          Whole bs ix m p k st room ws r room₁ ws i depth l cs
       whole-touches e g = let h = at-step p bs ix depth i l nz is e in
-        walks-whole (λ R C. follows-as write (whole-not (chainsIn bs ix p k) l cs (st .next) (statementAt p bs ix depth i) (h .2) (h .3))
-          (follows-gates write _ st room ws r room₁ tt g))
+        walks-whole (λ R C. follows-as (whole-not (chainsIn bs ix p k) l cs (st .next) (statementAt p bs ix depth i) (h .2) (h .3))
+          (follows-gates _ st room ws r room₁ tt g))
 
       module _ {ws₁ : List ℕ} where
         pub whole-calls : {f at : ℕ} {rest : List ℕ} → found ≡ step.Calls f at → rest ≡ remaining (removalsOf bs at) l →
-            Call bs ix m p k write st room ws r room₁ ws₁ f rest cs → Whole bs ix m p k write st room ws r room₁ ws₁ i depth l cs
+            Call bs ix m p k st room ws r room₁ ws₁ f rest cs → Whole bs ix m p k st room ws r room₁ ws₁ i depth l cs
         whole-calls {f = f} {at = at} {rest = rest} e q A = let h = at-step p bs ix depth i l nz is e in
-          walks-whole (λ R C. follows-as write
+          walks-whole (λ R C. follows-as
             (ap (λ (v : List ℕ). startChain (chainsIn bs ix p k) f v cs (st .next)) q ∙
               whole-call (chainsIn bs ix p k) l cs (st .next) (statementAt p bs ix depth i) h)
             (use-call A R))
 
         pub whole-chosen : {c a b x : ℕ} → found ≡ step.Chooses c a b → x ≡ cond (holds (testAt p bs ix (depth - 1) c) l) a b →
-            Whole bs ix m p k write st room ws r room₁ ws₁ x (depth - 1) l cs → Whole bs ix m p k write st room ws r room₁ ws₁ i depth l cs
+            Whole bs ix m p k st room ws r room₁ ws₁ x (depth - 1) l cs → Whole bs ix m p k st room ws r room₁ ws₁ i depth l cs
         whole-chosen e q A =
           let ch = chainsIn bs ix p k in
-          walks-whole (λ R C. follows-as write
+          walks-whole (λ R C. follows-as
             (sym (chosen-means (λ s. whole ch s l cs (st .next)) l (whole-yes ch l cs (st .next)) (whole-no ch l cs (st .next)) p bs ix depth i nz is e q))
             (use-whole A R (roomy-less nz C)))
 
         module _ {b : Emit} {room₂ ws₂ : List ℕ} where
           pub whole-sequence : {x y : ℕ} → found ≡ step.Sequence x y →
-              Whole bs ix m p k write st room ws r room₁ ws₁ x (depth - 1) l cs → Whole bs ix m p k write r room₁ ws₁ b room₂ ws₂ y (depth - 1) l cs →
-              Whole bs ix m p k write st room ws b room₂ ws₂ i depth l cs
+              Whole bs ix m p k st room ws r room₁ ws₁ x (depth - 1) l cs → Whole bs ix m p k r room₁ ws₁ b room₂ ws₂ y (depth - 1) l cs →
+              Whole bs ix m p k st room ws b room₂ ws₂ i depth l cs
           whole-sequence {x = x} {y = y} e A B = walks-whole (λ R C.
             let F = use-whole A R (roomy-less nz C) in
-            follows-as write (whole-pair (chainsIn bs ix p k) l cs (st .next) (statementAt p bs ix depth i) (at-step p bs ix depth i l nz is e))
+            follows-as (whole-pair (chainsIn bs ix p k) l cs (st .next) (statementAt p bs ix depth i) (at-step p bs ix depth i l nz is e))
               (two-parts bs ix p k l (statementAt p bs ix (depth - 1) x) (statementAt p bs ix (depth - 1) y) cs cs R F
                 (use-whole B (ready-then R F) (roomy-less nz C))))
 
           pub whole-branches : {q x y : ℕ} {cs₁ cs₂ : Controls} → found ≡ step.Branches q x y → cs₁ ≡ withControlWithin q false cs →
-              Whole bs ix m p k write st room ws r room₁ ws₁ x (depth - 1) l cs₁ → cs₂ ≡ withControlWithin q true cs →
-              Whole bs ix m p k write r room₁ ws₁ b room₂ ws₂ y (depth - 1) l cs₂ →
-              Whole bs ix m p k write st room ws b room₂ ws₂ i depth l cs
+              Whole bs ix m p k st room ws r room₁ ws₁ x (depth - 1) l cs₁ → cs₂ ≡ withControlWithin q true cs →
+              Whole bs ix m p k r room₁ ws₁ b room₂ ws₂ y (depth - 1) l cs₂ →
+              Whole bs ix m p k st room ws b room₂ ws₂ i depth l cs
           whole-branches {q = q} {x = x} {y = y} e c₁ A c₂ B = let h = at-step p bs ix depth i l nz is e in walks-whole (λ R C.
-            let A′ = subst (λ (v : Controls). Whole bs ix m p k write st room ws r room₁ ws₁ x (depth - 1) l v) (c₁ ∙ within-is nz C q false) A in
-            let B′ = subst (λ (v : Controls). Whole bs ix m p k write r room₁ ws₁ b room₂ ws₂ y (depth - 1) l v) (c₂ ∙ within-is nz C q true) B in
+            let A′ = subst (λ (v : Controls). Whole bs ix m p k st room ws r room₁ ws₁ x (depth - 1) l v) (c₁ ∙ within-is nz C q false) A in
+            let B′ = subst (λ (v : Controls). Whole bs ix m p k r room₁ ws₁ b room₂ ws₂ y (depth - 1) l v) (c₂ ∙ within-is nz C q true) B in
             let F = use-whole A′ R (roomy-with-control nz C q false) in
-            follows-as write (whole-case (chainsIn bs ix p k) l cs (st .next) (statementAt p bs ix depth i) (h .2) (h .3))
+            follows-as (whole-case (chainsIn bs ix p k) l cs (st .next) (statementAt p bs ix depth i) (h .2) (h .3))
               (two-parts bs ix p k l (statementAt p bs ix (depth - 1) x) (statementAt p bs ix (depth - 1) y) (withControl q false cs)
                 (withControl q true cs) R F (use-whole B′ (ready-then R F) (roomy-with-control nz C q true))))
 

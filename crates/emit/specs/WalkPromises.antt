@@ -1,7 +1,7 @@
 -- What the walkers promise: each follows the events that the definitions have for it.
 use Prim.Native.Nat.{ℕ, zero, suc, _+_, _-_, _≤_, _<_}
 use mathlib.Core.Path.{_≡_}
-use mathlib.Core.Bool.{Bool, cond}
+use mathlib.Core.Bool.{cond}
 use mathlib.Core.List.{List, [], _++_}
 use lib.ListN.{length}
 use lib.Dec.{ltb}
@@ -62,87 +62,87 @@ abbrev pub DoneIn : List ℕ → ℕ → ℕ → ℕ → List ℕ → Type 0
 DoneIn ws base n from procedures = (f : ℕ) → member f procedures ≡ appears ws base (from - base) f n
 
 -- one for each walker
-pub data Whole (bs ix m : List ℕ) (p k : ℕ) (write : Bool) (st : Emit) (room ws : List ℕ) (r : Emit) (room₁ ws₁ : List ℕ)
+pub data Whole (bs ix m : List ℕ) (p k : ℕ) (st : Emit) (room ws : List ℕ) (r : Emit) (room₁ ws₁ : List ℕ)
     (i depth : ℕ) (l : List ℕ) (cs : Controls) : Type 0 where
   walks-whole : (Ready bs ix m p st ws → Roomy depth cs →
-      Follows write (whole (chainsIn bs ix p k) (statementAt p bs ix depth i) l cs (st .next)) st room ws r room₁ ws₁) →
-      Whole bs ix m p k write st room ws r room₁ ws₁ i depth l cs
+      Follows (whole (chainsIn bs ix p k) (statementAt p bs ix depth i) l cs (st .next)) st room ws r room₁ ws₁) →
+      Whole bs ix m p k st room ws r room₁ ws₁ i depth l cs
 
-pub data Call (bs ix m : List ℕ) (p k : ℕ) (write : Bool) (st : Emit) (room ws : List ℕ) (r : Emit) (room₁ ws₁ : List ℕ)
+pub data Call (bs ix m : List ℕ) (p k : ℕ) (st : Emit) (room ws : List ℕ) (r : Emit) (room₁ ws₁ : List ℕ)
     (f : ℕ) (l : List ℕ) (cs : Controls) : Type 0 where
-  walks-call : (Ready bs ix m p st ws → Follows write (startChain (chainsIn bs ix p k) f l cs (st .next)) st room ws r room₁ ws₁) →
-      Call bs ix m p k write st room ws r room₁ ws₁ f l cs
+  walks-call : (Ready bs ix m p st ws → Follows (startChain (chainsIn bs ix p k) f l cs (st .next)) st room ws r room₁ ws₁) →
+      Call bs ix m p k st room ws r room₁ ws₁ f l cs
 
-pub data Left (bs ix m : List ℕ) (p k : ℕ) (write : Bool) (st : Emit) (room ws : List ℕ) (r : Emit) (room₁ ws₁ : List ℕ)
+pub data Left (bs ix m : List ℕ) (p k : ℕ) (st : Emit) (room ws : List ℕ) (r : Emit) (room₁ ws₁ : List ℕ)
     (f i depth : ℕ) (l : List ℕ) (cs : Controls) : Type 0 where
   walks-left : (Ready bs ix m p st ws → Roomy depth cs →
-      Opens write (left (chainsIn bs ix p k) (recursive (programAt p bs ix) f) (statementAt p bs ix depth i) l cs (st .next))
+      Opens (left (chainsIn bs ix p k) (recursive (programAt p bs ix) f) (statementAt p bs ix depth i) l cs (st .next))
         (invocations (recursive (programAt p bs ix) f) (statementAt p bs ix depth i) l (st .next)) st room ws r room₁ ws₁) →
-      Left bs ix m p k write st room ws r room₁ ws₁ f i depth l cs
+      Left bs ix m p k st room ws r room₁ ws₁ f i depth l cs
 
-pub data Right (bs ix m : List ℕ) (p k : ℕ) (write : Bool) (st : Emit) (room ws : List ℕ) (r : Emit) (room₁ ws₁ : List ℕ)
+pub data Right (bs ix m : List ℕ) (p k : ℕ) (st : Emit) (room ws : List ℕ) (r : Emit) (room₁ ws₁ : List ℕ)
     (f i depth : ℕ) (l : List ℕ) (cs : Controls) (first : ℕ) : Type 0 where
   walks-right : (Ready bs ix m p st ws → Roomy depth cs →
       (st .status ≡ 0 → first + length (invocations (recursive (programAt p bs ix) f) (statementAt p bs ix depth i) l first) ≤ wireCount) →
-      Follows write (right (chainsIn bs ix p k) (recursive (programAt p bs ix) f) (statementAt p bs ix depth i) l cs first (st .next))
+      Follows (right (chainsIn bs ix p k) (recursive (programAt p bs ix) f) (statementAt p bs ix depth i) l cs first (st .next))
         st room ws r room₁ ws₁) →
-      Right bs ix m p k write st room ws r room₁ ws₁ f i depth l cs first
+      Right bs ix m p k st room ws r room₁ ws₁ f i depth l cs first
 
-pub data BodyLeft (bs ix m : List ℕ) (p k : ℕ) (write : Bool) (st : Emit) (room ws : List ℕ) (r : Emit) (room₁ ws₁ : List ℕ)
+pub data BodyLeft (bs ix m : List ℕ) (p k : ℕ) (st : Emit) (room ws : List ℕ) (r : Emit) (room₁ ws₁ : List ℕ)
     (d : ℕ) : Type 0 where
   walks-body-left : (Ready bs ix m p st ws → d ≤ mostWires →
-      Opens write (leftOf bs ix p k (slotOf ws d) (st .next)) (bodyInvocations (programAt p bs ix) (chainsIn bs ix p k) (slotOf ws d) (st .next))
+      Opens (leftOf bs ix p k (slotOf ws d) (st .next)) (bodyInvocations (programAt p bs ix) (chainsIn bs ix p k) (slotOf ws d) (st .next))
         st room ws r room₁ ws₁) →
-      BodyLeft bs ix m p k write st room ws r room₁ ws₁ d
+      BodyLeft bs ix m p k st room ws r room₁ ws₁ d
 
-pub data BodyRight (bs ix m : List ℕ) (p k : ℕ) (write : Bool) (st : Emit) (room ws : List ℕ) (r : Emit) (room₁ ws₁ : List ℕ)
+pub data BodyRight (bs ix m : List ℕ) (p k : ℕ) (st : Emit) (room ws : List ℕ) (r : Emit) (room₁ ws₁ : List ℕ)
     (d first : ℕ) : Type 0 where
   walks-body-right : (Ready bs ix m p st ws → d ≤ mostWires →
       (st .status ≡ 0 → first + length (bodyInvocations (programAt p bs ix) (chainsIn bs ix p k) (slotOf ws d) first) ≤ wireCount) →
-      Follows write (rightOf bs ix p k (slotOf ws d) first (st .next)) st room ws r room₁ ws₁) →
-      BodyRight bs ix m p k write st room ws r room₁ ws₁ d first
+      Follows (rightOf bs ix p k (slotOf ws d) first (st .next)) st room ws r room₁ ws₁) →
+      BodyRight bs ix m p k st room ws r room₁ ws₁ d first
 
-pub data Bodies (bs ix m : List ℕ) (p k : ℕ) (write : Bool) (st : Emit) (room ws : List ℕ) (r : Emit) (room₁ ws₁ : List ℕ)
+pub data Bodies (bs ix m : List ℕ) (p k : ℕ) (st : Emit) (room ws : List ℕ) (r : Emit) (room₁ ws₁ : List ℕ)
     (base n j upto : ℕ) : Type 0 where
   walks-bodies : (Ready bs ix m p st ws → base ≤ j → upto ≤ st .next → base ≤ st .next → (procedures : List ℕ) → DoneIn ws base n j procedures →
-      Follows write (bodiesUpTo bs ix p k n procedures (heldIn ws j (upto - j)) (heldIn ws base (st .next - base)) (st .next) .events)
+      Follows (bodiesUpTo bs ix p k n procedures (heldIn ws j (upto - j)) (heldIn ws base (st .next - base)) (st .next) .events)
         st room ws r room₁ ws₁) →
-      Bodies bs ix m p k write st room ws r room₁ ws₁ base n j upto
+      Bodies bs ix m p k st room ws r room₁ ws₁ base n j upto
 
-pub data Rest (bs ix m : List ℕ) (p k : ℕ) (write : Bool) (st : Emit) (room ws : List ℕ) (r : Emit) (room₁ ws₁ : List ℕ)
+pub data Rest (bs ix m : List ℕ) (p k : ℕ) (st : Emit) (room ws : List ℕ) (r : Emit) (room₁ ws₁ : List ℕ)
     (base n d upto first : ℕ) : Type 0 where
   walks-rest : (Ready bs ix m p st ws → base ≤ d → d < upto → upto ≤ first → first ≤ st .next →
       (st .status ≡ 0 → first + length (bodyInvocations (programAt p bs ix) (chainsIn bs ix p k) (slotOf ws d) first) ≤ wireCount) →
       (procedures : List ℕ) → DoneIn ws base n (d + 1) procedures →
-      Follows write
+      Follows
         (let inner = bodiesUpTo bs ix p k n procedures (heldIn ws (d + 1) (upto - (d + 1))) (heldIn ws base (st .next - base)) (st .next) in
           inner .events ++ rightOf bs ix p k (slotOf ws d) first (inner .next)) st room ws r room₁ ws₁) →
-      Rest bs ix m p k write st room ws r room₁ ws₁ base n d upto first
+      Rest bs ix m p k st room ws r room₁ ws₁ base n d upto first
 
-pub data Inner (bs ix m : List ℕ) (p k : ℕ) (write : Bool) (st : Emit) (room ws : List ℕ) (r : Emit) (room₁ ws₁ : List ℕ)
+pub data Inner (bs ix m : List ℕ) (p k : ℕ) (st : Emit) (room ws : List ℕ) (r : Emit) (room₁ ws₁ : List ℕ)
     (base n d upto : ℕ) : Type 0 where
   walks-inner : (Ready bs ix m p st ws → base ≤ d → d < upto → upto ≤ st .next → (procedures : List ℕ) → DoneIn ws base n (d + 1) procedures →
-      Follows write
+      Follows
         (let news = bodyInvocations (programAt p bs ix) (chainsIn bs ix p k) (slotOf ws d) (st .next) in
           let inner = bodiesUpTo bs ix p k n procedures (heldIn ws (d + 1) (upto - (d + 1))) (heldIn ws base (st .next - base) ++ news)
             (st .next + length news) in
           leftOf bs ix p k (slotOf ws d) (st .next) ++ (inner .events ++ rightOf bs ix p k (slotOf ws d) (st .next) (inner .next)))
         st room ws r room₁ ws₁) →
-      Inner bs ix m p k write st room ws r room₁ ws₁ base n d upto
+      Inner bs ix m p k st room ws r room₁ ws₁ base n d upto
 
-pub data Body (bs ix m : List ℕ) (p k : ℕ) (write : Bool) (st : Emit) (room ws : List ℕ) (r : Emit) (room₁ ws₁ : List ℕ)
+pub data Body (bs ix m : List ℕ) (p k : ℕ) (st : Emit) (room ws : List ℕ) (r : Emit) (room₁ ws₁ : List ℕ)
     (base n d upto : ℕ) : Type 0 where
   walks-body : (Ready bs ix m p st ws → base ≤ d → d < upto → upto ≤ st .next → (procedures : List ℕ) → DoneIn ws base n (d + 1) procedures →
-      Follows write
+      Follows
         (let news = bodyInvocations (programAt p bs ix) (chainsIn bs ix p k) (slotOf ws d) (st .next) in
           around (programAt p bs ix) (chainsIn bs ix p k) (slotOf ws d) (heldIn ws (d + 1) (upto - (d + 1))) (st .next)
             (bodiesUpTo bs ix p k n procedures (heldIn ws (d + 1) (upto - (d + 1))) (heldIn ws base (st .next - base) ++ news)
               (st .next + length news)) .events)
         st room ws r room₁ ws₁) →
-      Body bs ix m p k write st room ws r room₁ ws₁ base n d upto
+      Body bs ix m p k st room ws r room₁ ws₁ base n d upto
 
 -- main emitted, from its start
-pub data Emits (bs ix m : List ℕ) (p n : ℕ) (write : Bool) (room ws : List ℕ) (r : Emit) (room₁ ws₁ : List ℕ) : Type 0 where
+pub data Emits (bs ix m : List ℕ) (p n : ℕ) (room ws : List ℕ) (r : Emit) (room₁ ws₁ : List ℕ) : Type 0 where
   walks-main : (p ≤ mostProcedures → m ≡ reachAt p bs ix → n ≤ mostQubits → slotsLength ≤ length ws →
-      (progress r room₁ ≡ scan write (emission (programAt p bs ix) n) (progress (begun n) room)) × (length ws₁ ≡ length ws)) →
-      Emits bs ix m p n write room ws r room₁ ws₁
+      (progress r room₁ ≡ scan (emission (programAt p bs ix) n) (progress (begun n) room)) × (length ws₁ ≡ length ws)) →
+      Emits bs ix m p n room ws r room₁ ws₁

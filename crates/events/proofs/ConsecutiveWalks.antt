@@ -1,7 +1,6 @@
 -- Walks one after the other, and the slots of the workspace that they leave as they are.
 use mathlib.Core.Path.{_≡_, refl, sym, ap, _∙_, subst}
 use mathlib.Core.Logic.{_≢_}
-use mathlib.Core.Bool.{Bool}
 use mathlib.Core.List.{List, [], _∷_, _++_}
 use Prim.Native.Nat.{ℕ, zero, suc, _+_, _*_, _≤_, _<_}
 use native.Mathlib.Nat.{le-refl}
@@ -19,7 +18,7 @@ use Rattle.model.proofs.BooleanLaws.{byBool, byLt, byEq}
 use Rattle.agreement.proofs.AncillaStack.{OnlyGates}
 use Rattle.events.specs.declared.Emit.{Emit}
 use Rattle.events.specs.Scan.{
-  Progress, progress, emitOf, placed, stored, scan, bytesFrom, slotAt, slotListLength, slotProcedure, slotList, slotOf, heldIn,
+  Progress, progress, emitOf, placed, scan, bytesFrom, slotAt, slotListLength, slotProcedure, slotList, slotOf, heldIn,
 }
 use Rattle.events.specs.Slots.{filled, pairAt, appears}
 use Rattle.events.specs.FollowedEvents.{Follows}
@@ -28,65 +27,64 @@ use Rattle.events.proofs.GatesAndSlots.{place-stopped}
 use Rattle.events.proofs.EntryGates.{scan-nothing}
 
 -- gates leave the next wire
-pub gates-next : (write : Bool) (es : List Event) (st : Emit) (room : List ℕ) → OnlyGates es → emitOf (scan write es (progress st room)) .next ≡ st .next
-gates-next write [] st room x = ap (λ (s : Progress). emitOf s .next) (sym (scan-nothing write (progress st room)))
-gates-next write (takes w ∷ es) st room x = absurd x
-gates-next write (places g ∷ es) st room x = byBool (eqb (st .status) 0)
+pub gates-next : (es : List Event) (st : Emit) (room : List ℕ) → OnlyGates es → emitOf (scan es (progress st room)) .next ≡ st .next
+gates-next [] st room x = ap (λ (s : Progress). emitOf s .next) (sym (scan-nothing (progress st room)))
+gates-next (takes w ∷ es) st room x = absurd x
+gates-next (places g ∷ es) st room x = byBool (eqb (st .status) 0)
     (λ z. let ok = eqb-true (st .status) 0 z in byLt (usable (length room)) (st .used + length (encode g))
-      (λ lt. rw (scan-no-gate write es st room ok g lt))
+      (λ lt. rw (scan-no-gate es st room ok g lt))
       (λ le. byLt (st .gates) mostCircuit
-        (λ few. rw (scan-places write es st room ok g le few)
-          (gates-next write es (placed st (length (encode g))) (stored write room (st .used) (encode g)) x))
-        (λ many. rw (scan-many write es st room ok g many))))
-    (λ z. rw (scan-stopped write (places g ∷ es) st room z))
-gates-next write (frees a ∷ es) st room x = absurd x
+        (λ few. rw (scan-places es st room ok g le few)
+          (gates-next es (placed st (length (encode g))) (sets room (st .used) (encode g)) x))
+        (λ many. rw (scan-many es st room ok g many))))
+    (λ z. rw (scan-stopped (places g ∷ es) st room z))
+gates-next (frees a ∷ es) st room x = absurd x
 
-module _ (write : Bool) where
-  -- nothing happens
-  pub follows-none : (st : Emit) (room ws : List ℕ) → Follows write [] st room ws st room ws
-  follows-none st room ws = record {
-    scanned = scan-nothing write (progress st room); long = refl; rises = le-refl (st .next); low = λ h. h; kept = λ i h. refl }
+-- nothing happens
+pub follows-none : (st : Emit) (room ws : List ℕ) → Follows [] st room ws st room ws
+follows-none st room ws = record {
+    scanned = scan-nothing (progress st room); long = refl; rises = le-refl (st .next); low = λ h. h; kept = λ i h. refl }
 
-  -- a refusal absorbs what follows
-  pub follows-stopped : (es : List Event) (st : Emit) (room ws : List ℕ) → (st .status ≡ 0 → ⊥) → Follows write es st room ws st room ws
-  follows-stopped es st room ws f = record {
-    scanned = place-stopped write es st room f; long = refl; rises = le-refl (st .next); low = λ h. h; kept = λ i h. refl }
+-- a refusal absorbs what follows
+pub follows-stopped : (es : List Event) (st : Emit) (room ws : List ℕ) → (st .status ≡ 0 → ⊥) → Follows es st room ws st room ws
+follows-stopped es st room ws f = record {
+    scanned = place-stopped es st room f; long = refl; rises = le-refl (st .next); low = λ h. h; kept = λ i h. refl }
 
-  -- gates in the room
-  pub follows-gates : (es : List Event) (st : Emit) (room ws : List ℕ) (r : Emit) (room₁ : List ℕ) → OnlyGates es →
-      progress r room₁ ≡ scan write es (progress st room) → Follows write es st room ws r room₁ ws
-  follows-gates es st room ws r room₁ x e =
-    let n : r .next ≡ st .next = ap (λ (s : Progress). emitOf s .next) e ∙ gates-next write es st room x in
+-- gates in the room
+pub follows-gates : (es : List Event) (st : Emit) (room ws : List ℕ) (r : Emit) (room₁ : List ℕ) → OnlyGates es →
+    progress r room₁ ≡ scan es (progress st room) → Follows es st room ws r room₁ ws
+follows-gates es st room ws r room₁ x e =
+    let n : r .next ≡ st .next = ap (λ (s : Progress). emitOf s .next) e ∙ gates-next es st room x in
     record { scanned = e; long = refl; rises = omega arith; low = λ h. omega arith; kept = λ i h. refl }
 
-  module _ {st : Emit} {room ws : List ℕ} {a : Emit} {room₁ ws₁ : List ℕ} where
-    -- the next wire behind events that are not refused
-    pub follows-next : {es : List Event} → Follows write es st room ws a room₁ ws₁ → a .status ≡ 0 → a .next ≡ nextAfter (st .next) es
-    follows-next {es = es} F ok =
-      ap (λ (s : Progress). emitOf s .next) (F .scanned)
-        ∙ scan-next write es st room (sym (ap (λ (s : Progress). emitOf s .status) (F .scanned)) ∙ ok)
+module _ {st : Emit} {room ws : List ℕ} {a : Emit} {room₁ ws₁ : List ℕ} where
+  -- the next wire behind events that are not refused
+  pub follows-next : {es : List Event} → Follows es st room ws a room₁ ws₁ → a .status ≡ 0 → a .next ≡ nextAfter (st .next) es
+  follows-next {es = es} F ok =
+    ap (λ (s : Progress). emitOf s .next) (F .scanned)
+      ∙ scan-next es st room (sym (ap (λ (s : Progress). emitOf s .status) (F .scanned)) ∙ ok)
 
-    -- other events, where they are the same unless refused before
-    pub follows-if : {es es₁ : List Event} → (st .status ≡ 0 → es ≡ es₁) → Follows write es st room ws a room₁ ws₁ → Follows write es₁ st room ws a room₁ ws₁
-    follows-if {es = es} {es₁ = es₁} f F = byEq (st .status) 0
-      (λ z. subst (λ (v : List Event). Follows write v st room ws a room₁ ws₁) (f z) F)
-      (λ z. record {
-        scanned = F .scanned ∙ scan-stopped write es st room (ne-eqb (st .status) 0 z) ∙ sym (scan-stopped write es₁ st room (ne-eqb (st .status) 0 z));
-        long = F .long; rises = F .rises; low = F .low; kept = F .kept })
+  -- other events, where they are the same unless refused before
+  pub follows-if : {es es₁ : List Event} → (st .status ≡ 0 → es ≡ es₁) → Follows es st room ws a room₁ ws₁ → Follows es₁ st room ws a room₁ ws₁
+  follows-if {es = es} {es₁ = es₁} f F = byEq (st .status) 0
+    (λ z. subst (λ (v : List Event). Follows v st room ws a room₁ ws₁) (f z) F)
+    (λ z. record {
+      scanned = F .scanned ∙ scan-stopped es st room (ne-eqb (st .status) 0 z) ∙ sym (scan-stopped es₁ st room (ne-eqb (st .status) 0 z));
+      long = F .long; rises = F .rises; low = F .low; kept = F .kept })
 
-    pub follows-as : {es es₁ : List Event} → es ≡ es₁ → Follows write es st room ws a room₁ ws₁ → Follows write es₁ st room ws a room₁ ws₁
-    follows-as e F = subst (λ (v : List Event). Follows write v st room ws a room₁ ws₁) e F
+  pub follows-as : {es es₁ : List Event} → es ≡ es₁ → Follows es st room ws a room₁ ws₁ → Follows es₁ st room ws a room₁ ws₁
+  follows-as e F = subst (λ (v : List Event). Follows v st room ws a room₁ ws₁) e F
 
-    module _ {b : Emit} {room₂ ws₂ : List ℕ} where
-      -- one after the other
-      pub follows-append : {xs ys : List Event} → Follows write xs st room ws a room₁ ws₁ → Follows write ys a room₁ ws₁ b room₂ ws₂ →
-          Follows write (xs ++ ys) st room ws b room₂ ws₂
-      follows-append {xs = xs} {ys = ys} F G = let up = F .rises in let more = G .rises in record {
-        scanned = G .scanned ∙ ap (scan write ys) (F .scanned) ∙ sym (scan-append write xs ys (progress st room));
-        long = G .long ∙ F .long;
-        rises = omega arith;
-        low = λ h. G .low (F .low h);
-        kept = λ i h. G .kept i (omega arith) ∙ F .kept i h }
+  module _ {b : Emit} {room₂ ws₂ : List ℕ} where
+    -- one after the other
+    pub follows-append : {xs ys : List Event} → Follows xs st room ws a room₁ ws₁ → Follows ys a room₁ ws₁ b room₂ ws₂ →
+        Follows (xs ++ ys) st room ws b room₂ ws₂
+    follows-append {xs = xs} {ys = ys} F G = let up = F .rises in let more = G .rises in record {
+      scanned = G .scanned ∙ ap (scan ys) (F .scanned) ∙ sym (scan-append xs ys (progress st room));
+      long = G .long ∙ F .long;
+      rises = omega arith;
+      low = λ h. G .low (F .low h);
+      kept = λ i h. G .kept i (omega arith) ∙ F .kept i h }
 
 -- slots below a wire that nothing changes
 module _ (ws ws₁ : List ℕ) (top : ℕ) (same : (i : ℕ) → i < slotAt top → getD ws₁ i 0 ≡ getD ws i 0) where

@@ -21,17 +21,17 @@ use Rattle.events.specs.Slots.{pairAt, turned, Differ, entryAt}
 use Rattle.events.proofs.ScanOfEvents.{scan-append}
 use Rattle.events.proofs.GatesAndSlots.{further, spent}
 
-pub scan-nothing : (write : Bool) (x : Progress) → x ≡ scan write [] x
+pub scan-nothing : (x : Progress) → x ≡ scan [] x
 unfolding scan
-scan-nothing write x = refl
+scan-nothing x = refl
 
 -- one gate, then others; others reversed, then the gate
-pub scan-first : (write : Bool) (g : Event) (es : List Event) (x y z : Progress) → y ≡ scan write (g ∷ []) x → z ≡ scan write es y → z ≡ scan write (g ∷ es) x
-scan-first write g es x y z p q = rw (q, p) (sym (scan-append write (g ∷ []) es x))
+pub scan-first : (g : Event) (es : List Event) (x y z : Progress) → y ≡ scan (g ∷ []) x → z ≡ scan es y → z ≡ scan (g ∷ es) x
+scan-first g es x y z p q = rw (q, p) (sym (scan-append (g ∷ []) es x))
 
-scan-last : (write : Bool) (g : Event) (es : List Event) (x y z : Progress) → y ≡ scan write (reverse es) x → z ≡ scan write (g ∷ []) y →
-    z ≡ scan write (reverse (g ∷ es)) x
-scan-last write g es x y z p q = rw (q, p, reverse-cons g es) (sym (scan-append write (reverse es) (g ∷ []) x))
+scan-last : (g : Event) (es : List Event) (x y z : Progress) → y ≡ scan (reverse es) x → z ≡ scan (g ∷ []) y →
+    z ≡ scan (reverse (g ∷ es)) x
+scan-last g es x y z p q = rw (q, p, reverse-cons g es) (sym (scan-append (reverse es) (g ∷ []) x))
 
 -- the clauses of `swaps` at position k
 swaps-nil : (e : ℕ) (ks : List ℕ) → swaps e ks [] ≡ []
@@ -53,9 +53,9 @@ drop-map f zero l = refl
 drop-map f (suc n) [] = refl
 drop-map f (suc n) (x ∷ l) = drop-map f n l
 
-nothing-turned : (reversed write : Bool) (x : Progress) → x ≡ scan write (turned reversed []) x
-nothing-turned true write x = scan-nothing write x
-nothing-turned false write x = scan-nothing write x
+nothing-turned : (reversed : Bool) (x : Progress) → x ≡ scan (turned reversed []) x
+nothing-turned true x = scan-nothing x
+nothing-turned false x = scan-nothing x
 
 -- the ways of `differ_from`: so far the lists are the same
 pub data Same (F L : List ℕ) (k i : ℕ) : Type 0 where
@@ -95,15 +95,15 @@ module _ (F L : List ℕ) (k i m n : ℕ) (S : Same F L k i) (is-m : m ≡ lengt
 
 pub ruleset differing = (needs, same-starts, differ-first-ends, differ-later-ends, differ-here, same-on)
 
-module _ (e : ℕ) (F L : List ℕ) (k i : ℕ) (reversed write : Bool) (st : Emit) (room : List ℕ) (D : Differ F L k i) (m : ℕ) (first : m ≡ length F) where
-  pub swaps-no-first : m ≤ i → progress st room ≡ scan write (turned reversed (swaps e (drop k F) (drop k L))) (progress st room)
+module _ (e : ℕ) (F L : List ℕ) (k i : ℕ) (reversed : Bool) (st : Emit) (room : List ℕ) (D : Differ F L k i) (m : ℕ) (first : m ≡ length F) where
+  pub swaps-no-first : m ≤ i → progress st room ≡ scan (turned reversed (swaps e (drop k F) (drop k L))) (progress st room)
   unfolding swaps
-  swaps-no-first h = let g : length F ≤ i = omega arith in rw (D .same e, drop-of-length-le F g) (nothing-turned reversed write (progress st room))
+  swaps-no-first h = let g : length F ≤ i = omega arith in rw (D .same e, drop-of-length-le F g) (nothing-turned reversed (progress st room))
 
   module _ (n : ℕ) (later : n ≡ length L) where
-    pub swaps-no-later : n ≤ i → progress st room ≡ scan write (turned reversed (swaps e (drop k F) (drop k L))) (progress st room)
+    pub swaps-no-later : n ≤ i → progress st room ≡ scan (turned reversed (swaps e (drop k F) (drop k L))) (progress st room)
     swaps-no-later h =
-      let g : length L ≤ i = omega arith in rw (D .same e, drop-of-length-le L g, swaps-nil e (drop i F)) (nothing-turned reversed write (progress st room))
+      let g : length L ≤ i = omega arith in rw (D .same e, drop-of-length-le L g, swaps-nil e (drop i F)) (nothing-turned reversed (progress st room))
 
     module _ (lf : i < m) (ll : i < n) (to from : ℕ) (is-to : to ≡ getD F i 0) (is-from : from ≡ getD L i 0)
         (M : List ℕ) (is-m : M ≡ map (exchange from to) L) where
@@ -114,63 +114,63 @@ module _ (e : ℕ) (F L : List ℕ) (k i : ℕ) (reversed write : Bool) (st : Em
           (swaps-unequal e to from (drop (i + 1) F) (drop (i + 1) L) (ne-eqb from to apart))
 
       pub swaps-reversed : (x y : Progress) → reversed ≡ true →
-          x ≡ scan write (turned reversed (swaps e (drop (i + 1) F) (drop (i + 1) M))) (progress st room) →
-          y ≡ scan write (places (swapOf (under e) from to) ∷ []) x →
-          y ≡ scan write (turned reversed (swaps e (drop k F) (drop k L))) (progress st room)
+          x ≡ scan (turned reversed (swaps e (drop (i + 1) F) (drop (i + 1) M))) (progress st room) →
+          y ≡ scan (places (swapOf (under e) from to) ∷ []) x →
+          y ≡ scan (turned reversed (swaps e (drop k F) (drop k L))) (progress st room)
       swaps-reversed x y b p r =
-        rw (swaps-differ, b) (scan-last write (places (swapOf (under e) from to)) (swaps e (drop (i + 1) F) (drop (i + 1) M)) (progress st room) x y
+        rw (swaps-differ, b) (scan-last (places (swapOf (under e) from to)) (swaps e (drop (i + 1) F) (drop (i + 1) M)) (progress st room) x y
           (rw b at p) r)
 
-      pub swaps-forth : (x y : Progress) → reversed ≡ false → x ≡ scan write (places (swapOf (under e) from to) ∷ []) (progress st room) →
-          y ≡ scan write (turned reversed (swaps e (drop (i + 1) F) (drop (i + 1) M))) x →
-          y ≡ scan write (turned reversed (swaps e (drop k F) (drop k L))) (progress st room)
+      pub swaps-forth : (x y : Progress) → reversed ≡ false → x ≡ scan (places (swapOf (under e) from to) ∷ []) (progress st room) →
+          y ≡ scan (turned reversed (swaps e (drop (i + 1) F) (drop (i + 1) M))) x →
+          y ≡ scan (turned reversed (swaps e (drop k F) (drop k L))) (progress st room)
       swaps-forth x y b p r =
-        rw (swaps-differ, b) (scan-first write (places (swapOf (under e) from to)) (swaps e (drop (i + 1) F) (drop (i + 1) M)) (progress st room) x y
+        rw (swaps-differ, b) (scan-first (places (swapOf (under e) from to)) (swaps e (drop (i + 1) F) (drop (i + 1) M)) (progress st room) x y
           p (rw b at r))
 
 pub ruleset swapping = (needs, swaps-no-first, swaps-no-later, swaps-reversed, swaps-forth)
 
 -- the ways out of `emit_flip` and `emit_swap`
-pub flip-emitted : (write : Bool) (cs : Controls) (t : ℕ) (g : Gate) (x y : Progress) → g ≡ flip cs t → y ≡ scan write (places g ∷ []) x →
-    y ≡ scan write (places (flip cs t) ∷ []) x
-flip-emitted write cs t g x y e q = rw (← e) q
+pub flip-emitted : (cs : Controls) (t : ℕ) (g : Gate) (x y : Progress) → g ≡ flip cs t → y ≡ scan (places g ∷ []) x →
+    y ≡ scan (places (flip cs t) ∷ []) x
+flip-emitted cs t g x y e q = rw (← e) q
 
-pub swap-emitted : (write : Bool) (e u v : ℕ) (cs : Controls) (g : Gate) (x y : Progress) → cs ≡ under e → g ≡ swapOf cs u v →
-    y ≡ scan write (places g ∷ []) x → y ≡ scan write (places (swapOf (under e) u v) ∷ []) x
-swap-emitted write e u v cs g x y p r q = rw (← p, ← r) q
+pub swap-emitted : (e u v : ℕ) (cs : Controls) (g : Gate) (x y : Progress) → cs ≡ under e → g ≡ swapOf cs u v →
+    y ≡ scan (places g ∷ []) x → y ≡ scan (places (swapOf (under e) u v) ∷ []) x
+swap-emitted e u v cs g x y p r q = rw (← p, ← r) q
 
 pub ruleset emitting = (needs, flip-emitted, swap-emitted)
 
 -- the ways out of `emit_gates`
-module _ (ws : List ℕ) (d e : ℕ) (reversed write : Bool) (st : Emit) (room F L : List ℕ) (u v : ℕ) (cs : Controls)
+module _ (ws : List ℕ) (d e : ℕ) (reversed : Bool) (st : Emit) (room F L : List ℕ) (u v : ℕ) (cs : Controls)
     (is-f : F ≡ slotList ws d) (is-l : L ≡ slotList ws e) (is-u : u ≡ wireOf e) (is-cs : cs ≡ under u) (is-v : v ≡ wireOf d) where
-  pub gates-reversed : (y z : Progress) → reversed ≡ true → y ≡ scan write (turned reversed (swaps u (drop 0 F) (drop 0 L))) (progress st room) →
-      z ≡ scan write (places (flip cs v) ∷ []) y →
-      z ≡ scan write (turned reversed (entryGates (slotOf ws d) (slotOf ws e))) (progress st room)
+  pub gates-reversed : (y z : Progress) → reversed ≡ true → y ≡ scan (turned reversed (swaps u (drop 0 F) (drop 0 L))) (progress st room) →
+      z ≡ scan (places (flip cs v) ∷ []) y →
+      z ≡ scan (turned reversed (entryGates (slotOf ws d) (slotOf ws e))) (progress st room)
   unfolding entryGates slotOf
   gates-reversed y z b p q =
-    rw b (scan-last write (places (flip (under (wireOf e)) (wireOf d))) (swaps (wireOf e) (slotList ws d) (slotList ws e)) (progress st room) y z
+    rw b (scan-last (places (flip (under (wireOf e)) (wireOf d))) (swaps (wireOf e) (slotList ws d) (slotList ws e)) (progress st room) y z
       (rw (b, is-u, is-f, is-l) at p) (rw (is-cs, is-u, is-v) at q))
 
-  pub gates-forth : (y z : Progress) → reversed ≡ false → y ≡ scan write (places (flip cs v) ∷ []) (progress st room) →
-      z ≡ scan write (turned reversed (swaps u (drop 0 F) (drop 0 L))) y →
-      z ≡ scan write (turned reversed (entryGates (slotOf ws d) (slotOf ws e))) (progress st room)
+  pub gates-forth : (y z : Progress) → reversed ≡ false → y ≡ scan (places (flip cs v) ∷ []) (progress st room) →
+      z ≡ scan (turned reversed (swaps u (drop 0 F) (drop 0 L))) y →
+      z ≡ scan (turned reversed (entryGates (slotOf ws d) (slotOf ws e))) (progress st room)
   unfolding entryGates slotOf
   gates-forth y z b p q =
-    rw b (scan-first write (places (flip (under (wireOf e)) (wireOf d))) (swaps (wireOf e) (slotList ws d) (slotList ws e)) (progress st room) y z
+    rw b (scan-first (places (flip (under (wireOf e)) (wireOf d))) (swaps (wireOf e) (slotList ws d) (slotList ws e)) (progress st room) y z
       (rw (is-cs, is-u, is-v) at p) (rw (b, is-u, is-f, is-l) at q))
 
 -- the ways out of `emit_entry`
-module _ (ws : List ℕ) (d e : ℕ) (reversed write : Bool) (st : Emit) (room : List ℕ) (f m : ℕ) (b : Bool)
+module _ (ws : List ℕ) (d e : ℕ) (reversed : Bool) (st : Emit) (room : List ℕ) (f m : ℕ) (b : Bool)
     (is-f : f ≡ slotProcedure ws d) (is-m : m ≡ slotListLength ws d) (is-b : b ≡ pairAt ws e f m) where
-  pub entry-same : (y : Progress) → b ≡ true → y ≡ scan write (turned reversed (entryGates (slotOf ws d) (slotOf ws e))) (progress st room) →
-      y ≡ scan write (turned reversed (entryAt ws d e)) (progress st room)
+  pub entry-same : (y : Progress) → b ≡ true → y ≡ scan (turned reversed (entryGates (slotOf ws d) (slotOf ws e))) (progress st room) →
+      y ≡ scan (turned reversed (entryAt ws d e)) (progress st room)
   unfolding entryAt
   entry-same y t p = rw (← is-f, ← is-m, ← is-b, t) p
 
-  pub entry-other : b ≡ false → progress st room ≡ scan write (turned reversed (entryAt ws d e)) (progress st room)
+  pub entry-other : b ≡ false → progress st room ≡ scan (turned reversed (entryAt ws d e)) (progress st room)
   unfolding entryAt
-  entry-other t = rw (← is-f, ← is-m, ← is-b, t) (nothing-turned reversed write (progress st room))
+  entry-other t = rw (← is-f, ← is-m, ← is-b, t) (nothing-turned reversed (progress st room))
 
 pub ruleset gating = (needs, gates-reversed, gates-forth, entry-same, entry-other)
 
@@ -192,30 +192,30 @@ entries-cons ws d e n = byBool (pairAt ws e (slotProcedure ws d) (slotListLength
     (λ t. rw (t, pair-is ws d e ∙ t, allEntryGates))
     (λ t. rw (t, pair-is ws d e ∙ t, allEntryGates))
 
-module _ (ws : List ℕ) (d e upto : ℕ) (reversed write : Bool) (st : Emit) (room : List ℕ) where
+module _ (ws : List ℕ) (d e upto : ℕ) (reversed : Bool) (st : Emit) (room : List ℕ) where
   none-held : upto ≤ e → allEntryGates (slotOf ws d) (heldIn ws e (upto - e)) ≡ []
   unfolding allEntryGates heldIn
   none-held h = rw (spent upto e h)
 
-  pub entries-none : upto ≤ e → progress st room ≡ scan write (turned reversed (allEntryGates (slotOf ws d) (heldIn ws e (upto - e)))) (progress st room)
-  entries-none h = rw (none-held h) (nothing-turned reversed write (progress st room))
+  pub entries-none : upto ≤ e → progress st room ≡ scan (turned reversed (allEntryGates (slotOf ws d) (heldIn ws e (upto - e)))) (progress st room)
+  entries-none h = rw (none-held h) (nothing-turned reversed (progress st room))
 
   pub entries-reversed : (x y : Progress) → e < upto → reversed ≡ true →
-      x ≡ scan write (turned reversed (allEntryGates (slotOf ws d) (heldIn ws (e + 1) (upto - (e + 1))))) (progress st room) →
-      y ≡ scan write (turned reversed (entryAt ws d e)) x →
-      y ≡ scan write (turned reversed (allEntryGates (slotOf ws d) (heldIn ws e (upto - e)))) (progress st room)
+      x ≡ scan (turned reversed (allEntryGates (slotOf ws d) (heldIn ws (e + 1) (upto - (e + 1))))) (progress st room) →
+      y ≡ scan (turned reversed (entryAt ws d e)) x →
+      y ≡ scan (turned reversed (allEntryGates (slotOf ws d) (heldIn ws e (upto - e)))) (progress st room)
   entries-reversed x y h b p q =
     let E = entryAt ws d e in
     let R = allEntryGates (slotOf ws d) (heldIn ws (e + 1) (upto - (e + 1))) in
-    rw (further upto e h, entries-cons ws d e (upto - (e + 1)), b, reverse-append E R, scan-append write (reverse R) (reverse E) (progress st room),
+    rw (further upto e h, entries-cons ws d e (upto - (e + 1)), b, reverse-append E R, scan-append (reverse R) (reverse E) (progress st room),
       ← (rw b at p)) (rw b at q)
 
-  pub entries-forth : (x y : Progress) → e < upto → reversed ≡ false → x ≡ scan write (turned reversed (entryAt ws d e)) (progress st room) →
-      y ≡ scan write (turned reversed (allEntryGates (slotOf ws d) (heldIn ws (e + 1) (upto - (e + 1))))) x →
-      y ≡ scan write (turned reversed (allEntryGates (slotOf ws d) (heldIn ws e (upto - e)))) (progress st room)
+  pub entries-forth : (x y : Progress) → e < upto → reversed ≡ false → x ≡ scan (turned reversed (entryAt ws d e)) (progress st room) →
+      y ≡ scan (turned reversed (allEntryGates (slotOf ws d) (heldIn ws (e + 1) (upto - (e + 1))))) x →
+      y ≡ scan (turned reversed (allEntryGates (slotOf ws d) (heldIn ws e (upto - e)))) (progress st room)
   entries-forth x y h b p q =
     let E = entryAt ws d e in
     let R = allEntryGates (slotOf ws d) (heldIn ws (e + 1) (upto - (e + 1))) in
-    rw (further upto e h, entries-cons ws d e (upto - (e + 1)), b, scan-append write E R (progress st room), ← (rw b at p)) (rw b at q)
+    rw (further upto e h, entries-cons ws d e (upto - (e + 1)), b, scan-append E R (progress st room), ← (rw b at p)) (rw b at q)
 
 pub ruleset entering = (needs, entries-none, entries-reversed, entries-forth)

@@ -26,7 +26,7 @@ use Rattle.circuit.proofs.GateBytes.{sets-past}
 use Rattle.step.specs.declared.Qubits.{Qubits}
 use Rattle.step.specs.Steps.{qubitsOf}
 use Rattle.events.specs.declared.Emit.{Emit}
-use Rattle.events.specs.Scan.{Progress, progress, stopped, freed, placed, stored, scan, bytesFrom, slotListLength, slotProcedure, slotList}
+use Rattle.events.specs.Scan.{Progress, progress, stopped, freed, placed, scan, bytesFrom, slotListLength, slotProcedure, slotList}
 use Rattle.events.specs.Slots.{filled, ancillaTaken, returned, pairAt, appears, opensAt, seekOf}
 use Rattle.events.proofs.ScanOfEvents.{scan-stopped, scan-places, scan-no-gate, scan-many}
 
@@ -45,47 +45,31 @@ module _ (room used n most : ℕ) (is : most ≡ usable room) where
 pub ruleset rooms = (needs, room-short, room-left)
 
 -- the ways out of `place`
-pub place-stopped : (write : Bool) (es : List Event) (st : Emit) (room : List ℕ) → (st .status ≡ 0 → ⊥) → progress st room ≡ scan write es (progress st room)
-place-stopped write es st room f = sym (scan-stopped write es st room (ne-eqb (st .status) 0 f))
+pub place-stopped : (es : List Event) (st : Emit) (room : List ℕ) → (st .status ≡ 0 → ⊥) → progress st room ≡ scan es (progress st room)
+place-stopped es st room f = sym (scan-stopped es st room (ne-eqb (st .status) 0 f))
 
-scan-none : (write : Bool) (x : Progress) → scan write [] x ≡ x
+scan-none : (x : Progress) → scan [] x ≡ x
 unfolding scan
-scan-none write x = refl
+scan-none x = refl
 
-module _ (write : Bool) (g : NewGate) (st : Emit) (room : List ℕ) (ok : st .status ≡ 0) where
-  pub place-many : (r : Emit) → mostCircuit ≤ st .gates → r ≡ stopped st noRoom → progress r room ≡ scan write (places (gateFrom g) ∷ []) (progress st room)
-  place-many r h e = rw e (sym (scan-many write [] st room ok (gateFrom g) h))
+module _ (g : NewGate) (st : Emit) (room : List ℕ) (ok : st .status ≡ 0) where
+  pub place-many : (r : Emit) → mostCircuit ≤ st .gates → r ≡ stopped st noRoom → progress r room ≡ scan (places (gateFrom g) ∷ []) (progress st room)
+  place-many r h e = rw e (sym (scan-many [] st room ok (gateFrom g) h))
 
   module _ (n : ℕ) (is : n ≡ length (encode (gateFrom g))) (b : Bool) (fits : b ≡ leb (st .used + n) (usable (length room))) where
     pub sum-fits : b ≡ true → Fits w64 (st .used + n)
     sum-fits e = let h = leb-true (st .used + n) (usable (length room)) (sym fits ∙ e) in record { fits = omega arith }
 
-    pub place-no-room : (r : Emit) → b ≡ false → r ≡ stopped st noRoom → progress r room ≡ scan write (places (gateFrom g) ∷ []) (progress st room)
-    place-no-room r e q = rw q (sym (scan-no-gate write [] st room ok (gateFrom g)
+    pub place-no-room : (r : Emit) → b ≡ false → r ≡ stopped st noRoom → progress r room ≡ scan (places (gateFrom g) ∷ []) (progress st room)
+    place-no-room r e q = rw q (sym (scan-no-gate [] st room ok (gateFrom g)
       (leb-false (st .used + length (encode (gateFrom g))) (usable (length room)) (rw (← is) (sym fits ∙ e)))))
 
-    at-place : b ≡ true → st .gates < mostCircuit →
-        progress (placed st n) (stored write room (st .used) (encode (gateFrom g))) ≡ scan write (places (gateFrom g) ∷ []) (progress st room)
-    at-place e h = rw is (sym (scan-places write [] st room ok (gateFrom g)
-      (leb-true (st .used + length (encode (gateFrom g))) (usable (length room)) (rw (← is) (sym fits ∙ e))) h ∙ scan-none write _))
+    pub place-written : (after : List ℕ) → b ≡ true → st .gates < mostCircuit → after ≡ sets room (st .used) (encode (gateFrom g)) →
+        progress (placed st n) after ≡ scan (places (gateFrom g) ∷ []) (progress st room)
+    place-written after e h q = rw (q, is) (sym (scan-places [] st room ok (gateFrom g)
+      (leb-true (st .used + length (encode (gateFrom g))) (usable (length room)) (rw (← is) (sym fits ∙ e))) h ∙ scan-none _))
 
-    pub place-written : (after : List ℕ) → b ≡ true → st .gates < mostCircuit → write ≡ true → after ≡ sets room (st .used) (encode (gateFrom g)) →
-        progress (placed st n) after ≡ scan write (places (gateFrom g) ∷ []) (progress st room)
-    place-written after e h w q = rw q (kept write w (at-place e h))
-      where
-        kept : (v : Bool) → v ≡ true → {x : Progress} → progress (placed st n) (stored v room (st .used) (encode (gateFrom g))) ≡ x →
-            progress (placed st n) (sets room (st .used) (encode (gateFrom g))) ≡ x
-        kept v e p = rw e at p
-
-    pub place-measured : b ≡ true → st .gates < mostCircuit → write ≡ false →
-        progress (placed st n) room ≡ scan write (places (gateFrom g) ∷ []) (progress st room)
-    place-measured e h w = kept write w (at-place e h)
-      where
-        kept : (v : Bool) → v ≡ false → {x : Progress} → progress (placed st n) (stored v room (st .used) (encode (gateFrom g))) ≡ x →
-            progress (placed st n) room ≡ x
-        kept v e p = rw e at p
-
-pub ruleset placing = (needs, place-stopped, place-many, sum-fits, place-no-room, place-written, place-measured)
+pub ruleset placing = (needs, place-stopped, place-many, sum-fits, place-no-room, place-written)
 
 -- the ways out of `give_back`
 pub back-stopped : (a : ℕ) (st : Emit) → (st .status ≡ 0 → ⊥) → st ≡ returned a st

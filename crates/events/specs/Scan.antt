@@ -1,6 +1,6 @@
 -- An emission as the code keeps it: what each event does to the state of the walk and to the room, and the slots of the workspace.
 use Prim.Native.Nat.{ℕ, zero, suc, _+_, _*_, max, min}
-use mathlib.Core.Bool.{Bool, cond}
+use mathlib.Core.Bool.{cond}
 use mathlib.Core.List.{List, [], _∷_}
 use lib.ListN.{length, getD}
 use lib.Seq.{sets}
@@ -36,25 +36,21 @@ freed st a = record { status = 0; used = st .used; gates = st .gates; next = a; 
 abbrev pub placed : Emit → ℕ → Emit
 placed st n = record { status = 0; used = st .used + n; gates = st .gates + 1; next = st .next; highest = st .highest }
 
--- bytes stored from a place on, where the room is to be written
-abbrev pub stored : Bool → List ℕ → ℕ → List ℕ → List ℕ
-stored write room at bytes = cond write (sets room at bytes) room
-
 -- one event where nothing was refused: "22 or 23 at the first ancilla or gate that does not fit". A room holds fewer than 65,536 gates.
-unfoldable pub afterEvent : Bool → Event → Emit → List ℕ → Progress
-afterEvent write (takes w) st room = cond (ltb mostWires w) (progress (stopped st manyWires) room) (progress (taken st w) room)
-afterEvent write (places g) st room =
+unfoldable pub afterEvent : Event → Emit → List ℕ → Progress
+afterEvent (takes w) st room = cond (ltb mostWires w) (progress (stopped st manyWires) room) (progress (taken st w) room)
+afterEvent (places g) st room =
     cond (leb (st .used + length (encode g)) (usable (length room)))
     (cond (ltb (st .gates) mostCircuit)
-    (progress (placed st (length (encode g))) (stored write room (st .used) (encode g)))
+    (progress (placed st (length (encode g))) (sets room (st .used) (encode g)))
     (progress (stopped st noRoom) room))
     (progress (stopped st noRoom) room)
-afterEvent write (frees a) st room = progress (freed st a) room
+afterEvent (frees a) st room = progress (freed st a) room
 
 -- the events in order; a refusal absorbs what follows it
-unfoldable pub scan : Bool → List Event → Progress → Progress
-scan write [] x = x
-scan write (e ∷ es) (progress st room) = scan write es (cond (eqb (st .status) 0) (afterEvent write e st room) (progress st room))
+unfoldable pub scan : List Event → Progress → Progress
+scan [] x = x
+scan (e ∷ es) (progress st room) = scan es (cond (eqb (st .status) 0) (afterEvent e st room) (progress st room))
 
 -- an emission with n qubits starts behind the header, with wire n + 1
 abbrev pub begun : ℕ → Emit

@@ -37,7 +37,7 @@ fn stop(st: Emit, number: u8) -> Emit
 }
 
 // "room past 65,536 bytes is not used"
-fn usable(room: usize) -> usize
+pub fn usable(room: usize) -> usize
     ensures { λ r. ⌜ r ≡ usable room ⌝ }
 {
     if room < MOST_CIRCUIT { room } else { MOST_CIRCUIT }
@@ -54,9 +54,9 @@ fn in_room(room: usize, used: usize, length: usize) -> bool
     used <= most - length
 }
 
-// A gate is placed, or 23. Only a writing pass touches the room.
-fn place(gate: NewGate, write: bool, room: &mut [u8], st: Emit) -> Emit
-    ensures { λ r. ⌜ progress r (now (room .exit)) ≡ scan write (places (gateFrom gate) ∷ []) (progress st (now (room .entry))) ⌝ }
+// A gate is placed, or 23.
+fn place(gate: NewGate, room: &mut [u8], st: Emit) -> Emit
+    ensures { λ r. ⌜ progress r (now (room .exit)) ≡ scan (places (gateFrom gate) ∷ []) (progress st (now (room .entry))) ⌝ }
 {
     if st.status != 0 {
         return st;
@@ -68,28 +68,24 @@ fn place(gate: NewGate, write: bool, room: &mut [u8], st: Emit) -> Emit
         return stop(st, NO_ROOM);
     }
     if in_room(room.len(), used, length) {
-        let more = Emit { status: 0, used: used + length, gates: gates + 1, next: st.next, highest: st.highest };
-        if write {
-            put_gate(room, used, gate);
-            return more;
-        }
-        return more;
+        put_gate(room, used, gate);
+        return Emit { status: 0, used: used + length, gates: gates + 1, next: st.next, highest: st.highest };
     }
     stop(st, NO_ROOM)
 }
 
 // A NOT is placed.
-pub fn emit_flip(controls: ControlLists, target: u8, write: bool, room: &mut [u8], st: Emit) -> Emit
-    ensures { λ r. ⌜ progress r (now (room .exit)) ≡ scan write (places (flip (controlsFrom controls) target) ∷ []) (progress st (now (room .entry))) ⌝ }
+pub fn emit_flip(controls: ControlLists, target: u8, room: &mut [u8], st: Emit) -> Emit
+    ensures { λ r. ⌜ progress r (now (room .exit)) ≡ scan (places (flip (controlsFrom controls) target) ∷ []) (progress st (now (room .entry))) ⌝ }
 {
-    place(flip_of(controls, target), write, room, st)
+    place(flip_of(controls, target), room, st)
 }
 
 // A swap under an ancilla is placed.
-fn emit_swap(e: u8, first: u8, second: u8, write: bool, room: &mut [u8], st: Emit) -> Emit
-    ensures { λ r. ⌜ progress r (now (room .exit)) ≡ scan write (places (swapOf (model.under e) first second) ∷ []) (progress st (now (room .entry))) ⌝ }
+fn emit_swap(e: u8, first: u8, second: u8, room: &mut [u8], st: Emit) -> Emit
+    ensures { λ r. ⌜ progress r (now (room .exit)) ≡ scan (places (swapOf (model.under e) first second) ∷ []) (progress st (now (room .entry))) ⌝ }
 {
-    place(swap_of(under(e), first, second), write, room, st)
+    place(swap_of(under(e), first, second), room, st)
 }
 
 // The ancillas from a on are given back.
@@ -302,9 +298,9 @@ fn differ_from(first: Qubits, later: Qubits, k: u8) -> u8
 
 // "for k = 1 up to the length, swap, under the entry ancilla, the wire now holding the k-th qubit of the later list with the k-th wire of the first
 // list, unless equal": from k on, in order or reversed.
-fn emit_swaps(e: u8, first: Qubits, later: Qubits, k: u8, reversed: bool, write: bool, room: &mut [u8], st: Emit) -> Emit
+fn emit_swaps(e: u8, first: Qubits, later: Qubits, k: u8, reversed: bool, n: u8, room: &mut [u8], st: Emit) -> Emit
     ensures { λ r. ⌜ progress r (now (room .exit)) ≡
-        scan write (turned reversed (swaps e (drop k (qubitsOf first)) (drop k (qubitsOf later)))) (progress st (now (room .entry))) ⌝ }
+        scan (turned reversed (swaps e (drop k (qubitsOf first)) (drop k (qubitsOf later)))) (progress st (now (room .entry))) ⌝ }
 {
     let i = differ_from(first, later, k);
     if size(first) <= i {
@@ -317,17 +313,17 @@ fn emit_swaps(e: u8, first: Qubits, later: Qubits, k: u8, reversed: bool, write:
     let from = entry_at(later, i);
     let moved = exchanged(later, from, to);
     if reversed {
-        let rest = emit_swaps(e, first, moved, i + 1, reversed, write, room, st);
-        return emit_swap(e, from, to, write, room, rest);
+        let rest = emit_swaps(e, first, moved, i + 1, reversed, n, room, st);
+        return emit_swap(e, from, to, room, rest);
     }
-    let here = emit_swap(e, from, to, write, room, st);
-    emit_swaps(e, first, moved, i + 1, reversed, write, room, here)
+    let here = emit_swap(e, from, to, room, st);
+    emit_swaps(e, first, moved, i + 1, reversed, n, room, here)
 }
 
 // "flip the body's ancilla under the entry ancilla; then" the swaps: from slot e to the body of slot d, in order or reversed.
-fn emit_gates(ws: &[u8], d: u16, e: u16, reversed: bool, write: bool, room: &mut [u8], st: Emit) -> Emit
+fn emit_gates(ws: &[u8], d: u16, e: u16, reversed: bool, n: u8, room: &mut [u8], st: Emit) -> Emit
     ensures { λ r. ⌜ progress r (now (room .exit)) ≡
-        scan write (turned reversed (entryGates (slotOf (now (ws .entry)) d) (slotOf (now (ws .entry)) e))) (progress st (now (room .entry))) ⌝ }
+        scan (turned reversed (entryGates (slotOf (now (ws .entry)) d) (slotOf (now (ws .entry)) e))) (progress st (now (room .entry))) ⌝ }
 {
     let first = load(ws, d);
     let later = load(ws, e);
@@ -335,68 +331,68 @@ fn emit_gates(ws: &[u8], d: u16, e: u16, reversed: bool, write: bool, room: &mut
     let controls = under(a);
     let target = wire(d);
     if reversed {
-        let swapped = emit_swaps(a, first, later, 0, reversed, write, room, st);
-        return emit_flip(controls, target, write, room, swapped);
+        let swapped = emit_swaps(a, first, later, 0, reversed, n, room, st);
+        return emit_flip(controls, target, room, swapped);
     }
-    let flipped = emit_flip(controls, target, write, room, st);
-    emit_swaps(a, first, later, 0, reversed, write, room, flipped)
+    let flipped = emit_flip(controls, target, room, st);
+    emit_swaps(a, first, later, 0, reversed, n, room, flipped)
 }
 
 // These, if the slots are of one pair.
-fn emit_entry(ws: &[u8], d: u16, e: u16, reversed: bool, write: bool, room: &mut [u8], st: Emit) -> Emit
-    ensures { λ r. ⌜ progress r (now (room .exit)) ≡ scan write (turned reversed (entryAt (now (ws .entry)) d e)) (progress st (now (room .entry))) ⌝ }
+fn emit_entry(ws: &[u8], d: u16, e: u16, reversed: bool, n: u8, room: &mut [u8], st: Emit) -> Emit
+    ensures { λ r. ⌜ progress r (now (room .exit)) ≡ scan (turned reversed (entryAt (now (ws .entry)) d e)) (progress st (now (room .entry))) ⌝ }
 {
     if pair_at(ws, e, procedure(ws, d), list_size(ws, d)) {
-        return emit_gates(ws, d, e, reversed, write, room, st);
+        return emit_gates(ws, d, e, reversed, n, room, st);
     }
     st
 }
 
 // "Before the shared body's left part, for each such call in order" the entry gates; behind its right part "the same gates come in reverse".
-pub fn emit_entries(ws: &[u8], d: u16, e: u16, upto: u16, reversed: bool, write: bool, room: &mut [u8], st: Emit) -> Emit
+pub fn emit_entries(ws: &[u8], d: u16, e: u16, upto: u16, reversed: bool, n: u8, room: &mut [u8], st: Emit) -> Emit
     ensures { λ r. ⌜ progress r (now (room .exit)) ≡
-        scan write (turned reversed (allEntryGates (slotOf (now (ws .entry)) d) (heldIn (now (ws .entry)) e (upto - e)))) (progress st (now (room .entry))) ⌝ }
+        scan (turned reversed (allEntryGates (slotOf (now (ws .entry)) d) (heldIn (now (ws .entry)) e (upto - e)))) (progress st (now (room .entry))) ⌝ }
 {
     if upto <= e {
         return st;
     }
     if reversed {
-        let rest = emit_entries(ws, d, e + 1, upto, reversed, write, room, st);
-        return emit_entry(ws, d, e, reversed, write, room, rest);
+        let rest = emit_entries(ws, d, e + 1, upto, reversed, n, room, st);
+        return emit_entry(ws, d, e, reversed, n, room, rest);
     }
-    let here = emit_entry(ws, d, e, reversed, write, room, st);
-    emit_entries(ws, d, e + 1, upto, reversed, write, room, here)
+    let here = emit_entry(ws, d, e, reversed, n, room, st);
+    emit_entries(ws, d, e + 1, upto, reversed, n, room, here)
 }
 
 // A call that names a pair takes the next ancilla and flips it under the controls in force. "A call with an empty list emits nothing"
-pub fn invoke(f: u8, list: Qubits, controls: ControlLists, write: bool, room: &mut [u8], ws: &mut [u8], st: Emit) -> Emit
-    ensures { λ r. ⌜ Invokes f (qubitsOf list) (controlsFrom controls) write st (now (room .entry)) (now (ws .entry)) r (now (room .exit)) (now (ws .exit)) ⌝ }
+pub fn invoke(f: u8, list: Qubits, controls: ControlLists, room: &mut [u8], ws: &mut [u8], st: Emit) -> Emit
+    ensures { λ r. ⌜ Invokes f (qubitsOf list) (controlsFrom controls) st (now (room .entry)) (now (ws .entry)) r (now (room .exit)) (now (ws .exit)) ⌝ }
 {
     if size(list) == 0 {
         return st;
     }
     let a = wire(st.next);
     let taken = take(f, list, ws, st);
-    emit_flip(controls, a, write, room, taken)
+    emit_flip(controls, a, room, taken)
 }
 
 // A chain's end: its first ancilla is flipped back, and all its ancillas are given back.
-pub fn finish(base: u16, controls: ControlLists, write: bool, room: &mut [u8], st: Emit) -> Emit
+pub fn finish(base: u16, controls: ControlLists, room: &mut [u8], st: Emit) -> Emit
     ensures { λ r. ⌜ progress r (now (room .exit)) ≡
-        scan write (places (flip (controlsFrom controls) (wireOf base)) ∷ frees base ∷ []) (progress st (now (room .entry))) ⌝ }
+        scan (places (flip (controlsFrom controls) (wireOf base)) ∷ frees base ∷ []) (progress st (now (room .entry))) ⌝ }
 {
-    let flipped = emit_flip(controls, wire(base), write, room, st);
+    let flipped = emit_flip(controls, wire(base), room, st);
     give_back(flipped, base)
 }
 
 // A recursive call's ancilla is flipped "again at its place in the right". "A call with an empty list emits nothing"
-pub fn flip_again(list: Qubits, controls: ControlLists, a: u16, write: bool, room: &mut [u8], st: Emit) -> Emit
+pub fn flip_again(list: Qubits, controls: ControlLists, a: u16, room: &mut [u8], st: Emit) -> Emit
     ensures { λ r. ⌜ progress r (now (room .exit))
-        ≡ scan write (returns (qubitsOf list) (controlsFrom controls) (wireOf a)) (progress st (now (room .entry))) ⌝ }
+        ≡ scan (returns (qubitsOf list) (controlsFrom controls) (wireOf a)) (progress st (now (room .entry))) ⌝ }
 {
     let m = size(list);
     if m == 0 {
         return st;
     }
-    emit_flip(controls, wire(a), write, room, st)
+    emit_flip(controls, wire(a), room, st)
 }
