@@ -17,7 +17,7 @@ use Rattle.verdict.specs.declared.Checked.{Checked}
 use Rattle.verdict.specs.VerdictAnswers.{checkedOutcome}
 use Rattle.verdict.proofs.AcceptanceAndRefusal.{refused-checked, accepted-checked}
 use Rattle.compile.specs.declared.Compiled.{Compiled}
-use Rattle.compile.specs.Passes.{Compiles, walks-twice, emissionAnswer, compiledOf}
+use Rattle.compile.specs.EmissionAnswer.{Compiles, walks-once, emissionAnswer, compiledOf}
 use Rattle.compile.specs.AnswerAndRoom.{Answered, answered, answeredOf}
 
 -- the two halves of an answer, the number and length and the room, are those of the outcome
@@ -64,7 +64,7 @@ module _ (bs ix : List ℕ) (n : ℕ) (room ws : List ℕ) (j : Checked) (is : c
     pub compile-emits : leastWorkspace ≤ length ws → n ≤ mostQubits → (r : Compiled) (room₁ ws₁ : List ℕ) →
         Compiles bs ix (reachAt (j .procedures) bs ix) (j .procedures) n room ws r room₁ ws₁ → answered r room₁ ≡ expected
     unfolding emissionAnswer
-    compile-emits h low r room₁ ws₁ (walks-twice c) =
+    compile-emits h low r room₁ ws₁ (walks-once c) =
       let few : j .procedures ≤ mostProcedures = rw (count-at (j .procedures) bs ix) at (accepted-few bs n P checked) in
       let both = c few refl low (omega arith) in
       let same = compiles bs n (length room) (length ws) P checked h in

@@ -1,2 +1,2 @@
-pub mod PassLaws
+pub mod TextAndRoom
 pub mod CompileAnswer

@@ -3,7 +3,7 @@ use mathlib.Core.List.{List}
 use Prim.Native.Nat.{ℕ}
 use Rattle.model.specs.Answers.{Outcome, roomAfter}
 use Rattle.compile.specs.declared.Compiled.{Compiled}
-use Rattle.compile.specs.Passes.{compiledOf}
+use Rattle.compile.specs.EmissionAnswer.{compiledOf}
 
 -- number and length, and the room at exit
 pub data Answered : Type 0 where

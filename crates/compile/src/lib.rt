@@ -1,17 +1,19 @@
 // Compile: the circuit of a table, or the one refusal that document 01's order fixes.
 ghost use mathlib.Core.Path.{_≡_};
-ghost use Prim.Native.Nat.{_-_};
-ghost use lib.ListN.{length};
+ghost use Prim.Native.Nat.{_-_, _≤_, min};
+ghost use lib.ListN.{length, take};
+ghost use lib.Seq.{sets};
 ghost use Rattle.model.specs.Answers as model;
 ghost use Rattle.model.specs.Answers.{workspaceAfter};
 ghost use Rattle.reach.specs.CallsInATable.{reachAt};
 ghost use Rattle.events.specs.Scan.{wireOf};
-ghost use Rattle.compile.specs.Passes.{Writes, Compiles};
+ghost use Rattle.emit.specs.WalkPromises.{Emits};
+ghost use Rattle.compile.specs.EmissionAnswer.{EmitsText, delivered, Compiles};
 ghost use Rattle.compile.specs.AnswerAndRoom.{answered, answeredOf};
 use circuit::write::put_header;
-use events::{Emit, wire};
+use events::{Emit, usable, wire};
 use emit::emit_main;
-use limits::{HEADER_LENGTH, INDEX_LENGTH, LEAST_WORKSPACE, MATRIX_LENGTH, MOST_N, NO_ROOM, SHORT_WORKSPACE, WRONG_QUBITS};
+use limits::{HEADER_LENGTH, INDEX_LENGTH, LEAST_WORKSPACE, MATRIX_LENGTH, MOST_CIRCUIT, MOST_N, NO_ROOM, SHORT_WORKSPACE, WRONG_QUBITS};
 use reach::fill_reach;
 use verdict::check_table;
 
@@ -32,26 +34,57 @@ fn ancillas(n: u8, highest: u16) -> u8
     wire(highest - data)
 }
 
-// A circuit that fits, as it was measured, is written: its header, then its gates.
-fn write_circuit(
-    table: &[u8],
-    index: &[u16],
-    p: u8,
-    matrix: &[u8; MATRIX_LENGTH],
-    n: u8,
-    measured: Emit,
-    room: &mut [u8],
-    ws: &mut [u8],
-) -> Compiled
-    ensures { λ r. ⌜ Writes (now (table .entry)) (now (index .entry)) (now (matrix .entry)) p n measured (now (room .entry)) (now (ws .entry))
-        r (now (room .exit)) (now (ws .exit)) ⌝ }
+fn smaller(a: usize, b: usize) -> usize
+    ensures { λ r. ⌜ r ≡ min a b ⌝ }
 {
-    put_header(room, n, ancillas(n, measured.highest), measured.gates);
-    let written = emit_main(table, index, p, matrix, n, true, room, ws);
-    Compiled { number: 0, length: written.used }
+    if a < b { a } else { b }
 }
 
-// An emission is measured, and written where it fits. "The room is written only on success, its rest unchanged."
+// The first bytes of a text are put into the room.
+fn copy(text: &[u8], used: usize, room: &mut [u8])
+    ensures { λ r. ⌜ now (room .exit) ≡ sets (now (room .entry)) 0 (take used (now (text .entry))) ⌝ }
+{
+    let count = smaller(used, smaller(text.len(), room.len()));
+    let mut i = 0;
+    while i < count {
+        room[i] = text[i];
+        i += 1;
+    }
+}
+
+// The header is put before the gates of an emission that fits, and all of it into the room.
+fn put_circuit(n: u8, emitted: Emit, text: &mut [u8; MOST_CIRCUIT], room: &mut [u8])
+    ensures { λ r. ⌜ now (room .exit) ≡ delivered n emitted (now (text .entry)) (now (room .entry)) ⌝ }
+{
+    let bytes = &mut text[..];
+    put_header(bytes, n, ancillas(n, emitted.highest), emitted.gates);
+    copy(bytes, emitted.used, room);
+}
+
+// An emission into the front of a text.
+fn emit_front(
+    table: &[u8], index: &[u16], p: u8, matrix: &[u8; MATRIX_LENGTH], n: u8,
+    end: usize, text: &mut [u8], ws: &mut [u8],
+) -> Emit
+    requires { ⌜ end ≤ length (now text) ⌝ }
+    ensures { λ r. ⌜ Emits (now (table .entry)) (now (index .entry)) (now (matrix .entry)) p n (take end (now (text .entry))) (now (ws .entry))
+        r (take end (now (text .exit))) (now (ws .exit)) ⌝ }
+{
+    emit_main(table, index, p, matrix, n, &mut text[0..end], ws)
+}
+
+// An emission into a text, of which as much is used as a room of that length has of use.
+fn emit_text(
+    table: &[u8], index: &[u16], p: u8, matrix: &[u8; MATRIX_LENGTH], n: u8,
+    room: usize, text: &mut [u8; MOST_CIRCUIT], ws: &mut [u8],
+) -> Emit
+    ensures { λ r. ⌜ EmitsText (now (table .entry)) (now (index .entry)) (now (matrix .entry)) p n room (now (ws .entry))
+        r (now (text .exit)) (now (ws .exit)) ⌝ }
+{
+    emit_front(table, index, p, matrix, n, usable(room), &mut text[..], ws)
+}
+
+// An emission goes into a text of its own, and from there into the room where it fits. "The room is written only on success, its rest unchanged."
 fn compile_emission(
     table: &[u8],
     index: &[u16],
@@ -67,12 +100,14 @@ fn compile_emission(
     if room.len() < HEADER_LENGTH {
         return Compiled { number: NO_ROOM, length: 0 };
     }
-    let measured = emit_main(table, index, p, matrix, n, false, room, ws);
-    let status = measured.status;
+    let mut text = [0u8; MOST_CIRCUIT];
+    let emitted = emit_text(table, index, p, matrix, n, room.len(), &mut text, ws);
+    let status = emitted.status;
     if status != 0 {
         return Compiled { number: status, length: 0 };
     }
-    write_circuit(table, index, p, matrix, n, measured, room, ws)
+    put_circuit(n, emitted, &mut text, room);
+    Compiled { number: 0, length: emitted.used }
 }
 
 // The circuit of a table that was checked and accepted, by its index.
