@@ -97,19 +97,6 @@ module _ (f : ℕ) (l : List ℕ) (st : Emit) (ws : List ℕ) where
 
 pub ruleset takings = (needs, back-stopped, back-given, take-stopped, take-past, take-one)
 
--- entries of a list
-module _ (q : Qubits) (i n : ℕ) (is : n ≡ length (qubitsOf q)) where
-  pub entry-none : n ≤ i → 0 ≡ getD (qubitsOf q) i 0
-  entry-none h = let k : length (qubitsOf q) ≤ i = omega arith in sym (List·getD-eq-default (qubitsOf q) 0 k)
-
-  pub entry-index : length (q .at) ≡ mostQubits → i < n → i < mostQubits
-  entry-index e h = let t : length (qubitsOf q) ≡ min (q .len) (length (q .at)) = length-take (q .len) (q .at) in omega arith
-
-  pub entry-some : i < n → getD (q .at) i 0 ≡ getD (qubitsOf q) i 0
-  entry-some h =
-    let t : length (qubitsOf q) ≡ min (q .len) (length (q .at)) = length-take (q .len) (q .at) in
-    sym (getD-take (q .len) (q .at) i 0 (omega arith))
-
 -- `put_entries` so far: what is still to be stored makes of the workspace what all of it makes
 pub data Storing (ws₀ : List ℕ) (at : ℕ) (l ws : List ℕ) (place i : ℕ) : Type 0 where
   still : sets ws place (drop i l) ≡ sets ws₀ at l → Storing ws₀ at l ws place i
@@ -133,7 +120,7 @@ pub slot-filled : (ws : List ℕ) (a f : ℕ) (q : Qubits) (n : ℕ) (middle end
     middle ≡ sets ws (slotLength * a) (f ∷ n ∷ []) → end ≡ sets middle (slotLength * a + 2) (qubitsOf q) → end ≡ filled ws a f (qubitsOf q)
 slot-filled ws a f q n middle end is m e = let k : slotLength * a + 2 ≡ suc (suc (slotLength * a)) = omega arith in rw (e, m, is, k)
 
-pub ruleset entries = (needs, entry-none, entry-index, entry-some, slot-filled)
+pub ruleset entries = (needs, slot-filled)
 
 pub ruleset storing = (needs, storing-starts, storing-next, stored-all, stored-full)
 
@@ -199,18 +186,7 @@ pub under-is : (a : ℕ) (none r : Controls) → none ≡ noControls → r ≡ w
 unfolding withControlWithin insertWithin withControl
 under-is a none r e q = rw (q, e)
 
--- the ways out of `exchange`
-module _ (u v w : ℕ) where
-  pub exchange-first : w ≡ u → v ≡ exchange u v w
-  exchange-first e = rw e (sym (exchange-left u v))
-
-  pub exchange-second : (w ≡ u → ⊥) → w ≡ v → u ≡ exchange u v w
-  exchange-second h e = rw e (sym (exchange-right u v))
-
-  pub exchange-neither : (w ≡ u → ⊥) → (w ≡ v → ⊥) → w ≡ exchange u v w
-  exchange-neither h k = sym (exchange-other u v w h k)
-
-pub ruleset exchanging = (needs, under-is, exchange-first, exchange-second, exchange-neither)
+pub ruleset controlling = (needs, under-is)
 
 -- an array that fills from its front on: `front` is what stands there
 fill-next : (at : List ℕ) (i v : ℕ) (front more : List ℕ) → take i at ≡ front → i < length at → front ++ (v ∷ []) ≡ more →
@@ -234,25 +210,4 @@ pub load-starts : (ws at : List ℕ) (from : ℕ) → take 0 at ≡ bytesFrom ws
 unfolding bytesFrom
 load-starts ws at from = refl
 
-map-snoc : (f : ℕ → ℕ) (l : List ℕ) (x : ℕ) → map f (l ++ (x ∷ [])) ≡ map f l ++ (f x ∷ [])
-map-snoc f [] x = refl
-map-snoc f (y ∷ l) x = ap (λ r. f y ∷ r) (map-snoc f l x)
-
-take-map : (f : ℕ → ℕ) (n : ℕ) (l : List ℕ) → take n (map f l) ≡ map f (take n l)
-take-map f zero l = refl
-take-map f (suc n) [] = refl
-take-map f (suc n) (x ∷ l) = ap (λ r. f x ∷ r) (take-map f n l)
-
-module _ (u v : ℕ) (old at : List ℕ) (i : ℕ) (inv : take i at ≡ map (exchange u v) (take i old)) where
-  pub exchange-next : (x : ℕ) → length at ≡ mostQubits → length old ≡ mostQubits → i < mostQubits → x ≡ exchange u v (getD old i 0) →
-      take (i + 1) (set at i x) ≡ map (exchange u v) (take (i + 1) old)
-  exchange-next x l o h e = fill-next at i x (map (exchange u v) (take i old)) (map (exchange u v) (take (i + 1) old)) inv (omega arith)
-    (rw (e, add-one i, take-suc old i 0 (omega arith)) (sym (map-snoc (exchange u v) (take i old) (getD old i 0))))
-
-  pub exchange-ends : (n : ℕ) → length at ≡ mostQubits → length old ≡ mostQubits → mostQubits ≤ i → take n at ≡ map (exchange u v) (take n old)
-  exchange-ends n l o h =
-    let all : take i at ≡ at = take-all i at (omega arith) in
-    let whole : take i old ≡ old = take-all i old (omega arith) in
-    rw (← all, inv, whole) (take-map (exchange u v) n old)
-
-pub ruleset filling = (needs, load-starts, load-next, load-ends, exchange-next, exchange-ends)
+pub ruleset filling = (needs, load-starts, load-next, load-ends)

@@ -7,7 +7,7 @@ use lib.ListN.{length, getD, drop}
 use lib.Seq.{sets}
 use lib.Dec.{eqb, ltb}
 use Rattle.model.specs.Limits.{mostWires, manyWires}
-use Rattle.model.specs.Emission.{Event, swaps, entryGates}
+use Rattle.model.specs.Emission.{Event, entryGates}
 use Rattle.events.specs.declared.Emit.{Emit}
 use Rattle.events.specs.Scan.{Progress, progress, stopped, taken, freed, slotAt, slotListLength, slotProcedure, slotOf}
 
@@ -48,12 +48,6 @@ seekOf ws base m e (suc n) = cond (opensAt ws base m e) e (seekOf ws base m (e +
 abbrev pub turned : Bool → List Event → List Event
 turned true es = reverse es
 turned false es = es
-
--- from k to r there is nothing to swap; at r the lists differ, unless one of them has ended
-pub record Differ (first later : List ℕ) (k r : ℕ) : Type 0 where
-  pub on : k ≤ r
-  pub same : (e : ℕ) → swaps e (drop k first) (drop k later) ≡ swaps e (drop r first) (drop r later)
-  pub apart : r < length first → r < length later → getD later r 0 ≡ getD first r 0 → ⊥
 
 -- the entry gates from slot e to the body of slot d, if they are of one pair
 unfoldable pub entryAt : List ℕ → ℕ → ℕ → List Event

@@ -1,24 +1,25 @@
 // The events of an emission: an ancilla taken, a gate placed, ancillas given back; and the runs of them that ask no table: swaps, the gates of an entry,
 // the two ends of a call. Ancillas keep their invocations in slots of the workspace, in which the next body is sought.
 ghost use mathlib.Core.Path.{_≡_};
-ghost use mathlib.Core.List.{[], _∷_, map};
+ghost use mathlib.Core.List.{[], _∷_, reverse};
 ghost use Prim.Native.Nat.{_+_, _-_, max};
-ghost use lib.ListN.{getD, drop};
 ghost use lib.Seq.{sets};
 ghost use lib.Dec.{leb};
-ghost use Rattle.model.specs.Gates.{exchange, flip, swapOf};
+ghost use Rattle.model.specs.Gates.{flip, swapOf};
 ghost use Rattle.model.specs.Emission as model;
-ghost use Rattle.model.specs.Emission.{places, frees, swaps, entryGates, allEntryGates, returns};
+ghost use Rattle.model.specs.Emission.{places, frees, entryGates, allEntryGates, returns};
 ghost use Rattle.model.specs.Answers.{usable};
 ghost use Rattle.circuit.specs.GatesToWrite.{controlsFrom, gateFrom};
 ghost use Rattle.step.specs.Steps.{qubitsOf};
+ghost use Rattle.lookup.specs.Plans.{pairsOf, swapsAlong};
 ghost use Rattle.events.specs.Scan.{progress, stopped, scan, slotListLength, slotProcedure, slotList, wireOf, slotOf, heldIn};
-ghost use Rattle.events.specs.Slots.{filled, ancillaTaken, returned, pairAt, appears, opensAt, seekOf, turned, entryAt, Differ};
+ghost use Rattle.events.specs.Slots.{filled, ancillaTaken, returned, pairAt, appears, opensAt, seekOf, turned, entryAt};
 ghost use Rattle.events.specs.FollowedEvents.{Invokes};
 use circuit::write::{ControlLists, NewGate, with_control, no_controls, flip_of, swap_of, gate_length, put_pair, put_gate};
 use limits::{LAST_WIRE, LIST_LENGTH, MANY_WIRES, MOST_CIRCUIT, MOST_GATES, MOST_QUBITS, NO_ROOM, SLOT_LENGTH};
+use lookup::{Plan, pair_count, plan_swaps};
 use records::byte;
-use step::{Qubits, size};
+use step::{Qubits, entry_at, size};
 
 // Where an emission stands: 0 or the number that refuses it, bytes used, gates placed, the next wire, and the highest wire taken.
 pub struct Emit {
@@ -136,17 +137,6 @@ pub fn load(ws: &[u8], a: u16) -> Qubits
     Qubits { at, len }
 }
 
-// The entry of a list behind i others, 0 where there is none.
-fn entry_at(list: Qubits, i: u8) -> u8
-    ensures { λ r. ⌜ r ≡ getD (qubitsOf list) i 0 ⌝ }
-{
-    if size(list) <= i {
-        return 0;
-    }
-    let k = i as usize;
-    list.at[k]
-}
-
 // The entries of a list are stored from a place on, as far as the workspace reaches.
 fn put_entries(ws: &mut [u8], at: usize, list: Qubits)
     ensures { λ r. ⌜ now (ws .exit) ≡ sets (now (ws .entry)) at (qubitsOf list) ⌝ }
@@ -248,76 +238,31 @@ pub fn under(a: u8) -> ControlLists
     with_control(no_controls(), a, true)
 }
 
-// The two wires exchanged, every other wire itself.
-fn exchange(u: u8, v: u8, w: u8) -> u8
-    ensures { λ r. ⌜ r ≡ exchange u v w ⌝ }
+// The swaps of a plan under an ancilla, in order.
+fn emit_forth(e: u8, plan: Plan, room: &mut [u8], st: Emit) -> Emit
+    ensures { λ r. ⌜ progress r (now (room .exit)) ≡ scan (swapsAlong e (pairsOf plan)) (progress st (now (room .entry))) ⌝ }
 {
-    if w == u {
-        return v;
-    }
-    if w == v {
-        return u;
-    }
-    w
-}
-
-// Two wires exchanged in a list.
-fn exchanged(list: Qubits, u: u8, v: u8) -> Qubits
-    ensures { λ r. ⌜ qubitsOf r ≡ map (exchange u v) (qubitsOf list) ⌝ }
-{
-    let old = list.at;
-    let mut at = [0; LIST_LENGTH];
+    let count = pair_count(plan) as usize;
+    let mut done = st;
     let mut i = 0;
-    while i < LIST_LENGTH {
-        at[i] = exchange(u, v, old[i]);
+    while i < count {
+        done = emit_swap(e, plan.from[i], plan.to[i], room, done);
         i += 1;
     }
-    Qubits { at, len: list.len }
+    done
 }
 
-// The first position from k on at which two lists differ, or where the shorter one ends.
-fn differ_from(first: Qubits, later: Qubits, k: u8) -> u8
-    ensures { λ r. ⌜ Differ (qubitsOf first) (qubitsOf later) k r ⌝ }
+// The same swaps in reverse.
+fn emit_back(e: u8, plan: Plan, room: &mut [u8], st: Emit) -> Emit
+    ensures { λ r. ⌜ progress r (now (room .exit)) ≡ scan (reverse (swapsAlong e (pairsOf plan))) (progress st (now (room .entry))) ⌝ }
 {
-    let m = size(first);
-    let n = size(later);
-    let mut i = k;
-    while i < m {
-        if n <= i {
-            return i;
-        }
-        let to = entry_at(first, i);
-        let from = entry_at(later, i);
-        if from != to {
-            return i;
-        }
-        i += 1;
+    let mut done = st;
+    let mut i = pair_count(plan) as usize;
+    while 0 < i {
+        i -= 1;
+        done = emit_swap(e, plan.from[i], plan.to[i], room, done);
     }
-    i
-}
-
-// "for k = 1 up to the length, swap, under the entry ancilla, the wire now holding the k-th qubit of the later list with the k-th wire of the first
-// list, unless equal": from k on, in order or reversed.
-fn emit_swaps(e: u8, first: Qubits, later: Qubits, k: u8, reversed: bool, n: u8, room: &mut [u8], st: Emit) -> Emit
-    ensures { λ r. ⌜ progress r (now (room .exit)) ≡
-        scan (turned reversed (swaps e (drop k (qubitsOf first)) (drop k (qubitsOf later)))) (progress st (now (room .entry))) ⌝ }
-{
-    let i = differ_from(first, later, k);
-    if size(first) <= i {
-        return st;
-    }
-    if size(later) <= i {
-        return st;
-    }
-    let to = entry_at(first, i);
-    let from = entry_at(later, i);
-    let moved = exchanged(later, from, to);
-    if reversed {
-        let rest = emit_swaps(e, first, moved, i + 1, reversed, n, room, st);
-        return emit_swap(e, from, to, room, rest);
-    }
-    let here = emit_swap(e, from, to, room, st);
-    emit_swaps(e, first, moved, i + 1, reversed, n, room, here)
+    done
 }
 
 // "flip the body's ancilla under the entry ancilla; then" the swaps: from slot e to the body of slot d, in order or reversed.
@@ -325,17 +270,16 @@ fn emit_gates(ws: &[u8], d: u16, e: u16, reversed: bool, n: u8, room: &mut [u8],
     ensures { λ r. ⌜ progress r (now (room .exit)) ≡
         scan (turned reversed (entryGates (slotOf (now (ws .entry)) d) (slotOf (now (ws .entry)) e))) (progress st (now (room .entry))) ⌝ }
 {
-    let first = load(ws, d);
-    let later = load(ws, e);
+    let plan = plan_swaps(n, load(ws, d), load(ws, e));
     let a = wire(e);
     let controls = under(a);
     let target = wire(d);
     if reversed {
-        let swapped = emit_swaps(a, first, later, 0, reversed, n, room, st);
+        let swapped = emit_back(a, plan, room, st);
         return emit_flip(controls, target, room, swapped);
     }
     let flipped = emit_flip(controls, target, room, st);
-    emit_swaps(a, first, later, 0, reversed, n, room, flipped)
+    emit_forth(a, plan, room, flipped)
 }
 
 // These, if the slots are of one pair.

@@ -9,7 +9,7 @@ use mir.Val.{Fits}
 use borrow.Author.Needs.{needs}
 use borrow.Author.Tests.{eq-eqb, ne-eqb}
 use lib.ListN.{length, getD, set, take, drop, length-append, length-set, length-take, drop-of-length-le}
-use lib.Seq.{drop-cons, take-suc-set, take-set-le, append-snoc}
+use lib.Seq.{drop-cons, getD-take, take-suc-set, take-set-le, append-snoc}
 use lib.Dec.{eqb}
 use Rattle.limits.specs.Sizes.{lookupLength, mostCount}
 use Rattle.model.specs.Limits.{mostQubits, mostWires}
@@ -195,6 +195,37 @@ module _ (from to : List ℕ) (len u v : ℕ) (lf : length from ≡ mostQubits) 
   planned-next : planned (set from len u) (set to len v) (len + 1) ≡ planned from to len ++ ((u, v) ∷ [])
   planned-next = rw (add-one len, take-suc-set from len u (omega arith), take-suc-set to len v (omega arith))
     (pairs-next (take len from) (take len to) u v sides)
+
+-- the way out of `pair_count`, and the pair at a place
+pub count-pairs : (r : Plan) (n : ℕ) → length (r .from) ≡ mostQubits → length (r .to) ≡ mostQubits → n ≡ min (r .len) mostQubits → n ≡ length (pairsOf r)
+count-pairs r n lf lt e =
+    let a : length (take (r .len) (r .from)) ≡ min (r .len) mostQubits = length-take (r .len) (r .from) ∙ rw lf in
+    let b : length (take (r .len) (r .to)) ≡ min (r .len) mostQubits = length-take (r .len) (r .to) ∙ rw lt in
+    e ∙ sym (pairs-length (take (r .len) (r .from)) (take (r .len) (r .to)) (a ∙ sym b) ∙ a)
+
+pairs-drop : (xs ys : List ℕ) (i : ℕ) → i < length (pairs xs ys) → drop i (pairs xs ys) ≡ (getD xs i 0, getD ys i 0) ∷ drop (suc i) (pairs xs ys)
+unfolding pairs
+pairs-drop [] ys i h = absurd (omega arith)
+pairs-drop (x ∷ xs) [] i h = absurd (omega arith)
+pairs-drop (x ∷ xs) (y ∷ ys) zero h = refl
+pairs-drop (x ∷ xs) (y ∷ ys) (suc i) h = pairs-drop xs ys i (omega arith)
+
+pairs-short : (xs ys : List ℕ) → (length (pairs xs ys) ≤ length xs) × (length (pairs xs ys) ≤ length ys)
+unfolding pairs
+pairs-short [] ys = (omega arith, omega arith)
+pairs-short (x ∷ xs) [] = (omega arith, omega arith)
+pairs-short (x ∷ xs) (y ∷ ys) = let t = pairs-short xs ys in (omega arith, omega arith)
+
+pub pairs-most : (r : Plan) (n : ℕ) → length (r .from) ≡ mostQubits → n ≡ length (pairsOf r) → n ≤ mostQubits
+pairs-most r n e is =
+    let t = pairs-short (take (r .len) (r .from)) (take (r .len) (r .to)) in omega (arith, t .0, length-take (r .len) (r .from))
+
+pub pair-at : (r : Plan) (i : ℕ) → i < length (pairsOf r) → drop i (pairsOf r) ≡ (getD (r .from) i 0, getD (r .to) i 0) ∷ drop (suc i) (pairsOf r)
+pair-at r i h =
+    let t = pairs-short (take (r .len) (r .from)) (take (r .len) (r .to)) in
+    let a = length-take (r .len) (r .from) in
+    pairs-drop (take (r .len) (r .from)) (take (r .len) (r .to)) i h
+      ∙ rw (getD-take (r .len) (r .from) i 0 (omega arith), getD-take (r .len) (r .to) i 0 (omega arith))
 
 -- the ways out of `plan_swaps`
 pub plan-starts : (n last : ℕ) (first later l₀ l from to : List ℕ) (count : ℕ) → last ≡ covered n first later → last ≤ mostWires → length l₀ ≡ lookupLength →

@@ -6,8 +6,8 @@ ghost use lib.ListN.{length, getD, set};
 ghost use Rattle.model.specs.Emission.{swaps};
 ghost use Rattle.step.specs.Steps.{qubitsOf};
 ghost use Rattle.lookup.specs.Entries.{raised, counted, wireAt, kept, built, pushed, tracked, accesses};
-ghost use Rattle.lookup.specs.Plans.{highest, covered, swapCount, entriesTouched, PlansSwaps};
-use limits::{LIST_LENGTH, LOOKUP_LENGTH, MOST_COUNT, WIRE_COUNT};
+ghost use Rattle.lookup.specs.Plans.{pairsOf, highest, covered, swapCount, entriesTouched, PlansSwaps};
+use limits::{LIST_LENGTH, LOOKUP_LENGTH, MOST_COUNT, MOST_QUBITS, WIRE_COUNT};
 use step::{Qubits, entry_at, size};
 
 // The swaps of an entry as pairs of wires, in order: the wire that holds the qubit, and the one that it goes to. `touched` is how many entries of the lookup
@@ -159,4 +159,11 @@ pub fn plan_swaps(n: u8, first: Qubits, later: Qubits) -> Plan
         i += 1;
     }
     Plan { from, to, len, touched: count }
+}
+
+// How many swaps has a plan?
+pub fn pair_count(plan: Plan) -> u8
+    ensures { λ r. ⌜ r ≡ length (pairsOf plan) ⌝ }
+{
+    smaller(plan.len, MOST_QUBITS)
 }

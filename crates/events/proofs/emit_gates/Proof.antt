@@ -13,6 +13,7 @@ emit-gates-spec = tie.close (tie.spec
     (λ c κs. search needs)
     (λ c κs. search needs)
     (λ c κs. search needs)
+    (λ c κs. search needs)
     (λ c. search needs)
     (λ c. search gating)
     (λ c κs. search needs)

@@ -1,5 +1,5 @@
 -- `under` meets its contract: each way out is one law.
-use Rattle.events.proofs.GatesAndSlots.{exchanging}
+use Rattle.events.proofs.GatesAndSlots.{controlling}
 use borrow.Author.Needs.{needs}
 use Rattle.events.proofs.under.Statement.{statement}
 use Rattle.events.proofs.under.Tie as tie
@@ -8,4 +8,4 @@ pub under-spec : {M : Type 1} → statement M
 under-spec = tie.close (tie.spec
     (λ c κs. search needs)
     (λ c κs. search needs)
-    (λ c. search exchanging))
+    (λ c. search controlling))
