@@ -13,7 +13,7 @@ use Rattle.agreement.proofs.CompilePromise.{compile-promises}
 use Rattle.answers.specs.declared.Answer.{Answer}
 use Rattle.answers.specs.Structs.{answerOf, lengthAnswer, Delivered}
 use Rattle.compile.specs.declared.Compiled.{Compiled}
-use Rattle.compile.specs.Passes.{compiledOf}
+use Rattle.compile.specs.EmissionAnswer.{compiledOf}
 use Rattle.compile.specs.AnswerAndRoom.{answered, answeredOf}
 use Rattle.compile.proofs.CompileAnswer.{answer-halves}
 

@@ -11,7 +11,7 @@ use Rattle.model.specs.Answers.{Outcome, gives, refuses, after, number, valueOr
 use Rattle.model.specs.Listing.{refusalLine, listed, listingOf, listing}
 use Rattle.model.proofs.Acceptance.{Numbered, compile-numbered}
 use Rattle.compile.specs.declared.Compiled.{Compiled}
-use Rattle.compile.specs.Passes.{compiledOf}
+use Rattle.compile.specs.EmissionAnswer.{compiledOf}
 use Rattle.compile.specs.AnswerAndRoom.{answered, answeredOf}
 use Rattle.compile.proofs.CompileAnswer.{answer-halves}
 use Rattle.io.specs.Counts.{Counts}
