@@ -2,7 +2,7 @@
 use mathlib.Core.Path.{_≡_, refl, sym, ap, _∙_}
 use mathlib.Core.Bool.{Bool, true, false}
 use mathlib.Core.List.{List, [], _∷_, _++_}
-use Prim.Native.Nat.{ℕ, suc, _+_, _-_, _≤_, _<_, min, max}
+use Prim.Native.Nat.{ℕ, suc, _+_, _-_, _≤_, _<_, min}
 use native.Mathlib.Numerals.{add-one}
 use native.Mathlib.Nat.{add-zero, zero-add, sub-zero}
 use native.Mathlib.Omega.{arith}
@@ -11,12 +11,12 @@ use borrow.Author.Tests.{lt-ltb, le-ltb}
 use lib.ListN.{length, getD, take, drop, set, length-take, length-set}
 use lib.Seq.{take-take, take-suc-set, drop-set-lt, append-snoc}
 use Rattle.limits.specs.Sizes.{mostControls}
-use Rattle.model.specs.Gates.{Controls, insert, withControl, swapOf}
+use Rattle.model.specs.Gates.{Controls, insert, withControl}
 use Rattle.model.specs.Circuit.{listBit, listBytes}
 use Rattle.model.proofs.BooleanLaws.{byLt}
 use Rattle.model.proofs.ListLaws.{take-again, drop-front}
 use Rattle.circuit.specs.GatesInBytes.{part}
-use Rattle.circuit.specs.GatesToWrite.{wiresOf, controlsFrom, gateFrom, placeFor, insertWithin, withControlWithin}
+use Rattle.circuit.specs.GatesToWrite.{wiresOf, controlsFrom, placeFor, insertWithin, withControlWithin}
 use Rattle.circuit.specs.declared.write.ControlLists.{ControlLists}
 use Rattle.circuit.specs.declared.write.ControlList.{ControlList}
 use Rattle.circuit.proofs.LoopsOverWires.{part-step, part-none}
@@ -160,24 +160,6 @@ module _ (c : ControlLists) (w : ℕ) (bit : Bool) (more : ControlList) where
   with-control-zero e q = rw (e, q)
 
 pub ruleset asks = (needs, with-control-one, with-control-zero)
-
--- the ways out of `swap_of`
-module _ (c : ControlLists) (u v : ℕ) where
-  pub swap-rising : u < v → gateFrom (record { controls = c; target = u; swaps = true; second = v }) ≡ swapOf (controlsFrom c) u v
-  unfolding swapOf
-  swap-rising h =
-      let e : min u v ≡ u = omega arith in
-      let f : max u v ≡ v = omega arith in
-      rw (e, f)
-
-  pub swap-falling : v ≤ u → gateFrom (record { controls = c; target = v; swaps = true; second = u }) ≡ swapOf (controlsFrom c) u v
-  unfolding swapOf
-  swap-falling h =
-      let e : min u v ≡ v = omega arith in
-      let f : max u v ≡ u = omega arith in
-      rw (e, f)
-
-pub ruleset swaps = (needs, swap-rising, swap-falling)
 
 -- controls take a wire while neither list is full
 pub with-control-takes : (w : ℕ) (bit : Bool) (cs : Controls) → length (cs .ones) < mostControls → length (cs .zeros) < mostControls →

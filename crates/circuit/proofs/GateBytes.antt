@@ -1,8 +1,8 @@
 -- A gate's bytes: its map, its length, and the stores that put them into a room.
 use mathlib.Core.Path.{_≡_, refl, sym, _∙_}
-use mathlib.Core.Bool.{Bool, true, false}
+use mathlib.Core.Bool.{true}
 use mathlib.Core.List.{List, [], _∷_, _++_}
-use Prim.Native.Nat.{ℕ, suc, _+_, _-_, _/_, _%_, _≤_, _<_}
+use Prim.Native.Nat.{ℕ, suc, _+_, _-_, _/_, _%_, _≤_, _<_, min, max}
 use native.Mathlib.Numerals.{add-one}
 use native.Mathlib.Nat.{add-zero, sub-zero}
 use native.Mathlib.Omega.{arith}
@@ -11,13 +11,13 @@ use mir.Val.{Fits}
 use borrow.Author.Needs.{needs}
 use lib.ListN.{length, getD, take, set, length-append}
 use lib.Seq.{sets, set-out}
-use Rattle.limits.specs.Sizes.{mostControls}
+use Rattle.limits.specs.Sizes.{mostControls, swapLength}
+use Rattle.model.specs.Gates.{Controls, noControls, insert, withControl, flip, swapOf}
 use Rattle.model.specs.Circuit.{listBit, listBytes, controlMap, controlBytes, encode, fourBytes}
 use Rattle.circuit.specs.GatesInBytes.{part}
-use Rattle.circuit.specs.GatesToWrite.{wiresOf, controlsFrom, gateFrom, mapOf, headerBytes}
+use Rattle.circuit.specs.GatesToWrite.{wiresOf, controlsFrom, headerBytes}
 use Rattle.circuit.specs.declared.write.ControlList.{ControlList}
 use Rattle.circuit.specs.declared.write.ControlLists.{ControlLists}
-use Rattle.circuit.specs.declared.write.NewGate.{NewGate}
 use Rattle.circuit.proofs.LoopsOverWires.{part-none}
 use Rattle.circuit.proofs.ControlInsertion.{held-most, take-held, array-after, bytes-empty, bytes-there}
 
@@ -27,37 +27,24 @@ unfolding listBit
 bit-most value [] = omega arith
 bit-most value (w ∷ l) = omega arith
 
--- the ways out of `map_of`
-module _ (c : ControlLists) (a b : ℕ) (p : a ≡ listBit 1 (wiresOf (c .ones))) (q : b ≡ listBit 2 (wiresOf (c .zeros))) where
-  pub map-fits : Fits w8 (a + b)
-  map-fits = record { fits = omega (arith, bit-most 1 (wiresOf (c .ones)), bit-most 2 (wiresOf (c .zeros))) }
+-- what `control_map` and `controls_length` give
+pub map-fits : (c : ControlLists) (a b : ℕ) → a ≡ listBit 1 (wiresOf (c .ones)) → b ≡ listBit 2 (wiresOf (c .zeros)) → Fits w8 (a + b)
+map-fits c a b p q = record { fits = omega (arith, bit-most 1 (wiresOf (c .ones)), bit-most 2 (wiresOf (c .zeros))) }
 
-  pub map-fits-swap : Fits w8 (a + b + 4)
-  map-fits-swap = record { fits = omega (arith, bit-most 1 (wiresOf (c .ones)), bit-most 2 (wiresOf (c .zeros))) }
-
-  pub map-swap : (swaps : Bool) → swaps ≡ true → a + b + 4 ≡ mapOf swaps (controlsFrom c)
-  map-swap swaps e = rw (e, p, q)
-
-  pub map-flip : (swaps : Bool) → swaps ≡ false → a + b ≡ mapOf swaps (controlsFrom c)
-  map-flip swaps e = rw (e, p, q)
-
-pub ruleset maps = (needs, map-fits, map-fits-swap, map-swap, map-flip)
-
--- what `controls_length` gives, and the ways out of `gate_length`
 pub length-both : (c : ControlLists) (a b : ℕ) → a ≡ length (listBytes (wiresOf (c .ones))) → b ≡ length (listBytes (wiresOf (c .zeros))) →
     a + b ≡ length (controlBytes (controlsFrom c))
 length-both c a b p q = rw (length-append (listBytes (wiresOf (c .ones))) (listBytes (wiresOf (c .zeros))), p, q)
 
-module _ (g : NewGate) (n : ℕ) (is : n ≡ length (controlBytes (controlsFrom (g .controls)))) where
-  pub length-swap : g .swaps ≡ true → n + 3 ≡ length (encode (gateFrom g))
-  unfolding encode
-  length-swap e = rw (e, length-append (controlBytes (controlsFrom (g .controls))) (g .second ∷ [])) (omega arith)
+pub ruleset lengths = (needs, map-fits, length-both)
 
-  pub length-flip : g .swaps ≡ false → n + 2 ≡ length (encode (gateFrom g))
-  unfolding encode
-  length-flip e = rw e (omega arith)
+-- how long the bytes of a NOT are, and of a swap under one control
+pub flip-long : (cs : Controls) (t : ℕ) → length (encode (flip cs t)) ≡ 2 + length (controlBytes cs)
+unfolding encode
+flip-long cs t = omega arith
 
-pub ruleset lengths = (needs, length-both, length-swap, length-flip)
+pub swap-long : (e u v : ℕ) → length (encode (swapOf (withControl e true noControls) u v)) ≡ swapLength
+unfolding encode swapOf withControl insert listBytes
+swap-long e u v = refl
 
 -- stores behind the room's end change nothing
 pub sets-past : (room : List ℕ) (at : ℕ) (bytes : List ℕ) → length room ≤ at → room ≡ sets room at bytes
@@ -112,32 +99,21 @@ controls-both room at c middle n end p q r =
 
 pub ruleset controls = (needs, sets-past, controls-both)
 
--- the ways out of `put_gate`
-module _ (room : List ℕ) (at : ℕ) (g : NewGate) (map : ℕ) (is : map ≡ mapOf (g .swaps) (controlsFrom (g .controls)))
-    (one two : List ℕ) (p : one ≡ sets room at (map ∷ g .target ∷ []))
-    (q : two ≡ sets one (at + 2) (controlBytes (controlsFrom (g .controls)))) where
-  begun : (more : List ℕ) → sets room at (map ∷ g .target ∷ (controlBytes (controlsFrom (g .controls)) ++ more))
-      ≡ sets two (at + 2 + length (controlBytes (controlsFrom (g .controls)))) more
-  begun more =
-      let e : suc (suc at) ≡ at + 2 = omega arith in
-      rw (q, p, ← e)
-      (sets-append (set (set room at map) (suc at) (g .target)) (suc (suc at)) (controlBytes (controlsFrom (g .controls))) more)
+-- the ways out of `put_flip` and `put_swap`
+pub flip-put : (room : List ℕ) (at target : ℕ) (cs : Controls) (map : ℕ) (one two : List ℕ) → map ≡ controlMap cs → one ≡ sets room at (map ∷ target ∷ []) →
+    two ≡ sets one (at + 2) (controlBytes cs) → two ≡ sets room at (encode (flip cs target))
+unfolding encode
+flip-put room at target cs map one two is p q = let s : suc (suc at) ≡ at + 2 = omega arith in rw (q, p, is, ← s)
 
-  pub gate-flip : g .swaps ≡ false → two ≡ sets room at (encode (gateFrom g))
-  unfolding encode
-  gate-flip e =
-      let m : map ≡ controlMap (controlsFrom (g .controls)) = rw e at is in
-      let s : suc (suc at) ≡ at + 2 = omega arith in
-      rw (e, q, p, m, ← s)
+pub swap-put : (room : List ℕ) (at e u v low high : ℕ) (one two three : List ℕ) → low ≡ min u v → high ≡ max u v → one ≡ sets room at (5 ∷ low ∷ []) →
+    two ≡ sets one (at + 2) (1 ∷ e ∷ []) → three ≡ set two (at + 4) high → three ≡ sets room at (encode (swapOf (withControl e true noControls) u v))
+unfolding encode swapOf withControl insert listBytes listBit
+swap-put room at e u v low high one two three is-low is-high p q r =
+    let s : at + 2 ≡ suc (suc at) = omega arith in
+    let f : at + 4 ≡ suc (suc (suc (suc at))) = omega arith in
+    rw (r, q, p, is-low, is-high, s, f)
 
-  pub gate-swap : g .swaps ≡ true → (n : ℕ) → n ≡ length (controlBytes (controlsFrom (g .controls))) → (end : List ℕ) →
-      end ≡ set two (at + 2 + n) (g .second) → end ≡ sets room at (encode (gateFrom g))
-  unfolding encode
-  gate-swap e n k end z =
-      let m : map ≡ controlMap (controlsFrom (g .controls)) + 4 = rw e at is in
-      rw (e, z, k, ← m) (sym (begun (g .second ∷ [])))
-
-pub ruleset gates = (needs, sets-past, gate-flip, gate-swap)
+pub ruleset gates = (needs, sets-past, flip-put, swap-put)
 
 -- what `put_pair`, `put_number` and `put_header` leave
 pub pair-put : (room : List ℕ) (at a b : ℕ) (one two : List ℕ) → one ≡ set room at a → two ≡ set one (at + 1) b → two ≡ sets room at (a ∷ b ∷ [])

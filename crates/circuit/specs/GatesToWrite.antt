@@ -1,17 +1,15 @@
 -- The code's gates and their controls in the terms of document 01's definitions.
-use Prim.Native.Nat.{ℕ, suc, _+_}
+use Prim.Native.Nat.{ℕ, suc}
 use mathlib.Core.Bool.{Bool, true, false}
 use mathlib.Core.List.{List, [], _∷_}
 use lib.ListN.{length, take}
 use lib.Dec.{ltb}
 use Rattle.limits.specs.Sizes.{mostControls}
 use Rattle.model.specs.Limits.{circuitEdition}
-use Rattle.model.specs.Gates.{Controls, insert, Gate}
-use Rattle.model.specs.Circuit.{controlMap, fourBytes}
-use Rattle.circuit.specs.GatesInBytes.{gateWith}
+use Rattle.model.specs.Gates.{Controls, insert}
+use Rattle.model.specs.Circuit.{fourBytes}
 use Rattle.circuit.specs.declared.write.ControlList.{ControlList}
 use Rattle.circuit.specs.declared.write.ControlLists.{ControlLists}
-use Rattle.circuit.specs.declared.write.NewGate.{NewGate}
 
 -- the wires of a list
 abbrev pub wiresOf : ControlList → List ℕ
@@ -19,9 +17,6 @@ wiresOf l = take (l .count) (l .wires)
 
 abbrev pub controlsFrom : ControlLists → Controls
 controlsFrom c = record { ones = wiresOf (c .ones); zeros = wiresOf (c .zeros) }
-
-abbrev pub gateFrom : NewGate → Gate
-gateFrom g = gateWith (g .swaps) (controlsFrom (g .controls)) (g .target) (g .second)
 
 -- how many wires come before w where it is put into an ascending list
 unfoldable pub placeFor : ℕ → List ℕ → ℕ
@@ -36,11 +31,6 @@ insertWithin w l = elim (ltb (length l) mostControls) [ true ↦ insert w l | fa
 unfoldable pub withControlWithin : ℕ → Bool → Controls → Controls
 withControlWithin w true cs = record { ones = insertWithin w (cs .ones); zeros = cs .zeros }
 withControlWithin w false cs = record { ones = cs .ones; zeros = insertWithin w (cs .zeros) }
-
--- a gate's map byte
-abbrev pub mapOf : Bool → Controls → ℕ
-mapOf true cs = controlMap cs + 4
-mapOf false cs = controlMap cs
 
 -- a circuit's bytes before its gates
 abbrev pub headerBytes : ℕ → ℕ → ℕ → List ℕ

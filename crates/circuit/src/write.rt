@@ -1,11 +1,13 @@
 // "A gate is a map byte, the target wire, then" its lists of wires: a gate's bytes, written into a room.
 ghost use mathlib.Core.Path.{_≡_};
+ghost use mathlib.Core.Bool.{true};
 ghost use mathlib.Core.List.{[], _∷_};
+ghost use Prim.Native.Nat.{_+_, min, max};
 ghost use lib.ListN.{length, set};
 ghost use lib.Seq.{sets};
-ghost use Rattle.model.specs.Gates.{noControls, flip, swapOf};
-ghost use Rattle.model.specs.Circuit.{listBit, listBytes, encode, controlBytes, fourBytes};
-ghost use Rattle.circuit.specs.GatesToWrite.{placeFor, insertWithin, withControlWithin, wiresOf, controlsFrom, gateFrom, mapOf, headerBytes};
+ghost use Rattle.model.specs.Gates.{noControls, withControl, flip, swapOf};
+ghost use Rattle.model.specs.Circuit.{listBit, listBytes, encode, controlMap, controlBytes, fourBytes};
+ghost use Rattle.circuit.specs.GatesToWrite.{placeFor, insertWithin, withControlWithin, wiresOf, controlsFrom, headerBytes};
 use limits::{CIRCUIT_EDITION, CONTROLS_LENGTH, MOST_CONTROLS};
 
 // Wires in ascending order: the first `count` of `wires`. Around a statement stand fewer qcases than its tree is deep, and the body's ancilla beside them.
@@ -18,14 +20,6 @@ pub struct ControlList {
 pub struct ControlLists {
     pub ones: ControlList,
     pub zeros: ControlList,
-}
-
-// A NOT on `target`, or a swap of `target` and `second`, under controls.
-pub struct NewGate {
-    pub controls: ControlLists,
-    pub target: u8,
-    pub swaps: bool,
-    pub second: u8,
 }
 
 // How many wires are in the list?
@@ -108,38 +102,6 @@ pub fn with_control(controls: ControlLists, wire: u8, bit: bool) -> ControlLists
     }
 }
 
-// A NOT on a wire.
-pub fn flip_of(controls: ControlLists, target: u8) -> NewGate
-    ensures { λ r. ⌜ gateFrom r ≡ flip (controlsFrom controls) target ⌝ }
-{
-    NewGate {
-        controls: controls,
-        target: target,
-        swaps: false,
-        second: 0,
-    }
-}
-
-// A swap of two wires: "a swap's target is its lower wire".
-pub fn swap_of(controls: ControlLists, first: u8, second: u8) -> NewGate
-    ensures { λ r. ⌜ gateFrom r ≡ swapOf (controlsFrom controls) first second ⌝ }
-{
-    if first < second {
-        return NewGate {
-            controls: controls,
-            target: first,
-            swaps: true,
-            second: second,
-        };
-    }
-    NewGate {
-        controls: controls,
-        target: second,
-        swaps: true,
-        second: first,
-    }
-}
-
 // The lengths below have types in which no sum of theirs wraps.
 // How many bytes does the list take: none without a wire, otherwise its count and its wires?
 fn list_length(list: ControlList) -> u16
@@ -156,18 +118,11 @@ fn list_bit(list: ControlList, value: u8) -> u8
     if held(list) == 0 { 0 } else { value }
 }
 
-// The gate's map byte.
-fn map_of(gate: NewGate) -> u8
-    ensures { λ r. ⌜ r ≡ mapOf (gate .swaps) (controlsFrom (gate .controls)) ⌝ }
+// The bits of both lists in the map.
+fn control_map(controls: ControlLists) -> u8
+    ensures { λ r. ⌜ r ≡ controlMap (controlsFrom controls) ⌝ }
 {
-    let controls = gate.controls;
-    let ones = list_bit(controls.ones, 1);
-    let zeros = list_bit(controls.zeros, 2);
-    if gate.swaps {
-        ones + zeros + 4
-    } else {
-        ones + zeros
-    }
+    list_bit(controls.ones, 1) + list_bit(controls.zeros, 2)
 }
 
 // How many bytes do both lists take?
@@ -177,16 +132,23 @@ fn controls_length(controls: ControlLists) -> u32
     list_length(controls.ones) as u32 + list_length(controls.zeros) as u32
 }
 
-// How many bytes does the gate take?
-pub fn gate_length(gate: NewGate) -> usize
-    ensures { λ r. ⌜ r ≡ length (encode (gateFrom gate)) ⌝ }
+// How many bytes does a NOT take?
+pub fn flip_length(controls: ControlLists) -> usize
+    ensures { λ r. ⌜ r ≡ 2 + length (controlBytes (controlsFrom controls)) ⌝ }
 {
-    let controls = controls_length(gate.controls) as usize;
-    if gate.swaps {
-        controls + 3
-    } else {
-        controls + 2
-    }
+    2 + controls_length(controls) as usize
+}
+
+fn lower(a: u8, b: u8) -> u8
+    ensures { λ r. ⌜ r ≡ min a b ⌝ }
+{
+    if a < b { a } else { b }
+}
+
+fn higher(a: u8, b: u8) -> u8
+    ensures { λ r. ⌜ r ≡ max a b ⌝ }
+{
+    if a < b { b } else { a }
 }
 
 // A byte at a place, if the room reaches there.
@@ -254,22 +216,27 @@ pub fn put_controls(room: &mut [u8], at: usize, controls: ControlLists)
     put_list(room, at + list_length(ones) as usize, controls.zeros);
 }
 
-// A gate's bytes from a place on, as far as the room reaches.
-pub fn put_gate(room: &mut [u8], at: usize, gate: NewGate)
-    ensures { λ r. ⌜ now (room .exit) ≡ sets (now (room .entry)) at (encode (gateFrom gate)) ⌝ }
+// A NOT's bytes from a place on, as far as the room reaches.
+pub fn put_flip(room: &mut [u8], at: usize, controls: ControlLists, target: u8)
+    ensures { λ r. ⌜ now (room .exit) ≡ sets (now (room .entry)) at (encode (flip (controlsFrom controls) target)) ⌝ }
 {
     if room.len() <= at {
         return;
     }
-    put_pair(room, at, map_of(gate), gate.target);
-    put_controls(room, at + 2, gate.controls);
-    if gate.swaps {
-        put(
-            room,
-            at + 2 + controls_length(gate.controls) as usize,
-            gate.second,
-        );
+    put_pair(room, at, control_map(controls), target);
+    put_controls(room, at + 2, controls);
+}
+
+// The bytes of a swap under one control on 1, from a place on, as far as the room reaches: SWAP_LENGTH. "a swap's target is its lower wire"
+pub fn put_swap(room: &mut [u8], at: usize, control: u8, first: u8, second: u8)
+    ensures { λ r. ⌜ now (room .exit) ≡ sets (now (room .entry)) at (encode (swapOf (withControl control true noControls) first second)) ⌝ }
+{
+    if room.len() <= at {
+        return;
     }
+    put_pair(room, at, 1 + 4, lower(first, second));
+    put_pair(room, at + 2, 1, control);
+    put(room, at + 4, higher(first, second));
 }
 
 // "4 bytes little-endian" from a place on, as far as the room reaches.

@@ -23,7 +23,7 @@ use Rattle.events.specs.Scan.{
 use Rattle.events.specs.Slots.{filled, pairAt, appears}
 use Rattle.events.specs.FollowedEvents.{Follows}
 use Rattle.events.proofs.ScanOfEvents.{scan-append, scan-stopped, scan-places, scan-no-gate, scan-many, scan-next, nextAfter}
-use Rattle.events.proofs.GatesAndSlots.{place-stopped}
+use Rattle.events.proofs.GatesAndSlots.{gate-stopped}
 use Rattle.events.proofs.EntryGates.{scan-nothing}
 
 -- gates leave the next wire
@@ -48,7 +48,7 @@ follows-none st room ws = record {
 -- a refusal absorbs what follows
 pub follows-stopped : (es : List Event) (st : Emit) (room ws : List ℕ) → (st .status ≡ 0 → ⊥) → Follows es st room ws st room ws
 follows-stopped es st room ws f = record {
-    scanned = place-stopped es st room f; long = refl; rises = le-refl (st .next); low = λ h. h; kept = λ i h. refl }
+    scanned = gate-stopped es st room f; long = refl; rises = le-refl (st .next); low = λ h. h; kept = λ i h. refl }
 
 -- gates in the room
 pub follows-gates : (es : List Event) (st : Emit) (room ws : List ℕ) (r : Emit) (room₁ : List ℕ) → OnlyGates es →

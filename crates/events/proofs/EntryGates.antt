@@ -9,7 +9,7 @@ use borrow.Author.Needs.{needs}
 use lib.ListN.{length, getD, drop, drop-of-length-le}
 use lib.Dec.{eqb}
 use Rattle.limits.specs.Sizes.{slotLength}
-use Rattle.model.specs.Gates.{Controls, Gate, flip, swapOf}
+use Rattle.model.specs.Gates.{Controls, flip, swapOf}
 use Rattle.model.specs.Emission.{Event, places, under, swaps, entryGates, samePair, allEntryGates}
 use Rattle.model.proofs.BooleanLaws.{byBool}
 use Rattle.lookup.specs.declared.Plan.{Plan}
@@ -81,17 +81,6 @@ module _ (e : ℕ) (r : Plan) (x : Progress) where
   back-ends y i h (behind p) = let z : i ≡ 0 = omega arith in rw z at p
 
 pub ruleset following = (needs, pairs-most, forth-starts, forth-next, forth-ends, back-starts, back-next, back-ends)
-
--- the ways out of `emit_flip` and `emit_swap`
-pub flip-emitted : (cs : Controls) (t : ℕ) (g : Gate) (x y : Progress) → g ≡ flip cs t → y ≡ scan (places g ∷ []) x →
-    y ≡ scan (places (flip cs t) ∷ []) x
-flip-emitted cs t g x y e q = rw (← e) q
-
-pub swap-emitted : (e u v : ℕ) (cs : Controls) (g : Gate) (x y : Progress) → cs ≡ under e → g ≡ swapOf cs u v →
-    y ≡ scan (places g ∷ []) x → y ≡ scan (places (swapOf (under e) u v) ∷ []) x
-swap-emitted e u v cs g x y p r q = rw (← p, ← r) q
-
-pub ruleset emitting = (needs, flip-emitted, swap-emitted)
 
 -- the ways out of `emit_gates`
 planned-are : (F L : List ℕ) (r : Plan) (e : ℕ) → PlansSwaps F L r → swapsAlong e (pairsOf r) ≡ swaps e F L

@@ -1,34 +1,32 @@
 -- The ways out of the functions that walk over no statement: gates placed, slots filled and read, the next body sought.
 use mathlib.Core.Path.{_≡_, refl, sym, ap, _∙_}
 use mathlib.Core.Bool.{Bool, true, false, not}
-use mathlib.Core.List.{List, [], _∷_, _++_, map}
-use Prim.Native.Nat.{ℕ, zero, suc, _+_, _-_, _*_, _≤_, _<_, max, min}
+use mathlib.Core.List.{List, [], _∷_, _++_}
+use Prim.Native.Nat.{ℕ, zero, suc, _+_, _-_, _*_, _≤_, _<_, max}
 use native.Mathlib.Numerals.{add-one}
 use native.Mathlib.Omega.{arith}
 use mir.Syntax.{w64}
 use mir.Val.{Fits}
 use borrow.Author.Needs.{needs}
-use borrow.Author.Tests.{lt-ltb, le-ltb, le-leb, lt-leb, eq-eqb, ne-eqb, leb-true, leb-false}
-use lib.ListN.{length, getD, set, take, drop, length-take, drop-of-length-le, List·getD-eq-default}
-use lib.Seq.{sets, drop-cons, take-suc, take-suc-set, take-all, getD-take}
+use borrow.Author.Tests.{lt-ltb, le-ltb, le-leb, lt-leb, eq-eqb, ne-eqb, leb-true}
+use lib.ListN.{length, getD, set, take, drop, drop-of-length-le}
+use lib.Seq.{sets, drop-cons, take-suc-set}
 use lib.Dec.{eqb, leb}
-use Rattle.limits.specs.Sizes.{slotLength}
+use Rattle.limits.specs.Sizes.{slotLength, swapLength}
 use Rattle.model.specs.Limits.{mostWires, mostQubits, mostCircuit, manyWires, noRoom}
-use Rattle.model.specs.Gates.{Controls, noControls, withControl, exchange}
+use Rattle.model.specs.Gates.{Controls, noControls, withControl, Gate, flip, swapOf}
 use Rattle.model.specs.Emission.{Event, places, under}
-use Rattle.model.specs.Circuit.{encode}
+use Rattle.model.specs.Circuit.{encode, controlBytes}
 use Rattle.model.specs.Answers.{usable}
-use Rattle.model.proofs.BooleanLaws.{byLt}
-use Rattle.model.proofs.GateLaws.{exchange-left, exchange-right, exchange-other}
-use Rattle.circuit.specs.declared.write.NewGate.{NewGate}
-use Rattle.circuit.specs.GatesToWrite.{gateFrom, insertWithin, withControlWithin}
-use Rattle.circuit.proofs.GateBytes.{sets-past}
+use Rattle.model.proofs.BooleanLaws.{byBool, byLt}
+use Rattle.circuit.specs.GatesToWrite.{insertWithin, withControlWithin}
+use Rattle.circuit.proofs.GateBytes.{sets-past, flip-long, swap-long}
 use Rattle.step.specs.declared.Qubits.{Qubits}
 use Rattle.step.specs.Steps.{qubitsOf}
 use Rattle.events.specs.declared.Emit.{Emit}
-use Rattle.events.specs.Scan.{Progress, progress, stopped, freed, placed, scan, bytesFrom, slotListLength, slotProcedure, slotList}
+use Rattle.events.specs.Scan.{progress, stopped, freed, placed, withGate, afterEvent, scan, bytesFrom, slotListLength, slotProcedure, slotList}
 use Rattle.events.specs.Slots.{filled, ancillaTaken, returned, pairAt, appears, opensAt, seekOf}
-use Rattle.events.proofs.ScanOfEvents.{scan-stopped, scan-places, scan-no-gate, scan-many}
+use Rattle.events.proofs.ScanOfEvents.{scan-stopped}
 
 pub ruleset reading = (needs, lt-ltb, le-ltb)
 
@@ -44,32 +42,59 @@ module _ (room used n most : ℕ) (is : most ≡ usable room) where
 
 pub ruleset rooms = (needs, room-short, room-left)
 
--- the ways out of `place`
-pub place-stopped : (es : List Event) (st : Emit) (room : List ℕ) → (st .status ≡ 0 → ⊥) → progress st room ≡ scan es (progress st room)
-place-stopped es st room f = sym (scan-stopped es st room (ne-eqb (st .status) 0 f))
+-- the ways out of `with_gate`
+module _ (room : ℕ) (st : Emit) (n : ℕ) where
+  pub gate-many : (r : Emit) → mostCircuit ≤ st .gates → r ≡ stopped st noRoom → r ≡ withGate room st n
+  unfolding withGate
+  gate-many r h e = rw (e, le-ltb (st .gates) mostCircuit h) (byBool (leb (st .used + n) (usable room)) (λ t. rw t) (λ t. rw t))
 
-scan-none : (x : Progress) → scan [] x ≡ x
-unfolding scan
-scan-none x = refl
-
-module _ (g : NewGate) (st : Emit) (room : List ℕ) (ok : st .status ≡ 0) where
-  pub place-many : (r : Emit) → mostCircuit ≤ st .gates → r ≡ stopped st noRoom → progress r room ≡ scan (places (gateFrom g) ∷ []) (progress st room)
-  place-many r h e = rw e (sym (scan-many [] st room ok (gateFrom g) h))
-
-  module _ (n : ℕ) (is : n ≡ length (encode (gateFrom g))) (b : Bool) (fits : b ≡ leb (st .used + n) (usable (length room))) where
+  module _ (b : Bool) (fits : b ≡ leb (st .used + n) (usable room)) where
     pub sum-fits : b ≡ true → Fits w64 (st .used + n)
-    sum-fits e = let h = leb-true (st .used + n) (usable (length room)) (sym fits ∙ e) in record { fits = omega arith }
+    sum-fits e = let h = leb-true (st .used + n) (usable room) (sym fits ∙ e) in record { fits = omega arith }
 
-    pub place-no-room : (r : Emit) → b ≡ false → r ≡ stopped st noRoom → progress r room ≡ scan (places (gateFrom g) ∷ []) (progress st room)
-    place-no-room r e q = rw q (sym (scan-no-gate [] st room ok (gateFrom g)
-      (leb-false (st .used + length (encode (gateFrom g))) (usable (length room)) (rw (← is) (sym fits ∙ e)))))
+    pub gate-past : (r : Emit) → b ≡ false → r ≡ stopped st noRoom → r ≡ withGate room st n
+    unfolding withGate
+    gate-past r t e = rw (e, ← fits, t)
 
-    pub place-written : (after : List ℕ) → b ≡ true → st .gates < mostCircuit → after ≡ sets room (st .used) (encode (gateFrom g)) →
-        progress (placed st n) after ≡ scan (places (gateFrom g) ∷ []) (progress st room)
-    place-written after e h q = rw (q, is) (sym (scan-places [] st room ok (gateFrom g)
-      (leb-true (st .used + length (encode (gateFrom g))) (usable (length room)) (rw (← is) (sym fits ∙ e))) h ∙ scan-none _))
+    pub gate-fits : b ≡ true → st .gates < mostCircuit → placed st n ≡ withGate room st n
+    unfolding withGate
+    gate-fits t h = rw (← fits, t, lt-ltb (st .gates) mostCircuit h)
 
-pub ruleset placing = (needs, place-stopped, place-many, sum-fits, place-no-room, place-written)
+pub ruleset growing = (needs, gate-many, sum-fits, gate-past, gate-fits)
+
+-- the ways out of `emit_flip` and `emit_swap`: a gate by its bytes
+pub gate-stopped : (es : List Event) (st : Emit) (room : List ℕ) → (st .status ≡ 0 → ⊥) → progress st room ≡ scan es (progress st room)
+gate-stopped es st room f = sym (scan-stopped es st room (ne-eqb (st .status) 0 f))
+
+module _ (g : Gate) (st : Emit) (room : List ℕ) (ok : st .status ≡ 0) (n : ℕ) (is : n ≡ length (encode g)) (r : Emit) (next : r ≡ withGate (length room) st n) where
+  gate-put : (after : List ℕ) → r .status ≡ 0 → after ≡ sets room (st .used) (encode g) → progress r after ≡ scan (places g ∷ []) (progress st room)
+  unfolding scan afterEvent
+  gate-put after e q = rw (eq-eqb (st .status) 0 ok, ← is, ← next, eq-eqb (r .status) 0 e, q)
+
+  gate-refused : (r .status ≡ 0 → ⊥) → progress r room ≡ scan (places g ∷ []) (progress st room)
+  unfolding scan afterEvent
+  gate-refused e = rw (eq-eqb (st .status) 0 ok, ← is, ← next, ne-eqb (r .status) 0 e)
+
+-- a NOT
+module _ (cs : Controls) (t : ℕ) (st : Emit) (room : List ℕ) (ok : st .status ≡ 0) (n : ℕ) (is : n ≡ 2 + length (controlBytes cs)) (r : Emit)
+    (next : r ≡ withGate (length room) st n) where
+  pub flip-placed : (after : List ℕ) → r .status ≡ 0 → after ≡ sets room (st .used) (encode (flip cs t)) →
+      progress r after ≡ scan (places (flip cs t) ∷ []) (progress st room)
+  flip-placed = gate-put (flip cs t) st room ok n (is ∙ sym (flip-long cs t)) r next
+
+  pub flip-refused : (r .status ≡ 0 → ⊥) → progress r room ≡ scan (places (flip cs t) ∷ []) (progress st room)
+  flip-refused = gate-refused (flip cs t) st room ok n (is ∙ sym (flip-long cs t)) r next
+
+-- a swap under one ancilla
+module _ (e u v : ℕ) (st : Emit) (room : List ℕ) (ok : st .status ≡ 0) (r : Emit) (next : r ≡ withGate (length room) st swapLength) where
+  pub swap-placed : (after : List ℕ) → r .status ≡ 0 → after ≡ sets room (st .used) (encode (swapOf (under e) u v)) →
+      progress r after ≡ scan (places (swapOf (under e) u v) ∷ []) (progress st room)
+  swap-placed = gate-put (swapOf (under e) u v) st room ok swapLength (sym (swap-long e u v)) r next
+
+  pub swap-refused : (r .status ≡ 0 → ⊥) → progress r room ≡ scan (places (swapOf (under e) u v) ∷ []) (progress st room)
+  swap-refused = gate-refused (swapOf (under e) u v) st room ok swapLength (sym (swap-long e u v)) r next
+
+pub ruleset placing = (needs, gate-stopped, flip-placed, flip-refused, swap-placed, swap-refused)
 
 -- the ways out of `give_back`
 pub back-stopped : (a : ℕ) (st : Emit) → (st .status ≡ 0 → ⊥) → st ≡ returned a st

@@ -21,7 +21,7 @@ use Rattle.agreement.proofs.AncillaStack.{Stacked, highest, peak-highest, emiss
 use Rattle.agreement.proofs.FirstMisfit.{AllFit, fit-all, fits-length}
 use Rattle.circuit.proofs.GateBytes.{sets-append}
 use Rattle.events.specs.declared.Emit.{Emit}
-use Rattle.events.specs.Scan.{Progress, progress, emitOf, stopped, taken, freed, placed, afterEvent, scan, begun, emissionEnd}
+use Rattle.events.specs.Scan.{Progress, progress, emitOf, stopped, taken, freed, placed, afterEvent, withGate, scan, begun, emissionEnd}
 
 -- events one after the other
 pub scan-append : (xs ys : List Event) (x : Progress) → scan (xs ++ ys) x ≡ scan ys (scan xs x)
@@ -48,19 +48,19 @@ module _ (es : List Event) (st : Emit) (room : List ℕ) (ok : st .status ≡ 0)
 
   pub scan-places : (g : Gate) → st .used + length (encode g) ≤ usable (length room) → st .gates < mostCircuit →
       scan (places g ∷ es) (progress st room) ≡ scan es (progress (placed st (length (encode g))) (sets room (st .used) (encode g)))
-  unfolding scan afterEvent
+  unfolding scan afterEvent withGate
   scan-places g h k =
     rw (eq-eqb (st .status) 0 ok, le-leb (st .used + length (encode g)) (usable (length room)) h, lt-ltb (st .gates) mostCircuit k)
 
   pub scan-no-gate : (g : Gate) → usable (length room) < st .used + length (encode g) →
       scan (places g ∷ es) (progress st room) ≡ progress (stopped st noRoom) room
-  unfolding scan afterEvent
+  unfolding scan afterEvent withGate
   scan-no-gate g h = rw (eq-eqb (st .status) 0 ok, lt-leb (st .used + length (encode g)) (usable (length room)) h)
     (scan-stopped es (stopped st noRoom) room refl)
 
   -- a gate too many is refused as one past the room; a law below says that it does not come to that
   pub scan-many : (g : Gate) → mostCircuit ≤ st .gates → scan (places g ∷ es) (progress st room) ≡ progress (stopped st noRoom) room
-  unfolding scan afterEvent
+  unfolding scan afterEvent withGate
   scan-many g h = rw (eq-eqb (st .status) 0 ok, le-ltb (st .gates) mostCircuit h) (byBool (leb (st .used + length (encode g)) (usable (length room)))
     (λ e. rw e (scan-stopped es (stopped st noRoom) room refl))
     (λ e. rw e (scan-stopped es (stopped st noRoom) room refl)))

@@ -36,15 +36,16 @@ freed st a = record { status = 0; used = st .used; gates = st .gates; next = a; 
 abbrev pub placed : Emit → ℕ → Emit
 placed st n = record { status = 0; used = st .used + n; gates = st .gates + 1; next = st .next; highest = st .highest }
 
--- one event where nothing was refused: "22 or 23 at the first ancilla or gate that does not fit". A room holds fewer than 65,536 gates.
+-- behind a gate of n bytes, or refused: "23 header or next gate would pass the room's end". A room holds fewer than 65,536 gates.
+unfoldable pub withGate : ℕ → Emit → ℕ → Emit
+withGate room st n =
+    cond (leb (st .used + n) (usable room)) (cond (ltb (st .gates) mostCircuit) (placed st n) (stopped st noRoom)) (stopped st noRoom)
+
+-- one event where nothing was refused: "22 or 23 at the first ancilla or gate that does not fit"
 unfoldable pub afterEvent : Event → Emit → List ℕ → Progress
 afterEvent (takes w) st room = cond (ltb mostWires w) (progress (stopped st manyWires) room) (progress (taken st w) room)
 afterEvent (places g) st room =
-    cond (leb (st .used + length (encode g)) (usable (length room)))
-    (cond (ltb (st .gates) mostCircuit)
-    (progress (placed st (length (encode g))) (sets room (st .used) (encode g)))
-    (progress (stopped st noRoom) room))
-    (progress (stopped st noRoom) room)
+    let r = withGate (length room) st (length (encode g)) in progress r (cond (eqb (r .status) 0) (sets room (st .used) (encode g)) room)
 afterEvent (frees a) st room = progress (freed st a) room
 
 -- the events in order; a refusal absorbs what follows it

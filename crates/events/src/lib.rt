@@ -9,14 +9,14 @@ ghost use Rattle.model.specs.Gates.{flip, swapOf};
 ghost use Rattle.model.specs.Emission as model;
 ghost use Rattle.model.specs.Emission.{places, frees, entryGates, allEntryGates, returns};
 ghost use Rattle.model.specs.Answers.{usable};
-ghost use Rattle.circuit.specs.GatesToWrite.{controlsFrom, gateFrom};
+ghost use Rattle.circuit.specs.GatesToWrite.{controlsFrom};
 ghost use Rattle.step.specs.Steps.{qubitsOf};
 ghost use Rattle.lookup.specs.Plans.{pairsOf, swapsAlong};
-ghost use Rattle.events.specs.Scan.{progress, stopped, scan, slotListLength, slotProcedure, slotList, wireOf, slotOf, heldIn};
+ghost use Rattle.events.specs.Scan.{progress, stopped, withGate, scan, slotListLength, slotProcedure, slotList, wireOf, slotOf, heldIn};
 ghost use Rattle.events.specs.Slots.{filled, ancillaTaken, returned, pairAt, appears, opensAt, seekOf, turned, entryAt};
 ghost use Rattle.events.specs.FollowedEvents.{Invokes};
-use circuit::write::{ControlLists, NewGate, with_control, no_controls, flip_of, swap_of, gate_length, put_pair, put_gate};
-use limits::{LAST_WIRE, LIST_LENGTH, MANY_WIRES, MOST_CIRCUIT, MOST_GATES, MOST_QUBITS, NO_ROOM, SLOT_LENGTH};
+use circuit::write::{ControlLists, with_control, no_controls, flip_length, put_pair, put_flip, put_swap};
+use limits::{LAST_WIRE, LIST_LENGTH, MANY_WIRES, MOST_CIRCUIT, MOST_GATES, MOST_QUBITS, NO_ROOM, SLOT_LENGTH, SWAP_LENGTH};
 use lookup::{Plan, pair_count, plan_swaps};
 use records::byte;
 use step::{Qubits, entry_at, size};
@@ -55,38 +55,49 @@ fn in_room(room: usize, used: usize, length: usize) -> bool
     used <= most - length
 }
 
-// A gate is placed, or 23.
-fn place(gate: NewGate, room: &mut [u8], st: Emit) -> Emit
-    ensures { λ r. ⌜ progress r (now (room .exit)) ≡ scan (places (gateFrom gate) ∷ []) (progress st (now (room .entry))) ⌝ }
+// Behind one gate more, of so many bytes: or 23.
+fn with_gate(room: usize, st: Emit, length: usize) -> Emit
+    ensures { λ r. ⌜ r ≡ withGate room st length ⌝ }
 {
-    if st.status != 0 {
-        return st;
-    }
-    let length = gate_length(gate);
     let used = st.used;
     let gates = st.gates;
     if MOST_GATES <= gates {
         return stop(st, NO_ROOM);
     }
-    if in_room(room.len(), used, length) {
-        put_gate(room, used, gate);
+    if in_room(room, used, length) {
         return Emit { status: 0, used: used + length, gates: gates + 1, next: st.next, highest: st.highest };
     }
     stop(st, NO_ROOM)
 }
 
-// A NOT is placed.
+// A NOT is placed, or 23.
 pub fn emit_flip(controls: ControlLists, target: u8, room: &mut [u8], st: Emit) -> Emit
     ensures { λ r. ⌜ progress r (now (room .exit)) ≡ scan (places (flip (controlsFrom controls) target) ∷ []) (progress st (now (room .entry))) ⌝ }
 {
-    place(flip_of(controls, target), room, st)
+    if st.status != 0 {
+        return st;
+    }
+    let next = with_gate(room.len(), st, flip_length(controls));
+    if next.status == 0 {
+        put_flip(room, st.used, controls, target);
+        return next;
+    }
+    next
 }
 
-// A swap under an ancilla is placed.
+// A swap under an ancilla is placed, or 23.
 fn emit_swap(e: u8, first: u8, second: u8, room: &mut [u8], st: Emit) -> Emit
     ensures { λ r. ⌜ progress r (now (room .exit)) ≡ scan (places (swapOf (model.under e) first second) ∷ []) (progress st (now (room .entry))) ⌝ }
 {
-    place(swap_of(under(e), first, second), room, st)
+    if st.status != 0 {
+        return st;
+    }
+    let next = with_gate(room.len(), st, SWAP_LENGTH);
+    if next.status == 0 {
+        put_swap(room, st.used, e, first, second);
+        return next;
+    }
+    next
 }
 
 // The ancillas from a on are given back.

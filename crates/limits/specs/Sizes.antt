@@ -50,6 +50,10 @@ placeCount = 2 ^ 16
 abbrev pub mostControls : ℕ
 mostControls = mostDepth + 1
 
+-- a swap under one control: map, target, count, control, second wire
+abbrev pub swapLength : ℕ
+swapLength = 5
+
 -- the numbers of wires, 0 among them, which is none
 abbrev pub wireCount : ℕ
 wireCount = mostWires + 1

@@ -13,7 +13,7 @@ ghost use Rattle.model.specs.Reading.{mostBase};
 ghost use Rattle.model.specs.Page.{bandGates};
 ghost use Rattle.limits.specs.Sizes.{
   bodyCount, matrixLength, lengthCount, rowCount, endsAt, rootsAt, indexLength, placeCount, mostControls, slotLength, mostCalls, kindCount,
-  firstCondition, mostConstant, wireCount, marksLength, lineColumns, lookupLength, mostCount,
+  firstCondition, mostConstant, wireCount, marksLength, lineColumns, lookupLength, mostCount, swapLength,
 };
 
 // "Byte 0 is the edition, 1." "Byte 1 is p, the number of procedures, 0 to 16."
@@ -137,6 +137,9 @@ pub const MOST_CONTROLS: u8 = MOST_DEPTH + 1;
 
 pub const CONTROLS_LENGTH: usize = MOST_CONTROLS as usize;
 
+// A swap under one control: map, target, count, control, second wire.
+pub const SWAP_LENGTH: usize = 5;
+
 // What an ancilla keeps of the call that took it: procedure, list length, and the list.
 pub const SLOT_LENGTH: usize = 2 + LIST_LENGTH;
 
@@ -191,15 +194,15 @@ fn numbers() -> [u8; 17]
 }
 
 // Each size is the one that follows from the definitions' limits.
-fn sizes() -> [usize; 13]
+fn sizes() -> [usize; 14]
     ensures {
         λ r. ⌜ r ≡ bodyCount ∷ matrixLength ∷ lengthCount ∷ rowCount ∷ endsAt ∷ rootsAt ∷ indexLength ∷ placeCount ∷ mostControls ∷
-            slotLength ∷ mostCalls ∷ lookupLength ∷ mostCount ∷ [] ⌝
+            slotLength ∷ mostCalls ∷ lookupLength ∷ mostCount ∷ swapLength ∷ [] ⌝
     }
 {
     [
         BODY_COUNT, MATRIX_LENGTH, LENGTH_COUNT, ROW_COUNT, ENDS_AT, ROOTS_AT, INDEX_LENGTH, PLACE_COUNT, CONTROLS_LENGTH, SLOT_LENGTH,
-        MOST_CALLS as usize, LOOKUP_LENGTH, MOST_COUNT as usize,
+        MOST_CALLS as usize, LOOKUP_LENGTH, MOST_COUNT as usize, SWAP_LENGTH,
     ]
 }
 

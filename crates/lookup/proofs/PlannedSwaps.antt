@@ -10,7 +10,6 @@ use borrow.Author.Needs.{needs}
 use borrow.Author.Tests.{eq-eqb, ne-eqb}
 use lib.ListN.{length, getD, set, take, drop, length-append, length-set, length-take, drop-of-length-le}
 use lib.Seq.{drop-cons, getD-take, take-suc-set, take-set-le, append-snoc}
-use lib.Dec.{eqb}
 use Rattle.limits.specs.Sizes.{lookupLength, mostCount}
 use Rattle.model.specs.Limits.{mostQubits, mostWires}
 use Rattle.model.specs.Gates.{swapOf, exchange}

@@ -1,13 +1,14 @@
 -- `emit_swap` meets its contract: each way out is one law.
-use Rattle.events.proofs.EntryGates.{emitting}
 use borrow.Author.Needs.{needs}
+use Rattle.events.proofs.GatesAndSlots.{placing}
 use Rattle.events.proofs.emit_swap.Statement.{statement}
 use Rattle.events.proofs.emit_swap.Tie as tie
 
 pub emit-swap-spec : {M : Type 1} → statement M
 emit-swap-spec = tie.close (tie.spec
-    (λ c κs. search needs)
+    (λ c. search placing)
     (λ c κs. search needs)
     (λ c κs. search needs)
     (λ c. search needs)
-    (λ c. search emitting))
+    (λ c. search placing)
+    (λ c. search placing))

@@ -1,5 +1,5 @@
 -- `highest` meets its contract: the highest so far, with what is left of the list, is the highest of all.
-use Prim.Native.Nat.{_-_, _≤_, max}
+use Prim.Native.Nat.{_-_, max}
 use mathlib.Core.Path.{_≡_}
 use lib.ListN.{length, drop}
 use Rattle.step.specs.Steps.{qubitsOf}
