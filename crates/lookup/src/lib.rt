@@ -43,10 +43,11 @@ fn write(entries: &mut [u8], count: &mut u16, at: usize, value: u8)
     ensures { λ r. ⌜ now (entries .exit) ≡ set (now (entries .entry)) at value ⌝ }
     ensures { λ r. ⌜ now (count .exit) ≡ raised (now (count .entry)) ⌝ }
 {
-    *count = raise(*count);
+    let more = raise(*count);
     if at < entries.len() {
         entries[at] = value;
     }
+    *count = more;
 }
 
 // Qubit q is on wire w now: an entry in each direction.
