@@ -2,15 +2,15 @@
 use mathlib.Core.Path.{_≡_, refl, sym, ap, _∙_}
 use mathlib.Core.Bool.{Bool, true, false, not}
 use mathlib.Core.List.{List, [], _∷_, _++_}
-use Prim.Native.Nat.{ℕ, zero, suc, _+_, _-_, _*_, _≤_, _<_, max}
+use Prim.Native.Nat.{ℕ, zero, suc, _+_, _-_, _*_, _≤_, _<_, max, min}
 use native.Mathlib.Numerals.{add-one}
 use native.Mathlib.Omega.{arith}
 use mir.Syntax.{w64}
 use mir.Val.{Fits}
 use borrow.Author.Needs.{needs}
 use borrow.Author.Tests.{lt-ltb, le-ltb, le-leb, lt-leb, eq-eqb, ne-eqb, leb-true}
-use lib.ListN.{length, getD, set, take, drop, drop-of-length-le}
-use lib.Seq.{sets, drop-cons, take-suc-set}
+use lib.ListN.{length, getD, set, take, drop, length-take, drop-of-length-le, List·getD-eq-default}
+use lib.Seq.{sets, drop-cons, take-suc-set, getD-take}
 use lib.Dec.{eqb, leb}
 use Rattle.limits.specs.Sizes.{slotLength, swapLength}
 use Rattle.model.specs.Limits.{mostWires, mostQubits, mostCircuit, manyWires, noRoom}
@@ -122,6 +122,19 @@ module _ (f : ℕ) (l : List ℕ) (st : Emit) (ws : List ℕ) where
 
 pub ruleset takings = (needs, back-stopped, back-given, take-stopped, take-past, take-one)
 
+-- entries of a list
+module _ (q : Qubits) (i n : ℕ) (is : n ≡ length (qubitsOf q)) where
+  pub entry-none : n ≤ i → 0 ≡ getD (qubitsOf q) i 0
+  entry-none h = let k : length (qubitsOf q) ≤ i = omega arith in sym (List·getD-eq-default (qubitsOf q) 0 k)
+
+  pub entry-index : length (q .at) ≡ mostQubits → i < n → i < mostQubits
+  entry-index e h = let t : length (qubitsOf q) ≡ min (q .len) (length (q .at)) = length-take (q .len) (q .at) in omega arith
+
+  pub entry-some : i < n → getD (q .at) i 0 ≡ getD (qubitsOf q) i 0
+  entry-some h =
+    let t : length (qubitsOf q) ≡ min (q .len) (length (q .at)) = length-take (q .len) (q .at) in
+    sym (getD-take (q .len) (q .at) i 0 (omega arith))
+
 -- `put_entries` so far: what is still to be stored makes of the workspace what all of it makes
 pub data Storing (ws₀ : List ℕ) (at : ℕ) (l ws : List ℕ) (place i : ℕ) : Type 0 where
   still : sets ws place (drop i l) ≡ sets ws₀ at l → Storing ws₀ at l ws place i
@@ -145,7 +158,7 @@ pub slot-filled : (ws : List ℕ) (a f : ℕ) (q : Qubits) (n : ℕ) (middle end
     middle ≡ sets ws (slotLength * a) (f ∷ n ∷ []) → end ≡ sets middle (slotLength * a + 2) (qubitsOf q) → end ≡ filled ws a f (qubitsOf q)
 slot-filled ws a f q n middle end is m e = let k : slotLength * a + 2 ≡ suc (suc (slotLength * a)) = omega arith in rw (e, m, is, k)
 
-pub ruleset entries = (needs, slot-filled)
+pub ruleset entries = (needs, entry-none, entry-index, entry-some, slot-filled)
 
 pub ruleset storing = (needs, storing-starts, storing-next, stored-all, stored-full)
 

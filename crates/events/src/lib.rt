@@ -3,6 +3,7 @@
 ghost use mathlib.Core.Path.{_≡_};
 ghost use mathlib.Core.List.{[], _∷_, reverse};
 ghost use Prim.Native.Nat.{_+_, _-_, max};
+ghost use lib.ListN.{getD};
 ghost use lib.Seq.{sets};
 ghost use lib.Dec.{leb};
 ghost use Rattle.model.specs.Gates.{flip, swapOf};
@@ -19,7 +20,7 @@ use circuit::write::{ControlLists, with_control, no_controls, flip_length, put_p
 use limits::{LAST_WIRE, LIST_LENGTH, MANY_WIRES, MOST_CIRCUIT, MOST_GATES, MOST_QUBITS, NO_ROOM, SLOT_LENGTH, SWAP_LENGTH};
 use lookup::{Plan, pair_count, plan_swaps};
 use records::byte;
-use step::{Qubits, entry_at, size};
+use step::{Qubits, size};
 
 // Where an emission stands: 0 or the number that refuses it, bytes used, gates placed, the next wire, and the highest wire taken.
 pub struct Emit {
@@ -146,6 +147,17 @@ pub fn load(ws: &[u8], a: u16) -> Qubits
         i += 1;
     }
     Qubits { at, len }
+}
+
+// The entry of a list behind i others, 0 where there is none.
+fn entry_at(list: Qubits, i: u8) -> u8
+    ensures { λ r. ⌜ r ≡ getD (qubitsOf list) i 0 ⌝ }
+{
+    if size(list) <= i {
+        return 0;
+    }
+    let k = i as usize;
+    list.at[k]
 }
 
 // The entries of a list are stored from a place on, as far as the workspace reaches.

@@ -34,26 +34,34 @@ count-apart from to h = rw (ne-eqb from to h)
 
 pub ruleset counting = (needs, count-equal, count-apart)
 
+-- a list's entry stands in its array, and no list is longer than that
+pub in-array : (q : Qubits) (i : ℕ) → i < length (qubitsOf q) → getD (q .at) i 0 ≡ getD (qubitsOf q) i 0
+in-array q i h = sym (getD-take (q .len) (q .at) i 0 (omega (arith, length-take (q .len) (q .at))))
+
+pub size-few : (q : Qubits) (m : ℕ) → length (q .at) ≡ mostQubits → m ≡ length (qubitsOf q) → m ≤ mostQubits
+size-few q m e is = omega (arith, length-take (q .len) (q .at))
+
 -- `highest` so far
 pub top-starts : (l : List ℕ) → max 0 (highest (drop 0 l)) ≡ highest l
 top-starts l = omega arith
 
-module _ (l : List ℕ) (top i m : ℕ) (is : m ≡ length l) (inv : max top (highest (drop i l)) ≡ highest l) where
-  pub top-next : (x next : ℕ) → i < m → x ≡ getD l i 0 → next ≡ max top x → max next (highest (drop (i + 1) l)) ≡ highest l
+module _ (q : Qubits) (top i m : ℕ) (is : m ≡ length (qubitsOf q)) (inv : max top (highest (drop i (qubitsOf q))) ≡ highest (qubitsOf q)) where
+  pub top-next : (next : ℕ) → i < m → next ≡ max top (getD (q .at) i 0) → max next (highest (drop (i + 1) (qubitsOf q))) ≡ highest (qubitsOf q)
   unfolding highest
-  top-next x next h e q =
-    let split : highest (drop i l) ≡ max x (highest (drop (i + 1) l)) =
-          let k : i < length l = omega arith in rw (drop-cons l i 0 k, e, add-one i) in
+  top-next next h e =
+    let k : i < length (qubitsOf q) = omega arith in
+    let split : highest (drop i (qubitsOf q)) ≡ max (getD (q .at) i 0) (highest (drop (i + 1) (qubitsOf q))) =
+          rw (drop-cons (qubitsOf q) i 0 k, in-array q i k, add-one i) in
     omega arith
 
-  pub top-ends : m ≤ i → top ≡ highest l
+  pub top-ends : m ≤ i → top ≡ highest (qubitsOf q)
   unfolding highest
   top-ends h =
-    let k : length l ≤ i = omega arith in
-    let none : highest (drop i l) ≡ 0 = rw (drop-of-length-le l k) in
+    let k : length (qubitsOf q) ≤ i = omega arith in
+    let none : highest (drop i (qubitsOf q)) ≡ 0 = rw (drop-of-length-le (qubitsOf q) k) in
     omega arith
 
-pub ruleset topping = (needs, top-starts, top-next, top-ends)
+pub ruleset topping = (needs, size-few, top-starts, top-next, top-ends)
 
 -- no entry of a list is above the highest
 entry-low : (l : List ℕ) (i : ℕ) → getD l i 0 ≤ highest l

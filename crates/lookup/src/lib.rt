@@ -8,7 +8,7 @@ ghost use Rattle.step.specs.Steps.{qubitsOf};
 ghost use Rattle.lookup.specs.Entries.{raised, counted, wireAt, kept, built, pushed, tracked, accesses};
 ghost use Rattle.lookup.specs.Plans.{pairsOf, highest, covered, swapCount, entriesTouched, PlansSwaps};
 use limits::{LIST_LENGTH, LOOKUP_LENGTH, MOST_COUNT, MOST_QUBITS, WIRE_COUNT};
-use step::{Qubits, entry_at, size};
+use step::{Qubits, size};
 
 // The swaps of an entry as pairs of wires, in order: the wire that holds the qubit, and the one that it goes to. `touched` is how many entries of the lookup
 // were read and written for them.
@@ -115,7 +115,8 @@ fn highest(list: Qubits) -> u8
     let mut top = 0;
     let mut i = 0;
     while i < m {
-        top = larger(top, entry_at(list, i));
+        let k = i as usize;
+        top = larger(top, list.at[k]);
         i += 1;
     }
     top
@@ -151,8 +152,9 @@ pub fn plan_swaps(n: u8, first: Qubits, later: Qubits) -> Plan
     let mut len = 0u8;
     let mut i = 0u8;
     while i < m {
-        let wire = entry_at(first, i);
-        let holder = track(&mut entries[..], &mut count, entry_at(later, i), wire);
+        let k = i as usize;
+        let wire = first.at[k];
+        let holder = track(&mut entries[..], &mut count, later.at[k], wire);
         let place = len as usize;
         from[place] = holder;
         to[place] = wire;

@@ -143,14 +143,3 @@ module _ (m : ℕ) (l : List ℕ) (k : ℤ) (n i : ℕ) (f : SFits w32 k) (size 
   pub remove-some : (i ≡ 0 → ⊥) → delete (i - 1) (take n l) ≡ remove (position k) (take m l)
   remove-some z = rw (remove-within (take m l) k, ← placed, size, take-again m l)
     (sym (remove-inside i (take m l) (rw placed (within-le (length (take m l)) k)) z))
-
--- the entry of the first m of an array behind i others: none, or where the array has it
-module _ (m : ℕ) (l : List ℕ) (i n : ℕ) (is : n ≡ length (take m l)) where
-  pub behind-none : n ≤ i → 0 ≡ getD (take m l) i 0
-  behind-none h = let k : length (take m l) ≤ i = omega arith in sym (List·getD-eq-default (take m l) 0 k)
-
-  pub behind-index : length l ≡ mostQubits → i < n → i < mostQubits
-  behind-index e h = omega (arith, length-take m l)
-
-  pub behind-some : i < n → getD l i 0 ≡ getD (take m l) i 0
-  behind-some h = sym (getD-take m l i 0 (omega (arith, take-short m l)))

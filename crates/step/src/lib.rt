@@ -2,7 +2,7 @@
 ghost use mathlib.Core.Bool.{cond};
 ghost use mathlib.Core.Path.{_≡_};
 ghost use Prim.Native.Nat.{_≤_, min};
-ghost use lib.ListN.{length, take, getD};
+ghost use lib.ListN.{length, take};
 ghost use Rattle.model.specs.Limits.{mostQubits};
 ghost use Rattle.model.specs.Lists.{qubits, entry, remove, remaining, position, holds};
 ghost use Rattle.records.specs.Fields.{removalsOf};
@@ -117,17 +117,6 @@ pub fn entry(list: Qubits, k: i32) -> u8
     }
     let before = i - 1;
     list.at[before]
-}
-
-// The entry of a list behind i others, 0 where there is none.
-pub fn entry_at(list: Qubits, i: u8) -> u8
-    ensures { λ r. ⌜ r ≡ getD (qubitsOf list) i 0 ⌝ }
-{
-    if size(list) <= i {
-        return 0;
-    }
-    let k = i as usize;
-    list.at[k]
 }
 
 // The entry at a position is taken out of the list that stands in an array: its new length. It is empty where there is no such entry.

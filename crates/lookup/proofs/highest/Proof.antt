@@ -1,7 +1,8 @@
 -- `highest` meets its contract: the highest so far, with what is left of the list, is the highest of all.
-use Prim.Native.Nat.{_-_, max}
+use Prim.Native.Nat.{_-_, _≤_, max}
 use mathlib.Core.Path.{_≡_}
 use lib.ListN.{length, drop}
+use Rattle.model.specs.Limits.{mostQubits}
 use Rattle.step.specs.Steps.{qubitsOf}
 use Rattle.lookup.specs.Plans.{highest}
 use Rattle.lookup.proofs.PlannedSwaps.{topping}
@@ -9,7 +10,8 @@ use Rattle.lookup.proofs.highest.Statement.{statement}
 use Rattle.lookup.proofs.highest.Tie as tie
 
 abbrev Inv-loop : tie.InvT-loop
-Inv-loop list m top₀ i₀ top i = (m ≡ length (qubitsOf list)) × (max top (highest (drop i (qubitsOf list))) ≡ highest (qubitsOf list))
+Inv-loop list m top₀ i₀ top i =
+    (m ≡ length (qubitsOf list)) × (m ≤ mostQubits) × (max top (highest (drop i (qubitsOf list))) ≡ highest (qubitsOf list))
 
 abbrev μ-loop : tie.MeasureT-loop
 μ-loop list m top₀ i₀ top i = m - i
@@ -19,10 +21,11 @@ highest-spec = tie.close (tie.spec
     Inv-loop
     μ-loop
     (λ c κs. search topping)
-    (λ c. (search topping, search topping))
-    (λ c κs. search topping)
+    (λ c. (search topping, search topping, search topping))
+    (λ c. search topping)
+    (λ c. search topping)
     (λ c κs. search topping)
     (λ c. search topping)
     (λ c. search topping)
-    (λ c. (search topping, search topping))
+    (λ c. (search topping, search topping, search topping))
     (λ c. search topping))

@@ -8,7 +8,7 @@ use Rattle.limits.specs.Sizes.{lookupLength}
 use Rattle.model.specs.Limits.{mostQubits, mostWires}
 use Rattle.step.specs.Steps.{qubitsOf}
 use Rattle.lookup.specs.Plans.{covered}
-use Rattle.lookup.proofs.PlannedSwaps.{Planning, plan-starts, plan-next, planning}
+use Rattle.lookup.proofs.PlannedSwaps.{in-array, Planning, plan-starts, plan-next, planning}
 use Rattle.lookup.proofs.plan_swaps.Statement.{statement}
 use Rattle.lookup.proofs.plan_swaps.Tie as tie
 
@@ -34,9 +34,10 @@ plan-swaps-spec = tie.close (tie.spec
     (λ c. (search planning, search planning, search planning, search planning, search planning, search planning, search planning, search planning,
       plan-starts _ _ _ _ _ _ _ _ _ (c .before .before .covered .ensures) (omega arith) refl refl refl refl refl
         (c .before .build .ensures .0) (c .before .build .ensures .1)))
-    (λ c κs. search needs)
     (λ c. search needs)
-    (λ c κs. search needs)
+    (λ c. search planning)
+    (λ c. search needs)
+    (λ c. search planning)
     (λ c κs. search needs)
     (λ c. search needs)
     (λ c. search planning)
@@ -46,11 +47,12 @@ plan-swaps-spec = tie.close (tie.spec
     (λ c. search planning)
     (λ c. search planning)
     (λ c. let tracked = c .before .before in
-      let entered = tracked .before .before .before .before in
-      let in-loop = entered .before in
+      let in-loop = tracked .before .before .before .before .before in
       let inv = in-loop .before .loop .inv in
+      let inside = in-loop .loop-test .taken in
+      let args = in-loop .before .before .before .before .before .before .before .before .before .before .args in
       (search planning, search planning, search planning, search planning, search planning, search planning, search planning, search planning,
-        plan-next _ _ _ _ _ _ _ _ _ _ (inv .0) (inv .1) (inv .2) _ _ _ _ _ _ (inv .8) (in-loop .loop-test .taken) (entered .entry-at .ensures)
-          (tracked .before .entry-at2 .ensures) (tracked .track .ensures .0) (tracked .track .ensures .1 .0) (tracked .track .ensures .1 .1)
-          (c .swap-count .ensures)))
+        plan-next _ _ _ _ _ _ _ _ _ _ (inv .0) (inv .1) (inv .2) _ _ _ _ _ _ (inv .8) inside
+          (in-array (args .t2) _ (omega (arith, inv .0, inside))) (in-array (args .t3) _ (omega (arith, inv .0, inside)))
+          (tracked .track .ensures .0) (tracked .track .ensures .1 .0) (tracked .track .ensures .1 .1) (c .swap-count .ensures)))
     (λ c. (search planning, (search planning, search planning))))
