@@ -8,9 +8,10 @@ use lib.ListN.{length, set, length-set}
 use lib.Seq.{getD-set-same, getD-set-other}
 use Rattle.limits.specs.Sizes.{wireCount, lookupLength}
 use Rattle.model.specs.Limits.{mostWires}
-use Rattle.model.specs.Gates.{exchange}
+use Rattle.model.specs.Meaning.{State}
+use Rattle.model.specs.Gates.{noControls, Gate, swapOf, exchange, renamed, acts}
 use Rattle.model.proofs.BooleanLaws.{byEq}
-use Rattle.model.proofs.GateLaws.{exchange-left, exchange-right, exchange-other, exchange-twice}
+use Rattle.model.proofs.GateLaws.{exchange-left, exchange-right, exchange-other, exchange-twice, fires-none, swapOf-fires}
 use Rattle.lookup.specs.Entries.{wireAt, qubitAt, kept, built, pushed}
 use Rattle.lookup.specs.Plans.{holder, held, Names}
 use Rattle.lookup.proofs.CountedEntries.{kept-length, built-length}
@@ -36,6 +37,19 @@ held-holder : (ps : List (ℕ × ℕ)) (q : ℕ) → held ps (holder ps q) ≡ q
 unfolding holder held
 held-holder [] q = refl
 held-holder (p ∷ ps) q = rw (held-holder ps (exchange (p .0) (p .1) q)) (exchange-twice (p .0) (p .1) q)
+
+-- so `holder` is what gates do: after the swaps, what stood on a qubit's own wire stands on the wire that holds it
+unfoldable pub swapped : List (ℕ × ℕ) → List Gate
+swapped [] = []
+swapped (p ∷ ps) = swapOf noControls (p .0) (p .1) ∷ swapped ps
+
+pub holder-holds : (ps : List (ℕ × ℕ)) (s : State) (q : ℕ) → acts (swapped ps) s (holder ps q) ≡ s q
+unfolding holder acts renamed swapped
+holder-holds [] s q = refl
+holder-holds (p ∷ ps) s q =
+    let to = exchange (p .0) (p .1) q in
+    ap (λ (t : State). acts (swapped ps) t (holder ps to)) (swapOf-fires noControls (p .0) (p .1) s (fires-none s))
+      ∙ (holder-holds ps (renamed (exchange (p .0) (p .1)) s) to ∙ ap s (exchange-twice (p .0) (p .1) q))
 
 -- swaps of wires that are covered leave the qubits on wires that are covered
 pub record Inside (last : ℕ) (ps : List (ℕ × ℕ)) : Type 0 where

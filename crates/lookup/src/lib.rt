@@ -3,7 +3,6 @@
 ghost use mathlib.Core.Path.{_≡_};
 ghost use Prim.Native.Nat.{_+_, _*_, _≤_, min, max};
 ghost use lib.ListN.{length, getD, set};
-ghost use Rattle.model.specs.Emission.{swaps};
 ghost use Rattle.step.specs.Steps.{qubitsOf};
 ghost use Rattle.lookup.specs.Entries.{raised, counted, wireAt, kept, built, pushed, tracked, accesses};
 ghost use Rattle.lookup.specs.Plans.{pairsOf, highest, covered, swapCount, entriesTouched, PlansSwaps};
