@@ -1,4 +1,5 @@
-// "Emission" in code: one walk over the table places the gates.
+// "Emission" in code: one walk over the table places the gates. The walkers hand n, the number of data wires, down to the lookup of swaps, which covers them all;
+// no gate depends on it.
 ghost use mathlib.Core.Path.{_≡_};
 ghost use Prim.Native.Nat.{_+_, min};
 ghost use lib.ListN.{length};
