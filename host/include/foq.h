@@ -58,7 +58,7 @@
  *
  *     foq_verdict       30 KiB
  *     foq_run          284 KiB
- *     foq_compile      378 KiB
+ *     foq_compile      376 KiB
  *     foq_circuit_read   1 KiB
  *     foq_circuit_run    1 KiB
  *     foq_page_band      6 KiB
