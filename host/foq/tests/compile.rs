@@ -16,7 +16,9 @@ mod words;
 use compiled::{assert_read_back, compile_of_both, end_alike};
 use counts::{assert_reached, count, Counts};
 use foq_generator::damage::damaged;
-use foq_generator::emissions::{deepest_emission, filled, merged_lists, ring, FILLED_NEXT};
+use foq_generator::emissions::{
+    deepest_emission, filled, merged_lists, ring, slowest_compile, FILLED_NEXT, SLOWEST_QUBITS,
+};
 use foq_generator::programs::{program, wild_program, Shape, LARGE, MERGING, SMALL};
 use foq_generator::published::{chained_substring, full_adder, palindromes};
 use foq_generator::tables::{
@@ -601,6 +603,31 @@ fn circuits_at_the_limits_end_as_runs_do() {
         both.run_circuit(&table, n, words, &mut counts);
     }
     assert_reached(&counts, &[("accepted", 10), ("changes a word", 7)]);
+}
+
+#[test]
+fn the_slowest_table_compiles_alike_on_few_qubits() {
+    let mut both = Both::new();
+    let mut random = Random::from_seed(92);
+    let mut counts = Counts::new();
+    let table = slowest_compile();
+    for n in 10..=17 {
+        let words = sampled(&mut random, n, 30);
+        both.run_circuit(&table, n, words, &mut counts);
+    }
+    let least = [("refused", 1), ("accepted", 7), ("calls inside calls", 7)];
+    assert_reached(&counts, &least);
+}
+
+/// The second interpreter alone: compile would take seconds.
+#[test]
+fn the_slowest_table_fills_the_longest_room() {
+    let length = |n| {
+        let circuit = compile(&slowest_compile(), n, LONGEST_CIRCUIT, SHORTEST_WORKSPACE);
+        circuit.map(|circuit| circuit.len())
+    };
+    assert_eq!(length(SLOWEST_QUBITS), Ok(65_515));
+    assert_eq!(length(SLOWEST_QUBITS + 1), Err(23));
 }
 
 /// The word that a circuit ends with.

@@ -1,8 +1,10 @@
-//! Tables whose emission is at a limit: long, wide or deep, or mostly swaps.
+//! Tables whose emission is at a limit: long, wide, deep or slow, or mostly
+//! swaps.
 
 use crate::tables::{leaning_right, nested_bodies, MOST_PROCEDURES};
 use crate::tree::{
-    call, case, choose, in_order, longer_than, not, procedure, table, Condition, Number, Statement,
+    call, case, choose, in_order, longer_than, not, procedure, qcase, sequence, table, Condition,
+    Number, Statement,
 };
 use Number::{Constant, SizePlus};
 
@@ -139,4 +141,54 @@ pub fn deepest_emission(n: i16) -> Vec<u8> {
     let lane = |own: &Statement| choose(back.clone(), call(first, &[1]), own.clone());
     bodies.extend(lanes.iter().skip(1).map(lane));
     table(main, &bodies)
+}
+
+/// The number of qubits for [`slowest_compile`].
+pub const SLOWEST_QUBITS: u32 = 29;
+/// The qcases of [`slow_body`], each of which closes a qubit of its own.
+const SLOW_CASES: i16 = 11;
+/// The sequences of [`slow_body`].
+const SLOW_SEQUENCES: usize = 13;
+
+/// The slowest table for compile that is known, on 29 qubits: 255 records, and a
+/// circuit of 65,515 bytes. Procedure 4 has a slow body, and its chain places no
+/// gates but the two flips, in eight bytes, so that 6,650 such chains fit. For
+/// that procedures 1 to 3 are nested classes: each goes on to itself without
+/// position 12, as long as its list has one, and the third calls procedure 4
+/// five times. On 11 to 28 qubits there are fewer chains, on 30 and more the
+/// room is too short.
+#[must_use]
+pub fn slowest_compile() -> Vec<u8> {
+    let and_again = |inner, own| sequence(inner, call(own, &[SLOW_CASES + 1]));
+    let bodies = [
+        and_again(call(2, &[]), 1),
+        and_again(call(3, &[]), 2),
+        and_again(in_order(vec![call(4, &[]); 5]), 3),
+        slow_body(4),
+    ];
+    table(call(1, &[]), &bodies)
+}
+
+/// A body whose parts are slow to find, and which emits nothing. For each of
+/// its two parts every sequence asks for the width of its first statement, that
+/// is, of all that is below it; and for the right part every qcase counts the
+/// calls of its zero branch, for which the sequences below ask again. So the
+/// width of 180 records with eight removals each is found (11 + 2) × 13 times.
+/// They stand in branches that no if chooses, so that they touch nothing. The
+/// self call empties its list.
+fn slow_body(own: u8) -> Statement {
+    let unchosen = |rest, levels| choose(longer_than(0), rest, full_of_removals(levels));
+    let ifs = [3, 4, 5, 7].into_iter().fold(call(own, &[0]), unchosen);
+    let sequences = (0..SLOW_SEQUENCES).fold(ifs, |rest, _| sequence(rest, Statement::Skip));
+    let within = |rest, position| case(position, rest, Statement::Skip);
+    (1..=SLOW_CASES).fold(sequences, within)
+}
+
+/// A full tree of qcases that ends with NOTs, all with eight removals: 2^levels
+/// − 1 records.
+fn full_of_removals(levels: usize) -> Statement {
+    let removed = vec![Constant(1); 8];
+    let end = Statement::Not(removed.clone(), Constant(1));
+    let both = |half: Statement, _| qcase(removed.clone(), Constant(1), half.clone(), half);
+    (1..levels).fold(end, both)
 }
