@@ -1,9 +1,9 @@
 //! Compile of a table, and what of it is the emission.
 
 use crate::rows::{print_rest, print_row, title, used};
-use crate::timing::rounds;
+use crate::timing::{rounds, slow_rounds};
 use foq::{LEAST_WORKSPACE, MOST_CIRCUIT};
-use foq_generator::emissions::{filled, merged_lists};
+use foq_generator::emissions::{filled, merged_lists, slowest_compile, SLOWEST_QUBITS};
 use foq_generator::size_left::{reversal, reversal_by_hand};
 use foq_generator::tables::nested_classes;
 use foq_generator::tree::Statement;
@@ -11,7 +11,7 @@ use foq_generator::PAIRS;
 use foq_reference::{LONGEST_CIRCUIT, SHORTEST_WORKSPACE};
 use std::hint::black_box;
 
-/// All are compiled on 32 qubits.
+/// All but the slowest are compiled on 32 qubits.
 const N: u32 = 32;
 
 /// Tables and their names. The last one's emission would be astronomical, and
@@ -72,6 +72,28 @@ fn print_case(name: &str, table: &[u8], room: &mut [u8], workspace: &mut [u8]) {
     print_rest(&title(" emission"), &rounds, [2, 3], [0, 1]);
 }
 
+/// The slowest table takes seconds, so that few calls are timed. Asserts with
+/// them that both give the same circuit or refusal.
+fn print_slowest(room: &mut [u8], workspace: &mut [u8]) {
+    let table = slowest_compile();
+    let table = || black_box(table.as_slice());
+    let n = || black_box(SLOWEST_QUBITS);
+    let (mut product, mut second) = (Err(0), Err(0));
+    let rounds = slow_rounds([
+        &mut || {
+            let circuit = foq::compile(table(), n(), room, workspace);
+            product = circuit.map(<[u8]>::to_vec).map_err(foq::Refusal::number);
+        },
+        &mut || {
+            second = foq_reference::compile(table(), n(), LONGEST_CIRCUIT, SHORTEST_WORKSPACE);
+        },
+    ]);
+    assert!(product == second);
+    let bytes = product.map_or(0, |circuit| circuit.len());
+    let title = title("compile", "slowest known", SLOWEST_QUBITS, bytes);
+    print_row(&title, &rounds, [0, 1]);
+}
+
 /// Prints the rows of every case. The bytes are the circuit's.
 pub fn print() {
     let room = &mut vec![0; MOST_CIRCUIT];
@@ -79,4 +101,5 @@ pub fn print() {
     for (name, table) in cases() {
         print_case(name, &table, room, workspace);
     }
+    print_slowest(room, workspace);
 }

@@ -217,7 +217,7 @@ fn print_circuit(case: &CircuitCase) {
 
 fn main() {
     println!(
-        "{:34}{:>3}{:>7}{:>10}{:>10}{:>7}",
+        "{:34}{:>3}{:>7}{:>12}{:>12}{:>7}",
         "", "n", "bytes", "product", "second", "ratio"
     );
     print_tables();

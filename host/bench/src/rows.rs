@@ -13,7 +13,7 @@ pub fn print_row<const CALLS: usize>(
     let product = median(rounds, |round| round[ours]);
     let second = median(rounds, |round| round[theirs]);
     let ratio = median(rounds, |round| round[ours] / round[theirs]);
-    println!("{title:44}{product:10.2}{second:10.2}{ratio:7.2}");
+    println!("{title:44}{product:12.2}{second:12.2}{ratio:7.2}");
 }
 
 /// Prints the medians of what one pair of calls takes longer than another.
@@ -25,7 +25,7 @@ pub fn print_rest<const CALLS: usize>(
 ) {
     let [product, second] =
         [0, 1].map(|side| median(rounds, |round| round[whole[side]] - round[part[side]]));
-    println!("{title:44}{product:10.2}{second:10.2}");
+    println!("{title:44}{product:12.2}{second:12.2}");
 }
 
 /// Prints how many megabytes a second both give, at so many bytes a call.
@@ -36,7 +36,7 @@ pub fn print_rates<const CALLS: usize>(
     bytes: usize,
 ) {
     let [product, second] = calls.map(|call| bytes as f64 / median(rounds, |round| round[call]));
-    println!("{title:44}{product:10.0}{second:10.0}");
+    println!("{title:44}{product:12.0}{second:12.0}");
 }
 
 /// What was timed, of which input, on how many qubits, and the bytes of the

@@ -6,6 +6,8 @@ use std::time::{Duration, Instant};
 const ROUNDS: usize = 101;
 /// About how long each call is repeated in a round.
 const TURN: Duration = Duration::from_millis(1);
+/// How long rounds of slow calls go on beginning.
+const LONG: Duration = Duration::from_secs(5);
 
 /// The microseconds of each call in one round.
 pub type Round<const CALLS: usize> = [f64; CALLS];
@@ -37,6 +39,22 @@ pub fn rounds<const CALLS: usize>(calls: [&mut dyn FnMut(); CALLS]) -> Vec<Round
             .map(|(times, call)| 1e6 * time(*times, call).as_secs_f64() / f64::from(*times))
     };
     (0..ROUNDS).map(|_| round()).collect()
+}
+
+/// The same for calls that may take seconds: each is made once in a round, and
+/// there are as many rounds as begin within five seconds.
+pub fn slow_rounds<const CALLS: usize>(mut calls: [&mut dyn FnMut(); CALLS]) -> Vec<Round<CALLS>> {
+    let start = Instant::now();
+    let mut round = || {
+        calls
+            .each_mut()
+            .map(|call| 1e6 * time(1, *call).as_secs_f64())
+    };
+    let mut rounds = vec![round()];
+    while start.elapsed() < LONG {
+        rounds.push(round());
+    }
+    rounds
 }
 
 /// The median of a number that each round has.
