@@ -294,8 +294,8 @@ foq_answer foq_run(const uint8_t *table, size_t length, uint32_t n,
  *
  * The emission of a hostile table could be astronomical, but a call ends at the
  * first step that does not fit. Where it was measured, PAIRS on 32 qubits took a
- * twentieth of a millisecond and the slowest table that is known three seconds:
- * a host that takes tables from strangers compiles them where it can stop them.
+ * fortieth of a millisecond and the slowest table that is known seven seconds: a
+ * host that takes tables from strangers compiles them where it can stop them.
  */
 foq_answer foq_compile(const uint8_t *table, size_t length, uint32_t n,
                        uint8_t *room, size_t room_length, uint8_t *workspace,
