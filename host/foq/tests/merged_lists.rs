@@ -14,7 +14,7 @@ mod steps;
 mod words;
 
 use compiled::{assert_read_back, compile_of_both, end_alike};
-use counts::{add, assert_reached, count, Counts};
+use counts::{add, assert_reached, count, halves, Counts};
 use foq_generator::emissions::{merged_lists, spread};
 use foq_generator::merged_lists::program_of_merged_lists;
 use foq_generator::tree::{case, choose, encode, longer_than, not, procedure, Number, Statement};
@@ -27,7 +27,6 @@ use later_calls::{later_calls, LaterCall, Swap};
 use lent::Workspace;
 use room::Room;
 use std::collections::BTreeMap;
-use std::thread;
 use words::{every_word, sampled};
 use Number::{Constant, LeftPlus, SizePlus};
 
@@ -409,12 +408,9 @@ fn compare_tables(seed: u64, tables: usize) -> Seen {
 #[test]
 fn random_tables_swap_alike() {
     let mut seen = Seen::default();
-    thread::scope(|scope| {
-        let halves = [111, 112].map(|seed| scope.spawn(move || compare_tables(seed, 5_000)));
-        for half in halves {
-            seen.add(half.join().unwrap());
-        }
-    });
+    for half in halves([111, 112], |seed| compare_tables(seed, 5_000)) {
+        seen.add(half);
+    }
     seen.assert_enough();
 }
 

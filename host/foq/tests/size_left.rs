@@ -15,7 +15,7 @@ mod words;
 
 use asked::{run_of_both, verdict_of_both};
 use compiled::{assert_read_back, compile_of_both, end_alike};
-use counts::{add, assert_reached, count, Counts};
+use counts::{add, assert_reached, count, halves, Counts};
 use foq::border::Answer;
 use foq_generator::damage::damaged;
 use foq_generator::numbers::{each_number, Field};
@@ -31,7 +31,6 @@ use foq_reference::{compile, plain_verdict, LONGEST_CIRCUIT, SHORTEST_WORKSPACE}
 use lent::{Workspace, LENGTHS};
 use limits::CONSTANTS;
 use room::Room;
-use std::thread;
 use words::{every_word, sampled};
 use Number::{Constant, LeftPlus, SizePlus};
 
@@ -545,11 +544,8 @@ fn compare_tables(seed: u64, tables: usize) -> Seen {
 #[test]
 fn random_tables_are_answered_alike() {
     let mut seen = Seen::default();
-    thread::scope(|scope| {
-        let halves = [102, 103].map(|seed| scope.spawn(move || compare_tables(seed, 25_000)));
-        for half in halves {
-            seen.add(half.join().unwrap());
-        }
-    });
+    for half in halves([102, 103], |seed| compare_tables(seed, 25_000)) {
+        seen.add(half);
+    }
     seen.assert_enough();
 }

@@ -5,6 +5,7 @@
 
 use std::collections::BTreeMap;
 use std::fmt::Debug;
+use std::thread;
 
 /// How many inputs show each class.
 pub type Counts<Class = &'static str> = BTreeMap<Class, usize>;
@@ -28,4 +29,14 @@ pub fn assert_reached<Class: Ord + Debug>(counts: &Counts<Class>, least: &[(Clas
         let count = counts.get(class).copied().unwrap_or(0);
         assert!(count >= *least, "{class:?}: {count} of {least}");
     }
+}
+
+/// What two threads see, each from a seed of its own.
+pub fn halves<Seen: Send>(seeds: [u64; 2], see: impl Fn(u64) -> Seen + Sync) -> [Seen; 2] {
+    let see = &see;
+    thread::scope(|scope| {
+        seeds
+            .map(|seed| scope.spawn(move || see(seed)))
+            .map(|half| half.join().unwrap())
+    })
 }
