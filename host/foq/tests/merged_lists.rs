@@ -13,43 +13,19 @@ mod room;
 mod steps;
 mod words;
 
-use compiled::{assert_read_back, compile_of_both, end_alike};
+use compiled::{assert_read_back, end_alike, Both};
 use counts::{add, assert_reached, count, halves, Counts};
 use foq_generator::emissions::{merged_lists, spread};
 use foq_generator::merged_lists::program_of_merged_lists;
 use foq_generator::tree::{case, choose, encode, longer_than, not, procedure, Number, Statement};
 use foq_generator::Random;
-use foq_reference::{
-    circuit_bytes, read_circuit, read_table, Action, Control, Gate, LONGEST_CIRCUIT,
-    SHORTEST_WORKSPACE,
-};
+use foq_reference::{circuit_bytes, read_circuit, read_table, Action, Control, Gate};
 use later_calls::{later_calls, LaterCall, Swap};
-use lent::Workspace;
-use room::Room;
 use std::collections::BTreeMap;
 use words::{every_word, sampled};
 use Number::{Constant, LeftPlus, SizePlus};
 
-/// Asks the product and the second interpreter, with workspaces that are just
-/// long enough and a room that always is.
-struct Both {
-    workspace: Workspace,
-    room: Room,
-}
-
 impl Both {
-    fn new() -> Both {
-        Both {
-            workspace: Workspace::up_to(SHORTEST_WORKSPACE),
-            room: Room::up_to(LONGEST_CIRCUIT),
-        }
-    }
-
-    fn circuit(&mut self, table: &[u8], n: u32) -> Result<Vec<u8>, u32> {
-        let lent = (&mut self.room, &mut self.workspace);
-        compile_of_both(lent, table, n, (LONGEST_CIRCUIT, SHORTEST_WORKSPACE))
-    }
-
     /// The swaps of an accepted table, entry by entry, which are those that its
     /// lists ask for. Its circuit ends as it does, from some words.
     fn entries(&mut self, table: &[u8], n: u32) -> Vec<Entry> {

@@ -14,7 +14,7 @@ mod steps;
 mod words;
 
 use asked::{run_of_both, verdict_of_both};
-use compiled::{assert_read_back, compile_of_both, end_alike};
+use compiled::{assert_read_back, end_alike, Both};
 use counts::{add, assert_reached, count, halves, Counts};
 use foq::border::Answer;
 use foq_generator::damage::damaged;
@@ -28,38 +28,18 @@ use foq_generator::tree::{
 };
 use foq_generator::Random;
 use foq_reference::{compile, plain_verdict, LONGEST_CIRCUIT, SHORTEST_WORKSPACE};
-use lent::{Workspace, LENGTHS};
+use lent::LENGTHS;
 use limits::CONSTANTS;
-use room::Room;
 use words::{every_word, sampled};
 use Number::{Constant, LeftPlus, SizePlus};
 
-/// Asks the product and the second interpreter, with workspaces that are just
-/// long enough and a room that always is.
-struct Both {
-    workspace: Workspace,
-    room: Room,
-}
-
 impl Both {
-    fn new() -> Both {
-        Both {
-            workspace: Workspace::up_to(40_000),
-            room: Room::up_to(LONGEST_CIRCUIT),
-        }
-    }
-
     fn verdict(&mut self, table: &[u8], n: u32) -> u32 {
         verdict_of_both(&mut self.workspace, table, n, SHORTEST_WORKSPACE)
     }
 
     fn run(&mut self, table: &[u8], n: u32, word: u64) -> Answer {
         run_of_both(&mut self.workspace, table, n, word, SHORTEST_WORKSPACE)
-    }
-
-    fn circuit(&mut self, table: &[u8], n: u32) -> Result<Vec<u8>, u32> {
-        let lent = (&mut self.room, &mut self.workspace);
-        compile_of_both(lent, table, n, (LONGEST_CIRCUIT, SHORTEST_WORKSPACE))
     }
 
     /// The qubit that a main statement flips on n qubits, all of them 0 at the

@@ -2,6 +2,9 @@
 //! circuit does. Room and workspace are lent dirty: the workspace must come back
 //! as zeros, the room with the circuit in front and its rest as it was.
 
+// Each test uses a part of this.
+#![allow(dead_code)]
+
 use crate::counts::Counts;
 use crate::lent::Workspace;
 use crate::room::Room;
@@ -34,6 +37,27 @@ pub fn compile_of_both(
         );
     });
     expected
+}
+
+/// Asks both, with workspaces that are just long enough and a room that always
+/// is.
+pub struct Both {
+    pub workspace: Workspace,
+    pub room: Room,
+}
+
+impl Both {
+    pub fn new() -> Both {
+        Both {
+            workspace: Workspace::up_to(40_000),
+            room: Room::up_to(LONGEST_CIRCUIT),
+        }
+    }
+
+    pub fn circuit(&mut self, table: &[u8], n: u32) -> Result<Vec<u8>, u32> {
+        let lent = (&mut self.room, &mut self.workspace);
+        compile_of_both(lent, table, n, (LONGEST_CIRCUIT, SHORTEST_WORKSPACE))
+    }
 }
 
 /// Runs an accepted table and its circuit from each word: the data wires hold
