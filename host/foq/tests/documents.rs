@@ -173,3 +173,12 @@ fn every_edit_is_cited() {
     }
     assert!(edits.len() > 60, "only {} edits", edits.len());
 }
+
+/// S-3 counts the entries of the lookup in the functions that read and write one: no other function has an index into them.
+#[test]
+fn entries_of_the_lookup_are_touched_where_they_are_counted() {
+    let code = read(repository().join("crates/lookup/src/lib.rt"));
+    let indexed = |function: &&str| function.matches("entries[").count() > function.matches("entries[..]").count();
+    let touching: Vec<&str> = code.split("fn ").filter(indexed).map(|function| function.split('(').next().unwrap()).collect();
+    assert_eq!(touching, ["read", "write"]);
+}
