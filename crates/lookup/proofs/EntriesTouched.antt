@@ -28,7 +28,8 @@ swaps-few e (k ∷ ks) (w ∷ ws) = byBool (eqb w k)
     (λ q. let t = swaps-few e ks ws in rw (q, swaps) (omega arith))
     (λ q. let t = swaps-few e ks (map (exchange w k) ws) in let same = length-map ws (exchange w k) in rw (q, swaps) (omega arith))
 
--- a table's lists are such lists: main's, by `ListLaws.qubits-data`, and what removals leave of them, by `ListLaws.data-remaining`
+-- a table's lists are such lists: main's, by `ListLaws.qubits-data`, and what removals leave of them, by `ListLaws.data-remaining`; that they are those of every merged
+-- call is `InvocationsOfABody.invocations-new` in crate agreement
 module _ (n : ℕ) (first later : List ℕ) (df : Data n first) (dl : Data n later) where
   pub covered-all : covered n first later ≡ n
   covered-all = omega (arith, highest-data n first df, highest-data n later dl)
