@@ -139,13 +139,14 @@ pub fn flip_length(controls: ControlLists) -> usize
     2 + controls_length(controls) as usize
 }
 
-fn lower(a: u8, b: u8) -> u8
+// The lower of two wires, and the higher.
+pub fn lower(a: u8, b: u8) -> u8
     ensures { λ r. ⌜ r ≡ min a b ⌝ }
 {
     if a < b { a } else { b }
 }
 
-fn higher(a: u8, b: u8) -> u8
+pub fn higher(a: u8, b: u8) -> u8
     ensures { λ r. ⌜ r ≡ max a b ⌝ }
 {
     if a < b { b } else { a }

@@ -1,6 +1,6 @@
 // Document 02, S-1: the marks of the gates of one band, a column for each gate and in it a byte for each number of a wire. Each gate is decoded once.
 ghost use mathlib.Core.Path.{_≡_};
-ghost use Prim.Native.Nat.{_+_, _*_, min, max};
+ghost use Prim.Native.Nat.{_+_, _*_};
 ghost use lib.ListN.{set};
 ghost use Rattle.limits.specs.Sizes.{wireCount};
 ghost use Rattle.model.specs.Gates.{noControls, targets};
@@ -9,6 +9,7 @@ ghost use Rattle.model.specs.Page.{bandGates, bar};
 ghost use Rattle.circuit.specs.GatesInBytes.{part, inputAt, gateWith, gateIn, controlsIn};
 ghost use Rattle.marks.specs.Columns.{spanFrom, spanOf, inside, markAll, markControls, markGate, markFrom, bandedIn};
 use circuit::{GateAt, GateRead, read_gate};
+use circuit::write::{higher, lower};
 use limits::{BAND_GATES, WIRE_COUNT};
 
 // The outermost of some wires.
@@ -26,24 +27,6 @@ pub struct BandEnd {
 pub enum BandRead {
     Gates(BandEnd),
     NoBand,
-}
-
-fn lower(a: u8, b: u8) -> u8
-    ensures { λ r. ⌜ r ≡ min a b ⌝ }
-{
-    if b < a {
-        return b;
-    }
-    a
-}
-
-fn higher(a: u8, b: u8) -> u8
-    ensures { λ r. ⌜ r ≡ max a b ⌝ }
-{
-    if a < b {
-        return b;
-    }
-    a
 }
 
 // The outermost of two wires and `count` wires from a place on.
