@@ -14,7 +14,7 @@ use Rattle.model.proofs.PageShape.{number-length}
 use Rattle.model.proofs.PageBands.{place-end, place-left}
 use Rattle.circuit.specs.GatesInBytes.{inputAt}
 use Rattle.text.specs.AppendedBytes.{written, puts}
-use Rattle.text.proofs.AppendLaws.{puts-whole}
+use Rattle.text.proofs.AppendLaws.{puts-front}
 use Rattle.bands.specs.MarkedRows.{marksAt, rowAt, rowsAt}
 
 -- The length of a band.
@@ -57,17 +57,19 @@ module _ (marks text : List ℕ) (count most size : ℕ) (few : most < 2 ^ 8) (i
       let e : size ≡ length (rowsAt marks count most 1) = size-is marks count most size few is in
       rw (lt-leb (length (rowsAt marks count most 1)) (length text) (omega arith), lentAfter)
 
-  module _ (h : size ≤ length text) (end : List ℕ) (last : ℕ) (p : written end last ≡ puts (rowsAt marks count most 1) text 0) where
+  module _ (h : size ≤ length text) (short : length text < 2 ^ 64) (end : List ℕ) (last : ℕ)
+      (p : written end last ≡ puts (rowsAt marks count most 1) text 0) where
     fits : length (rowsAt marks count most 1) ≤ length text
     fits = rw (← size-is marks count most size few is) h
 
+    front : (last ≡ length (rowsAt marks count most 1)) × (end ≡ rowsAt marks count most 1 ++ drop last text)
+    front = puts-front (rowsAt marks count most 1) text end last fits (omega arith) p
+
     pub long-size : last ≡ length (rowsAt marks count most 1)
-    long-size = cc (p, puts-whole (rowsAt marks count most 1) text fits)
+    long-size = front .0
 
     pub long-taken : end ≡ lentAfter (rowsAt marks count most 1) text
-    long-taken =
-        rw (le-leb (length (rowsAt marks count most 1)) (length text) fits, lentAfter)
-        (cc (p, puts-whole (rowsAt marks count most 1) text fits))
+    long-taken = rw (le-leb (length (rowsAt marks count most 1)) (length text) fits, lentAfter, ← long-size) (front .1)
 
 pub ruleset banding = (needs, length-fits, size-is, short-kept, long-size, long-taken)
 

@@ -3,6 +3,7 @@ ghost use mathlib.Core.Path.{_≡_};
 ghost use lib.ListN.{length};
 ghost use Rattle.model.specs.Answers.{circuitRead, circuitRun, roomAfter, workspaceAfter};
 ghost use Rattle.model.specs.Answers as model;
+ghost use Rattle.model.specs.Listing.{circuitList};
 ghost use Rattle.model.specs.Page.{pageBand, textAfter};
 ghost use Rattle.answers.specs.Structs.{answerOf, lengthAnswer, headerOf, blockAnswer, bandAnswer, Delivered};
 use answers::{Answer, CircuitBlock, CircuitHeader, PageBand};
@@ -58,6 +59,15 @@ pub extern "C" fn foq_circuit_run(bytes: &[u8], word: u64) -> CircuitBlock
     ensures { λ r. ⌜ r ≡ blockAnswer (circuitRun (now (bytes .entry)) word) ⌝ }
 {
     circuit_run::run_circuit(bytes, word)
+}
+
+// A circuit's listing: its length, or the refusal's number and 0. The text takes the whole listing, or nothing where it is too short for it.
+#[no_mangle]
+pub extern "C" fn foq_circuit_list(circuit: &[u8], text: &mut [u8]) -> Answer
+    ensures { λ r. ⌜ r ≡ lengthAnswer (circuitList (now (circuit .entry)) (length (now (text .entry)))) ⌝ }
+    ensures { λ r. ⌜ now (text .exit) ≡ roomAfter (circuitList (now (circuit .entry)) (length (now (text .entry)))) (now (text .entry)) ⌝ }
+{
+    lines::list_circuit(circuit, text)
 }
 
 // One band of a circuit's page: its length and the place of the next band, or the refusal's number and zeros. Place 0 asks for the first band. The text

@@ -3,7 +3,7 @@ ghost use mathlib.Core.Path.{_≡_};
 ghost use mathlib.Core.List.{[], _∷_};
 ghost use Rattle.model.specs.Limits.{
   tableEdition, mostProcedures, mostRecords, mostDepth, mostRemovals, mostQubits, mostWires, circuitEdition, headerLength, mostCircuit,
-  mostBand, blockLength, leastWorkspace,
+  mostBand, mostListing, blockLength, leastWorkspace,
 };
 ghost use Rattle.model.specs.Limits.{
   tableStops, wrongEdition, manyProcedures, wrongKind, wrongMap, wrongField, tooDeep, bytesLeft, wrongQubits, noRemoval, tooWide,
@@ -146,6 +146,11 @@ pub const SLOT_LENGTH: usize = 2 + LIST_LENGTH;
 // The calls of a body are counted in 16 bits, and no further.
 pub const MOST_CALLS: u16 = 65535;
 
+// No listing has more bytes than this for each byte of its circuit, so a text of MOST_LISTING bytes is long enough for every listing.
+pub const LISTING_FACTOR: usize = 6;
+
+pub const MOST_LISTING: usize = LISTING_FACTOR * MOST_CIRCUIT;
+
 // "nineteen gates fill a line of 80"
 pub const BAND_GATES: u8 = 19;
 
@@ -206,9 +211,9 @@ fn sizes() -> [usize; 14]
     ]
 }
 
-// Each number of a page is the definition's, or follows from it.
-fn page_sizes() -> [usize; 5]
-    ensures { λ r. ⌜ r ≡ bandGates ∷ lineColumns ∷ mostBand ∷ wireCount ∷ marksLength ∷ [] ⌝ }
+// Each number of a listing or a page is the definition's, or follows from it.
+fn text_sizes() -> [usize; 6]
+    ensures { λ r. ⌜ r ≡ mostListing ∷ bandGates ∷ lineColumns ∷ mostBand ∷ wireCount ∷ marksLength ∷ [] ⌝ }
 {
-    [BAND_GATES as usize, LINE_COLUMNS, MOST_BAND, WIRE_COUNT, MARKS_LENGTH]
+    [MOST_LISTING, BAND_GATES as usize, LINE_COLUMNS, MOST_BAND, WIRE_COUNT, MARKS_LENGTH]
 }

@@ -1,4 +1,4 @@
--- The listing of a circuit: what the loop over its gates keeps, and the ways out of `list_circuit`.
+-- The listing of a circuit: what the loop over its gates keeps, and what `put_listing` leaves.
 use mathlib.Core.Path.{_≡_, refl, ap}
 use mathlib.Core.List.{List, [], _∷_, _++_}
 use Prim.Native.Nat.{ℕ, zero, suc, _+_, _-_, _≤_, _<_}
@@ -12,8 +12,8 @@ use Rattle.model.specs.Limits.{notWellFormed, mostWires, headerLength}
 use Rattle.model.specs.Reading.{Input, Parsed, parsed, refused}
 use Rattle.model.specs.Gates.{Gate}
 use Rattle.model.specs.Circuit.{Circuit, readGate, encodeAll, write}
-use Rattle.model.specs.Answers.{Outcome, gives, refuses, circuitRead}
-use Rattle.model.specs.Listing.{gateLine, gateLines, firstLine, refusalLine, listed}
+use Rattle.model.specs.Answers.{gives, circuitRead}
+use Rattle.model.specs.Listing.{gateLine, gateLines, size, firstLine, listed}
 use Rattle.model.proofs.RoundTrip.{AllWellFormed, left, read-encode, write-gates, write-circuitRead}
 use Rattle.circuit.specs.GatesInBytes.{inputAt, settled, gateIn, gateParsed}
 use Rattle.answers.specs.Structs.{headerOf}
@@ -76,47 +76,38 @@ lines-are most k (g ∷ gs) ok =
 gates-after : (bs : List ℕ) (c : Circuit) → write c ≡ bs → inputAt bs headerLength ≡ left (encodeAll (c .gates)) 0
 gates-after bs c e = rw (← e, write-gates c)
 
--- the ways out of `list_circuit`
-module _ (bs : List ℕ) (h : CircuitHeader) (is : h ≡ headerOf (circuitRead bs)) where
-  pub list-refused : (h .number ≡ 0 → ⊥) → (text end : List ℕ) (at last : ℕ) →
-      written end last ≡ puts (refusalLine (h .number)) text at → written end last ≡ puts (listed (circuitRead bs)) text at
+-- what `put_listing` leaves, of a circuit whose header was read
+module _ (bs : List ℕ) (h : CircuitHeader) (is : h ≡ headerOf (circuitRead bs)) (z : h .number ≡ 0) where
+  few-wires : h .qubits + h .ancillas ≤ mostWires
+  unfolding headerOf
+  few-wires =
+      let r = read-gives bs h is z in
+      let e : h ≡ headerOf (gives (r .0)) = rw (r .1) at is in
+      let w = write-circuitRead bs (r .1) .0 .few-wires in
+      rw e w
+
+  pub list-sum : Fits w32 (h .qubits + h .ancillas)
+  list-sum = record { fits = omega (arith, few-wires) }
+
+  pub list-most : Fits w8 (h .qubits + h .ancillas)
+  list-most = record { fits = omega (arith, few-wires) }
+
+  pub list-whole : ((i : ℕ) → Fits w8 (getD bs i 0)) → (size : ℕ) → size ≡ h .gates + h .qubits + h .ancillas →
+      (text one end : List ℕ) (at first last : ℕ) →
+      written one first ≡ puts (firstLine (h .qubits) (h .ancillas) size) text at →
+      written end last ≡ puts (linesRead (h .qubits + h .ancillas) 1 (h .gates) (inputAt bs headerLength)) one first →
+      written end last ≡ puts (listed (circuitRead bs)) text at
   unfolding headerOf listed
-  list-refused f text end at last p = go (circuitRead bs) is
-    where
-      go : (o : Outcome Circuit) → h ≡ headerOf o → written end last ≡ puts (listed o) text at
-      go (gives c) e = absurd (f (ap (λ (y : CircuitHeader). y .number) e))
-      go (refuses k) e = let n : h .number ≡ k = ap (λ (y : CircuitHeader). y .number) e in rw (← n) p
+  list-whole ok n counted text one end at first last p q =
+      let r = read-gives bs h is z in
+      let c : Circuit = r .0 in
+      let e : h ≡ headerOf (gives c) = rw (r .1) at is in
+      let w = write-circuitRead bs (r .1) in
+      let gates : List ℕ = gateLines 1 (c .gates) in
+      let same : linesRead (c .dataWires + c .ancillas) 1 (length (c .gates)) (inputAt bs headerLength) ≡ gates =
+          rw (gates-after bs c (w .1 (λ i. ok i .fits))) (lines-are (c .dataWires + c .ancillas) 1 (c .gates) (w .0 .all-gates)) in
+      rw (r .1)
+      (put-then (firstLine (c .dataWires) (c .ancillas) (size c)) gates text one end at first last (rw e at (rw counted at p))
+      (rw same at (rw e at q)))
 
-  module _ (z : h .number ≡ 0) where
-    few-wires : h .qubits + h .ancillas ≤ mostWires
-    unfolding headerOf
-    few-wires =
-        let r = read-gives bs h is z in
-        let e : h ≡ headerOf (gives (r .0)) = rw (r .1) at is in
-        let w = write-circuitRead bs (r .1) .0 .few-wires in
-        rw e w
-
-    pub list-sum : Fits w32 (h .qubits + h .ancillas)
-    list-sum = record { fits = omega (arith, few-wires) }
-
-    pub list-most : Fits w8 (h .qubits + h .ancillas)
-    list-most = record { fits = omega (arith, few-wires) }
-
-    pub list-whole : ((i : ℕ) → Fits w8 (getD bs i 0)) → (text one end : List ℕ) (at first last : ℕ) →
-        written one first ≡ puts (firstLine (h .qubits) (h .ancillas) (h .gates)) text at →
-        written end last ≡ puts (linesRead (h .qubits + h .ancillas) 1 (h .gates) (inputAt bs headerLength)) one first →
-        written end last ≡ puts (listed (circuitRead bs)) text at
-    unfolding headerOf listed
-    list-whole ok text one end at first last p q =
-        let r = read-gives bs h is z in
-        let c : Circuit = r .0 in
-        let e : h ≡ headerOf (gives c) = rw (r .1) at is in
-        let w = write-circuitRead bs (r .1) in
-        let gates : List ℕ = gateLines 1 (c .gates) in
-        let same : linesRead (c .dataWires + c .ancillas) 1 (length (c .gates)) (inputAt bs headerLength) ≡ gates =
-            rw (gates-after bs c (w .1 (λ i. ok i .fits))) (lines-are (c .dataWires + c .ancillas) 1 (c .gates) (w .0 .all-gates)) in
-        rw (r .1)
-        (put-then (firstLine (c .dataWires) (c .ancillas) (length (c .gates))) gates text one end at first last (rw e at p)
-        (rw same at (rw e at q)))
-
-pub ruleset circuits = (needs, list-refused, list-sum, list-most, list-whole)
+pub ruleset circuits = (needs, list-sum, list-most, list-whole)

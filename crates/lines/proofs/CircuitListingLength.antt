@@ -4,17 +4,17 @@ use mathlib.Core.Bool.{true, _&&_}
 use mathlib.Core.List.{List, [], _∷_, _++_}
 use Prim.Native.Nat.{ℕ, suc, _+_, _*_, _≤_, _<_}
 use native.Mathlib.Omega.{arith}
-use borrow.Author.Tests.{leb-true, lt-ltb, le-ltb}
+use borrow.Author.Tests.{leb-true, lt-ltb, le-ltb, le-leb}
 use lib.Dec.{leb}
 use lib.ListN.{length, length-append}
-use Rattle.model.specs.Limits.{mostWires, mostCircuit, notWellFormed}
+use Rattle.model.specs.Limits.{mostWires, mostListing, notWellFormed}
 use Rattle.model.specs.Reading.{Parsed, parsed, refused}
 use Rattle.model.specs.Gates.{Gate, flip, swap}
-use Rattle.model.specs.Circuit.{Circuit, listBytes, encode, encodeAll, wires, within, gateIsWellFormed, readCircuit, controlsOf}
-use Rattle.model.specs.Answers.{gives, refuses, wellFormed, circuitRead}
-use Rattle.model.specs.Listing.{decimal, hyphens, placed, controlText, actionText, gateLine, gateLines, listed}
+use Rattle.model.specs.Circuit.{Circuit, listBytes, encode, encodeAll, write, wires, within, gateIsWellFormed, readCircuit, controlsOf}
+use Rattle.model.specs.Answers.{Outcome, gives, refuses, after, require, wellFormed, circuitRead}
+use Rattle.model.specs.Listing.{decimal, hyphens, placed, controlText, actionText, gateLine, gateLines, size, circuitListing, listed, circuitList}
 use Rattle.model.proofs.BooleanLaws.{byLt, and-left, and-right}
-use Rattle.model.proofs.RoundTrip.{WellFormed, AllWellFormed, formed, encodeAll-length, write-length, write-circuitRead}
+use Rattle.model.proofs.RoundTrip.{Bytes, WellFormed, AllWellFormed, formed, encodeAll-length, write-length, read-wellFormed, write-circuitRead}
 use Rattle.model.proofs.DecimalDigits.{decimal-few}
 
 three-digits : (k : ℕ) → k < 1000 → length (decimal k) ≤ 3
@@ -110,9 +110,9 @@ lines-length most k (g ∷ gs) few ok small =
     let rest = lines-length most (suc k) gs few (ok .1) (omega arith) in
     rw (length-append (gateLine k g) (gateLines (suc k) gs), length-append (encode g) (encodeAll gs)) (omega arith)
 
-circuit-length : (c : Circuit) → WellFormed c → length (listed (gives c)) ≤ 6 * mostCircuit
-unfolding listed
-circuit-length c w =
+-- the first line has fewer bytes than six times the header
+six-times : (c : Circuit) → WellFormed c → length (circuitListing c) ≤ 6 * length (write c)
+six-times c w =
     let whole = write-length c in
     let pairs = encodeAll-length (c .gates) in
     let data-wires = w .few-data in
@@ -120,20 +120,44 @@ circuit-length c w =
     let bytes = w .short in
     let qubits = three-digits (c .dataWires) (omega arith) in
     let ancillas = three-digits (c .ancillas) (omega arith) in
-    let size = five-digits (length (c .gates)) (omega arith) in
+    let sum = five-digits (size c) (omega arith) in
     let lines = lines-length (c .dataWires + c .ancillas) 1 (c .gates) all-wires (w .all-gates) (omega arith) in
     simp length-append (omega arith)
 
+-- a circuit's listing, beside the bytes that it was read from
+pub listed-within : (bs : List ℕ) (c : Circuit) → Bytes bs → circuitRead bs ≡ gives c → length (listed (circuitRead bs)) ≤ 6 * length bs
+unfolding listed
+listed-within bs c ok e =
+    let w = write-circuitRead bs e in
+    let same : write c ≡ bs = w .1 ok in
+    let few = six-times c (w .0) in
+    rw e (rw same at few)
+
 -- a number of at most three digits and a newline
-pub refusal-fits : (k : ℕ) → k < 1000 → length (listed (refuses k)) ≤ 6 * mostCircuit
+pub refusal-fits : (k : ℕ) → k < 1000 → length (listed (refuses k)) ≤ mostListing
 unfolding listed
 refusal-fits k h = let digits = three-digits k h in rw (length-append (decimal k) (10 ∷ [])) (omega arith)
 
 -- the listing of bytes that are a circuit, and of bytes that are none
-pub listed-fits : (bs : List ℕ) → length (listed (circuitRead bs)) ≤ 6 * mostCircuit
-unfolding wellFormed
+pub listed-fits : (bs : List ℕ) → length (listed (circuitRead bs)) ≤ mostListing
+unfolding wellFormed listed
 listed-fits bs = go (readCircuit bs) refl
   where
-    go : (x : Parsed Circuit) → readCircuit bs ≡ x → length (listed (wellFormed x)) ≤ 6 * mostCircuit
-    go (parsed c i) e = circuit-length c (write-circuitRead bs (rw e) .0)
+    go : (x : Parsed Circuit) → readCircuit bs ≡ x → length (listed (wellFormed x)) ≤ mostListing
+    go (parsed c i) e =
+        let w = read-wellFormed bs e in
+        let few = six-times c w in
+        let bytes = w .short in
+        omega arith
     go (refused k) e = refusal-fits notWellFormed (omega arith)
+
+-- so a text that is long enough for every listing is never refused
+pub never-short : (bs : List ℕ) (room : ℕ) → mostListing ≤ room → circuitList bs room ≡ after (circuitRead bs) (λ c. gives (circuitListing c))
+unfolding circuitList after require listed
+never-short bs room long = go (circuitRead bs) refl
+  where
+    go : (x : Outcome Circuit) → circuitRead bs ≡ x → circuitList bs room ≡ after x (λ c. gives (circuitListing c))
+    go (gives c) e =
+        let few : length (circuitListing c) ≤ mostListing = rw e at (listed-fits bs) in
+        rw (e, le-leb (length (circuitListing c)) room (omega arith))
+    go (refuses k) e = rw e

@@ -3,3 +3,4 @@ mod ControlText
 mod WholeLines
 mod CircuitListing
 pub mod CircuitListingLength
+mod ListAnswers

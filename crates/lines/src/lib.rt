@@ -1,21 +1,25 @@
-// "Worked programs", on the listing: its lines, put into a text one behind the other. Each function takes the place from which it puts its
-// bytes and gives the place behind them; where the text ends, it stops.
+// "Worked programs", on the listing: its lines, put into a text one behind the other. Each function that puts takes the place from which it puts
+// its bytes and gives the place behind them; where the text has ended it counts on.
 ghost use mathlib.Core.Path.{_≡_};
 ghost use mathlib.Core.List.{_∷_, _++_};
-ghost use Rattle.model.specs.Answers.{circuitRead};
-ghost use Rattle.model.specs.Listing.{space, plus, decimal, signed, hyphens, controlText, gateLine, firstLine, listed};
+ghost use Prim.Native.Nat.{_+_};
+ghost use lib.ListN.{length};
+ghost use lib.Dec.{leb};
+ghost use Rattle.model.specs.Answers.{circuitRead, roomAfter};
+ghost use Rattle.model.specs.Listing.{space, plus, decimal, signed, hyphens, controlText, gateLine, firstLine, listed, circuitList};
+ghost use Rattle.answers.specs.Structs.{lengthAnswer, headerOf};
 ghost use Rattle.circuit.specs.GatesInBytes.{part, inputAt, listIn, gateIn};
 ghost use Rattle.text.specs.AppendedBytes.{written, puts};
 ghost use Rattle.lines.specs.ListingRows.{lower, actionWith, linesRead};
+use answers::{Answer, CircuitHeader};
 use circuit::GateAt;
 use circuit::GateRead;
 use circuit::WireList;
 use circuit::read_circuit;
 use circuit::read_gate;
-use limits::HEADER_LENGTH;
+use limits::{HEADER_LENGTH, LISTING_FACTOR, NO_ROOM};
 use text::put;
 use text::put_decimal;
-use text::refusal_line;
 
 // A space and a number.
 fn put_spaced(text: &mut [u8], at: usize, number: u64) -> usize
@@ -144,13 +148,20 @@ fn gate_line(text: &mut [u8], at: usize, circuit: &[u8], gate: GateAt, number: u
     put(text, controls_end, b'\n')
 }
 
+// "gates plus data wires plus ancillas"
+fn size(header: CircuitHeader) -> u64
+    ensures { λ r. ⌜ r ≡ header .gates + header .qubits + header .ancillas ⌝ }
+{
+    header.gates as u64 + header.qubits as u64 + header.ancillas as u64
+}
+
 // "the first line is n, ancillas, size"
-fn first_line(text: &mut [u8], at: usize, n: u32, ancillas: u32, size: u32) -> usize
+fn first_line(text: &mut [u8], at: usize, n: u32, ancillas: u32, size: u64) -> usize
     ensures { λ r. ⌜ written (now (text .exit)) r ≡ puts (firstLine n ancillas size) (now (text .entry)) at ⌝ }
 {
     let n_end = put_decimal(text, at, n as u64);
     let ancillas_end = put_spaced(text, n_end, ancillas as u64);
-    let size_end = put_spaced(text, ancillas_end, size as u64);
+    let size_end = put_spaced(text, ancillas_end, size);
     put(text, size_end, b'\n')
 }
 
@@ -183,21 +194,44 @@ fn gate_lines(
     place
 }
 
-// The listing of a circuit: its first line and a line for each gate; 14 if it is not well formed.
-pub fn list_circuit(text: &mut [u8], at: usize, circuit: &[u8]) -> usize
-    ensures { λ r. ⌜ written (now (text .exit)) r ≡ puts (listed (circuitRead (now (circuit .entry)))) (now (text .entry)) at ⌝ }
+// The listing of a circuit whose header was read: its first line and a line for each gate.
+fn put_listing(text: &mut [u8], circuit: &[u8], header: CircuitHeader) -> usize
+    requires { ⌜ header ≡ headerOf (circuitRead (now circuit)) ⌝ }
+    requires { ⌜ header .number ≡ 0 ⌝ }
+    ensures { λ r. ⌜ written (now (text .exit)) r ≡ puts (listed (circuitRead (now (circuit .entry)))) (now (text .entry)) 0 ⌝ }
+{
+    let first_end = first_line(text, 0, header.qubits, header.ancillas, size(header));
+    let wires = (header.qubits + header.ancillas) as u8;
+    gate_lines(text, first_end, circuit, HEADER_LENGTH, wires, header.gates)
+}
+
+// Does a text of this length take the listing? Where it may be too short, the listing is measured.
+fn fits(circuit: &[u8], header: CircuitHeader, room: usize) -> bool
+    requires { ⌜ header ≡ headerOf (circuitRead (now circuit)) ⌝ }
+    requires { ⌜ header .number ≡ 0 ⌝ }
+    ensures { λ r. ⌜ r ≡ leb (length (listed (circuitRead (now (circuit .entry))))) room ⌝ }
+{
+    if circuit.len() <= room / LISTING_FACTOR {
+        return true;
+    }
+    let mut nothing = [0u8; 0];
+    let length = put_listing(&mut nothing[..], circuit, header);
+    length <= room
+}
+
+// The listing of a circuit, into a text that takes the whole of it: its length; 14 where the circuit is not well formed, 23 where the text is too
+// short, and then the text is left as it is.
+pub fn list_circuit(circuit: &[u8], text: &mut [u8]) -> Answer
+    ensures { λ r. ⌜ r ≡ lengthAnswer (circuitList (now (circuit .entry)) (length (now (text .entry)))) ⌝ }
+    ensures { λ r. ⌜ now (text .exit) ≡ roomAfter (circuitList (now (circuit .entry)) (length (now (text .entry)))) (now (text .entry)) ⌝ }
 {
     let header = read_circuit(circuit);
     if header.number != 0 {
-        return refusal_line(text, at, header.number);
+        return Answer { number: header.number, value: 0 };
     }
-    let first_end = first_line(text, at, header.qubits, header.ancillas, header.gates);
-    gate_lines(
-        text,
-        first_end,
-        circuit,
-        HEADER_LENGTH,
-        (header.qubits + header.ancillas) as u8,
-        header.gates,
-    )
+    if !fits(circuit, header, text.len()) {
+        return Answer { number: NO_ROOM as u32, value: 0 };
+    }
+    let length = put_listing(text, circuit, header);
+    Answer { number: 0, value: length as u64 }
 }

@@ -1,4 +1,3 @@
 -- What the proofs of several functions use, and that no more of the input is needed than is read.
 mod InputPrefix
-mod ListingLength
 mod ListingText

@@ -6,20 +6,24 @@ use native.Mathlib.Omega.{arith}
 use borrow.Author.Needs.{needs}
 use lib.ListN.{length, getD, take, drop, length-append}
 use lib.Seq.{take-all, take-append-seam, length-take-le}
-use Rattle.model.specs.Limits.{mostCircuit, leastWorkspace}
+use Rattle.model.specs.Limits.{mostCircuit, mostListing, leastWorkspace, notWellFormed}
 use Rattle.model.specs.Answers.{Outcome, gives, refuses, after, number, valueOr, compile, roomAfter, circuitRead}
-use Rattle.model.specs.Listing.{refusalLine, listed, listingOf, listing}
+use Rattle.model.specs.Circuit.{Circuit}
+use Rattle.model.specs.Listing.{refusalLine, circuitListing, listed, circuitList, listingOf, listing}
 use Rattle.model.proofs.Acceptance.{Numbered, compile-numbered}
+use Rattle.model.proofs.PageBands.{refused-number}
 use Rattle.compile.specs.declared.Compiled.{Compiled}
 use Rattle.compile.specs.EmissionAnswer.{compiledOf}
 use Rattle.compile.specs.AnswerAndRoom.{answered, answeredOf}
 use Rattle.compile.proofs.CompileAnswer.{answer-halves}
+use Rattle.answers.specs.Structs.{answerOf, lengthAnswer}
+use Rattle.answers.specs.declared.Answer.{Answer}
+use Rattle.lines.proofs.CircuitListingLength.{refusal-fits, never-short}
 use Rattle.io.specs.Counts.{Counts}
 use Rattle.text.specs.AppendedBytes.{written, puts}
-use Rattle.text.proofs.AppendLaws.{puts-whole}
+use Rattle.text.proofs.AppendLaws.{puts-front}
 use Rattle.text.specs.Inputs.{BeginsWith}
 use Rattle.listing.proofs.InputPrefix.{mostInput, listing-read}
-use Rattle.listing.proofs.ListingLength.{mostText, listing-fits}
 
 -- as many bytes of an array as are asked for
 pub front-length : (l : List ℕ) (k most : ℕ) → length l ≡ most → k ≤ most → length (take k l) ≡ k
@@ -29,6 +33,66 @@ pub front-below : (l : List ℕ) (k most : ℕ) → length l ≡ most → k < mo
 front-below l k most e h = length-take-le k l (omega arith)
 
 pub ruleset fronts = (needs, front-length, front-below)
+
+-- these bytes, in front of what a text was
+abbrev InFront : List ℕ → List ℕ → List ℕ → ℕ → Type 0
+InFront bytes text end last = (last ≡ length bytes) × (end ≡ bytes ++ drop last text)
+
+-- a refusal's line, as `refusal_line` puts it into a text that is long enough for every listing
+line-in-front : (k : ℕ) → k < 1000 → (text end : List ℕ) (last : ℕ) → length text ≡ mostListing → written end last ≡ puts (refusalLine k) text 0 →
+    InFront (refusalLine k) text end last
+unfolding listed
+line-in-front k low text end last long p =
+    let few : length (refusalLine k) ≤ mostListing = refusal-fits k low in
+    puts-front (refusalLine k) text end last (omega arith) (omega arith) p
+
+-- the ways out of `list_room`: the text is long enough, so what is refused is no circuit
+module _ (bs text : List ℕ) (a : Answer) (text₁ : List ℕ) (is : a ≡ lengthAnswer (circuitList bs (length text)))
+    (left : text₁ ≡ roomAfter (circuitList bs (length text)) text) (long : length text ≡ mostListing) where
+  abbrev listing-of : Outcome Circuit → Outcome (List ℕ)
+  listing-of x = after x (λ c. gives (circuitListing c))
+
+  -- the answer and the text, by what the circuit's reader says
+  by-circuit : (P : Outcome Circuit → Type 0) →
+      ((c : Circuit) → a ≡ answerOf (gives (length (circuitListing c))) → text₁ ≡ circuitListing c ++ drop (length (circuitListing c)) text → P (gives c)) →
+      (a ≡ answerOf (refuses notWellFormed) → text₁ ≡ text → P (refuses notWellFormed)) → P (circuitRead bs)
+  unfolding after roomAfter
+  by-circuit P given none = go (circuitRead bs) refl
+      (is ∙ ap lengthAnswer (never-short bs (length text) (omega arith)))
+      (left ∙ ap (λ (o : Outcome (List ℕ)). roomAfter o text) (never-short bs (length text) (omega arith)))
+    where
+      go : (x : Outcome Circuit) → circuitRead bs ≡ x → a ≡ lengthAnswer (listing-of x) → text₁ ≡ roomAfter (listing-of x) text → P x
+      go (gives c) q e t = given c e t
+      go (refuses k) q e t = let bad : k ≡ notWellFormed = refused-number bs k q in rw bad (none (rw bad at e) t)
+
+  module _ (f : a .number ≡ 0 → ⊥) (end : List ℕ) (last : ℕ) (p : written end last ≡ puts (refusalLine (a .number)) text₁ 0) where
+    refused : InFront (listed (circuitRead bs)) text end last
+    unfolding listed answerOf
+    refused = by-circuit (λ x. InFront (listed x) text end last)
+        (λ c e t. absurd (f (ap (λ (y : Answer). y .number) e)))
+        (λ e t. let same : a .number ≡ notWellFormed = ap (λ (y : Answer). y .number) e in
+          line-in-front notWellFormed (omega arith) text end last long (rw (same, t) at p))
+
+    pub refused-count : last ≡ length (listed (circuitRead bs))
+    refused-count = refused .0
+
+    pub refused-text : end ≡ listed (circuitRead bs) ++ drop last text
+    refused-text = refused .1
+
+  module _ (z : a .number ≡ 0) where
+    whole : InFront (listed (circuitRead bs)) text text₁ (a .value)
+    unfolding listed answerOf
+    whole = by-circuit (λ x. InFront (listed x) text text₁ (a .value))
+        (λ c e t. let size : a .value ≡ length (circuitListing c) = ap (λ (y : Answer). y .value) e in (size, rw size t))
+        (λ e t. let same : a .number ≡ notWellFormed = ap (λ (y : Answer). y .number) e in absurd (omega arith))
+
+    pub whole-count : a .value ≡ length (listed (circuitRead bs))
+    whole-count = whole .0
+
+    pub whole-text : text₁ ≡ listed (circuitRead bs) ++ drop (a .value) text
+    whole-text = whole .1
+
+pub ruleset rooms = (fronts, refused-count, refused-text, whole-count, whole-text)
 
 -- bytes that a room begins with
 front-is : (bytes rest room : List ℕ) (k : ℕ) → k ≡ length bytes → room ≡ bytes ++ rest → take k room ≡ bytes
@@ -44,15 +108,24 @@ module _ (bs room ws : List ℕ) (n : ℕ) (r : Compiled) (room₁ : List ℕ)
   answer : (r ≡ compiledOf o) × (room₁ ≡ roomAfter o room)
   answer = let e : answered r room₁ ≡ answeredOf o room = rw (long, enough) at is in answer-halves o room e
 
-  module _ (text end : List ℕ) (last : ℕ) where
-    pub table-refused : (r .number ≡ 0 → ⊥) → written end last ≡ puts (refusalLine (r .number)) text 0 →
-        written end last ≡ puts (listingOf n bs) text 0
+  module _ (f : r .number ≡ 0 → ⊥) (text end : List ℕ) (last : ℕ) (whole-text : length text ≡ mostListing)
+      (p : written end last ≡ puts (refusalLine (r .number)) text 0) where
+    refusal : InFront (listingOf n bs) text end last
     unfolding after number listed
-    table-refused f p = go o (answer .0)
+    refusal = go o (compile-numbered bs n mostCircuit leastWorkspace) (answer .0)
       where
-        go : (x : Outcome (List ℕ)) → r ≡ compiledOf x → written end last ≡ puts (listed (after x circuitRead)) text 0
-        go (gives bytes) e = absurd (f (ap (λ (y : Compiled). y .number) e))
-        go (refuses k) e = let same : r .number ≡ k = ap (λ (y : Compiled). y .number) e in rw (← same) p
+        go : (x : Outcome (List ℕ)) → Numbered x → r ≡ compiledOf x → InFront (listed (after x circuitRead)) text end last
+        go (gives bytes) k e = absurd (f (ap (λ (y : Compiled). y .number) e))
+        go (refuses k) low e =
+            let same : r .number ≡ k = ap (λ (y : Compiled). y .number) e in
+            let few = low .1 in
+            line-in-front k (omega arith) text end last whole-text (rw same at p)
+
+    pub refusal-count : last ≡ length (listingOf n bs)
+    refusal-count = refusal .0
+
+    pub refusal-text : end ≡ listingOf n bs ++ drop last text
+    refusal-text = refusal .1
 
   -- number 0: the room begins with the circuit
   module _ (none : r .number ≡ 0) where
@@ -72,17 +145,23 @@ module _ (bs room ws : List ℕ) (n : ℕ) (r : Compiled) (room₁ : List ℕ)
         let l = h .2 in
         omega arith
 
-    pub table-listed : (text end : List ℕ) (last : ℕ) → written end last ≡ puts (listed (circuitRead (take (r .length) room₁))) text 0 →
-        written end last ≡ puts (listingOf n bs) text 0
+    lines : listed (circuitRead (take (r .length) room₁)) ≡ listingOf n bs
     unfolding after
-    table-listed text end last p =
+    lines =
         let h = holds in
         let front = front-is (h .0) (drop (length (h .0)) room) room₁ (r .length) (h .2) (h .3) in
-        rw (h .1) (rw front at p)
+        rw (h .1, front)
 
-pub ruleset tables = (needs, table-refused, table-room, table-listed)
+    pub table-count : (last : ℕ) → last ≡ length (listed (circuitRead (take (r .length) room₁))) → last ≡ length (listingOf n bs)
+    table-count last p = p ∙ ap length lines
 
--- the ways out of `list_input`
+    pub table-text : (text end : List ℕ) (last : ℕ) → end ≡ listed (circuitRead (take (r .length) room₁)) ++ drop last text →
+        end ≡ listingOf n bs ++ drop last text
+    table-text text end last p = p ∙ ap (λ (l : List ℕ). l ++ drop last text) lines
+
+pub ruleset tables = (needs, refusal-count, refusal-text, table-room, table-count, table-text)
+
+-- the ways out of `list`
 no-input : (input : List ℕ) → length input ≡ 0 → listing input ≡ listingOf 0 input
 unfolding listing
 no-input [] e = refl
@@ -94,33 +173,27 @@ some-input [] f = absurd (f refl)
 some-input (n ∷ table) f = rw (take-all (suc (length table) - 1) table (omega arith))
 
 module _ (input text end : List ℕ) (last : ℕ) where
-  pub input-none : length input ≡ 0 → written end last ≡ puts (listingOf 0 input) text 0 → written end last ≡ puts (listing input) text 0
-  input-none e p = rw (no-input input e) p
+  module _ (e : length input ≡ 0) where
+    pub none-count : last ≡ length (listingOf 0 input) → last ≡ length (listing input)
+    none-count p = rw (no-input input e) p
 
-  pub input-some : (length input ≡ 0 → ⊥) → written end last ≡ puts (listingOf (getD input 0 0) (take (length input - 1) (drop 1 input))) text 0 →
-      written end last ≡ puts (listing input) text 0
-  input-some f p = rw (some-input input f) p
+    pub none-text : end ≡ listingOf 0 input ++ drop last text → end ≡ listing input ++ drop last text
+    none-text p = rw (no-input input e) p
 
-pub ruleset inputs = (needs, input-none, input-some)
+  module _ (f : length input ≡ 0 → ⊥) where
+    pub some-count : last ≡ length (listingOf (getD input 0 0) (take (length input - 1) (drop 1 input))) → last ≡ length (listing input)
+    some-count p = rw (some-input input f) p
 
--- what `list` leaves: the text takes the whole listing
-module _ (input text end : List ℕ) (r : ℕ) (p : written end r ≡ puts (listing input) text 0) (long : length text ≡ mostText) where
-  whole : written end r ≡ written (listing input ++ drop (length (listing input)) text) (length (listing input))
-  whole = let few = listing-fits input in p ∙ puts-whole (listing input) text (omega arith)
+    pub some-text : end ≡ listingOf (getD input 0 0) (take (length input - 1) (drop 1 input)) ++ drop last text → end ≡ listing input ++ drop last text
+    some-text p = rw (some-input input f) p
 
-  pub list-count : r ≡ length (listing input)
-  list-count = let w = whole in cc
+-- as many bytes as were counted stand in the text
+pub front-counts : (bytes text end : List ℕ) (last : ℕ) → last ≡ length bytes → end ≡ bytes ++ drop last text → Counts last end
+front-counts bytes text end last count front =
+    let long = ap length front ∙ length-append bytes (drop last text) in
+    (omega arith, sym (length-take-le last end (omega arith)))
 
-  pub list-text : end ≡ listing input ++ drop r text
-  list-text = let w = whole in cc
-
-  pub list-counts : Counts r end
-  list-counts =
-      let long = ap length list-text ∙ length-append (listing input) (drop r text) in
-      let count = list-count in
-      (omega arith, sym (length-take-le r end (omega arith)))
-
-pub ruleset lists = (needs, list-count, list-text, list-counts)
+pub ruleset inputs = (needs, none-count, none-text, some-count, some-text, front-counts)
 
 -- the ways out of `list_read`, whose buffer takes all that is ever looked at: the bytes that were read, or the whole buffer where the count is past it
 module _ (buffer text end : List ℕ) (count r : ℕ) (enough : mostInput ≤ length buffer) where

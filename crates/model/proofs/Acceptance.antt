@@ -21,6 +21,7 @@ use Rattle.model.specs.Answers.{
   Outcome, gives, refuses, after, require, outcome, number, accepted, verdict, run, fit, fitted, circuit, usable, compile, wellFormed, circuitRead,
   circuitRun,
 }
+use Rattle.model.specs.Listing.{circuitListing, listed, circuitList}
 use Rattle.model.proofs.BooleanLaws.{byBool, and-left, and-right}
 use Rattle.model.proofs.OutcomeLaws.{not-both, gives-same, required, gave}
 use Rattle.model.proofs.ReadingLaws.{WasRead, outcome-read}
@@ -116,6 +117,12 @@ unfolding circuitRun
 circuit-run-numbered bytes word =
     after-numbered (circuitRead bytes) _ (circuit-read-numbered bytes) (λ c.
     required-numbered (ltb word (2 ^ (c .dataWires))) highBit (gives _) (omega arith, omega arith) tt)
+
+circuit-list-numbered : (bytes : List ℕ) (room : ℕ) → Numbered (circuitList bytes room)
+unfolding circuitList
+circuit-list-numbered bytes room =
+    after-numbered (circuitRead bytes) _ (circuit-read-numbered bytes) (λ c.
+    required-numbered (leb (length (circuitListing c)) room) noRoom (gives _) (omega arith, omega arith) tt)
 
 -- A table is accepted at n, and P is its program, exactly where 9, then 1 to 8, then 10, 11 and 12 are passed.
 
@@ -262,3 +269,26 @@ circuit-run-zero bytes word =
       let low = required (ltb word (2 ^ (c .dataWires))) _ _ (circuit .then-is) in
       ((c, reading .0, reading .1), ltb-true word (2 ^ (c .dataWires)) (low .0)),
     λ h. rw (h .0 .2, lt-ltb word (2 ^ (h .0 .0 .dataWires)) (h .1)))
+
+-- .. the bytes are a well-formed circuit, and the text takes its listing
+pub circuit-list-zero : (bytes : List ℕ) (room : ℕ) →
+    (number (circuitList bytes room) ≡ success) ↔ ((c : IsCircuit bytes) × (length (circuitListing (c .0)) ≤ room))
+unfolding circuitList wellFormed after require number
+circuit-list-zero bytes room =
+    (λ e.
+      let given = zero-gives (circuitList bytes room) (circuit-list-numbered bytes room) .0 e in
+      let circuit = gave (circuitRead bytes) _ (given .1) in
+      let c = circuit .first in
+      let reading = read-gives (readCircuit bytes) (circuit .first-is) in
+      let fits = required (leb (length (circuitListing c)) room) _ _ (circuit .then-is) in
+      ((c, reading .0, reading .1), leb-true (length (circuitListing c)) room (fits .0)),
+    λ h. rw (h .0 .2, le-leb (length (circuitListing (h .0 .0))) room (h .1)))
+
+-- what it gives is what the listing program prints of the circuit
+pub circuit-list-listed : (bytes : List ℕ) (room : ℕ) {text : List ℕ} → circuitList bytes room ≡ gives text → text ≡ listed (circuitRead bytes)
+unfolding circuitList listed
+circuit-list-listed bytes room e =
+    let circuit = gave (circuitRead bytes) _ e in
+    let c = circuit .first in
+    let fits = required (leb (length (circuitListing c)) room) _ _ (circuit .then-is) in
+    rw (circuit .first-is) (sym (gives-same (fits .1)))

@@ -40,6 +40,10 @@ mostCircuit = 65536
 abbrev pub mostBand : ℕ
 mostBand = 20655
 
+-- a text that is long enough for every listing: six bytes for each byte of the longest circuit
+abbrev pub mostListing : ℕ
+mostListing = 393216
+
 -- "one block of 32 bytes"
 abbrev pub blockLength : ℕ
 blockLength = 32
@@ -120,6 +124,6 @@ shortWorkspace = 21
 abbrev pub manyWires : ℕ
 manyWires = 22
 
--- "23 header or next gate would pass the room's end"
+-- "23 header or next gate would pass the room's end"; a listing, its text's end
 abbrev pub noRoom : ℕ
 noRoom = 23

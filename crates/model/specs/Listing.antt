@@ -1,13 +1,13 @@
--- "Worked programs", on the listing program: the bytes that it writes for the bytes that it reads.
+-- "Worked programs", on the listing program: the bytes that it writes for the bytes that it reads. Document 02, S-4: the size on its first line.
 use Prim.Native.Nat.{ℕ, zero, suc, _+_, _/_, _%_}
 use mathlib.Core.Bool.{true, false}
 use mathlib.Core.List.{List, [], _∷_, _++_}
 use lib.ListN.{length}
-use lib.Dec.{ltb}
-use Rattle.model.specs.Limits.{mostCircuit, leastWorkspace}
+use lib.Dec.{ltb, leb}
+use Rattle.model.specs.Limits.{mostCircuit, leastWorkspace, noRoom}
 use Rattle.model.specs.Gates.{Gate, flip, swap}
 use Rattle.model.specs.Circuit.{Circuit, controlsOf}
-use Rattle.model.specs.Answers.{Outcome, gives, refuses, after, compile, circuitRead}
+use Rattle.model.specs.Answers.{Outcome, gives, refuses, after, require, compile, circuitRead}
 
 -- the characters, by their codes
 abbrev pub newline : ℕ
@@ -73,9 +73,11 @@ unfoldable pub gateLines : ℕ → List Gate → List ℕ
 gateLines k [] = []
 gateLines k (g ∷ gs) = gateLine k g ++ gateLines (suc k) gs
 
--- "The size of a circuit is its gate count."
+-- Document 02, S-4: "Source document 000, just before definition 8, counts gates and wires in a circuit's size." It says there: "The size #C of a circuit C
+-- is equal to the number of its gates and wires." So "The size on the listing's first line becomes gates plus data wires plus ancillas"; what document 01 calls
+-- size, the gate count, is in the header as before, and "The polynomial of document 01 still limits the gates alone".
 abbrev pub size : Circuit → ℕ
-size c = length (c .gates)
+size c = length (c .gates) + c .dataWires + c .ancillas
 
 -- "the first line is n, ancillas, size"
 abbrev pub firstLine : ℕ → ℕ → ℕ → List ℕ
@@ -85,8 +87,12 @@ firstLine n ancillas size = decimal n ++ (space ∷ (decimal ancillas ++ (space 
 abbrev pub refusalLine : ℕ → List ℕ
 refusalLine k = decimal k ++ (newline ∷ [])
 
+-- all the lines of a circuit
+abbrev pub circuitListing : Circuit → List ℕ
+circuitListing c = firstLine (c .dataWires) (c .ancillas) (size c) ++ gateLines 1 (c .gates)
+
 unfoldable pub listed : Outcome Circuit → List ℕ
-listed (gives c) = firstLine (c .dataWires) (c .ancillas) (size c) ++ gateLines 1 (c .gates)
+listed (gives c) = circuitListing c
 listed (refuses k) = refusalLine k
 
 -- "reads the byte n and then a table .., and lends compile a room of 65,536 bytes"
@@ -97,3 +103,12 @@ listingOf n table = listed (after (compile table n mostCircuit leastWorkspace) c
 unfoldable pub listing : List ℕ → List ℕ
 listing [] = listingOf 0 []
 listing (n ∷ table) = listingOf n table
+
+-- The listing of a circuit by itself, without its table.
+
+-- for a text of that many bytes: 14 where the circuit is not well formed, then 23 where its listing would pass the text's end
+unfoldable pub circuitList : List ℕ → ℕ → Outcome (List ℕ)
+circuitList bytes room =
+    after (circuitRead bytes) (λ c.
+    require (leb (length (circuitListing c)) room) noRoom
+    (gives (circuitListing c)))

@@ -18,7 +18,7 @@ use Rattle.answers.specs.declared.PageBand.{PageBand}
 use Rattle.io.specs.Counts.{Counts}
 use Rattle.text.specs.AppendedBytes.{written, puts}
 use Rattle.text.specs.Inputs.{BeginsWith}
-use Rattle.text.proofs.AppendLaws.{puts-whole}
+use Rattle.text.proofs.AppendLaws.{puts-front}
 use Rattle.page.specs.Parts.{partOf, pagePart}
 use Rattle.page.proofs.BandLimits.{Fourteen, band-fits, band-number}
 
@@ -43,10 +43,8 @@ module _ (input text text₁ : List ℕ) (at : ℕ) (r : PageBand) (is : r ≡ b
         go (refuses k) e t n =
             let number : r .number ≡ k = ap (λ (y : PageBand). y .number) e in
             let put : written text₂ last ≡ puts (refusalLine k) text 0 = rw (number, t) at p in
-            let whole = puts-whole (refusalLine k) text (rw long (refusal-short k n)) in
-            let size : last ≡ length (refusalLine k) = cc (put, whole) in
-            let bytes : text₂ ≡ refusalLine k ++ drop (length (refusalLine k)) text = cc (put, whole) in
-            (size, refl, rw size bytes)
+            let front = puts-front (refusalLine k) text text₂ last (rw long (refusal-short k n)) (omega arith) put in
+            (front .0, refl, front .1)
 
     pub line-length : last ≡ length (pagePart input at .text)
     line-length = line .0

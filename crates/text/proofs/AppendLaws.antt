@@ -1,26 +1,13 @@
 -- Bytes put one behind the other: first these, then those, is both.
-use mathlib.Core.Path.{_≡_, refl, sym}
+use mathlib.Core.Path.{_≡_, refl, ap, _∙_}
 use mathlib.Core.List.{List, [], _∷_, _++_}
-use Prim.Native.Nat.{ℕ, suc, _+_, _≤_, _<_}
-use native.Mathlib.Numerals.{add-one}
+use Prim.Native.Nat.{ℕ, zero, suc, _+_, _^_, _≤_, _<_}
 use native.Mathlib.Nat.{add-zero, zero-add}
 use native.Mathlib.Omega.{arith}
 use borrow.Author.Needs.{needs}
-use borrow.Author.Tests.{lt-ltb, le-ltb}
-use lib.ListN.{length, drop, set, length-set}
+use lib.ListN.{length, drop, set}
 use lib.Seq.{sets, sets-eq}
-use Rattle.model.proofs.BooleanLaws.{byLt}
-use Rattle.text.specs.AppendedBytes.{Written, written, puts}
-
--- a byte where the text reaches, and nothing behind its end
-puts-cons : (b : ℕ) (bytes text : List ℕ) (at : ℕ) → at < length text → puts (b ∷ bytes) text at ≡ puts bytes (set text at b) (suc at)
-unfolding puts
-puts-cons b bytes text at h = rw (lt-ltb at (length text) h, puts)
-
-puts-past : (bytes text : List ℕ) (at : ℕ) → length text ≤ at → puts bytes text at ≡ written text at
-unfolding puts
-puts-past [] text at h = refl
-puts-past (b ∷ bytes) text at h = rw (le-ltb at (length text) h, puts)
+use Rattle.text.specs.AppendedBytes.{Written, written, lastPlace, nextPlace, puts}
 
 -- what is put behind what was written
 unfoldable behind : Written → List ℕ → Written
@@ -29,28 +16,54 @@ behind (written text at) bytes = puts bytes text at
 puts-append : (xs ys text : List ℕ) (at : ℕ) → puts (xs ++ ys) text at ≡ behind (puts xs text at) ys
 unfolding behind puts
 puts-append [] ys text at = refl
-puts-append (x ∷ xs) ys text at = byLt at (length text)
-    (λ h. rw (puts-cons x (xs ++ ys) text at h, puts-cons x xs text at h) (puts-append xs ys (set text at x) (suc at)))
-    (λ h. rw (puts-past (x ∷ xs ++ ys) text at h, puts-past (x ∷ xs) text at h) (sym (puts-past ys text at h)))
+puts-append (x ∷ xs) ys text at = puts-append xs ys (set text at x) (nextPlace at)
 
--- a text that is long enough takes all the bytes
-puts-all : (bytes text : List ℕ) (at : ℕ) → at + length bytes ≤ length text → puts bytes text at ≡ written (sets text at bytes) (at + length bytes)
+-- all the bytes are counted, and a text takes those that it reaches
+puts-all : (bytes text : List ℕ) (at : ℕ) → at + length bytes ≤ lastPlace → puts bytes text at ≡ written (sets text at bytes) (at + length bytes)
 unfolding puts
 puts-all [] text at h = rw (add-zero at)
 puts-all (b ∷ bytes) text at h =
+    let next : nextPlace at ≡ suc at = omega arith in
     let e : suc at + length bytes ≡ at + suc (length bytes) = omega arith in
-    rw (puts-cons b bytes text at (omega arith), ← e) (puts-all bytes (set text at b) (suc at) (rw (length-set text at b) (omega arith)))
+    rw (next, ← e) (puts-all bytes (set text at b) (suc at) (omega arith))
 
-pub puts-whole : (bytes text : List ℕ) → length bytes ≤ length text → puts bytes text 0 ≡ written (bytes ++ drop (length bytes) text) (length bytes)
-puts-whole bytes text h = rw (puts-all bytes text 0 (omega arith), sets-eq bytes text 0 (omega arith), zero-add)
+-- in front of a text that is long enough stands the whole of them
+pub puts-front : (bytes text end : List ℕ) (last : ℕ) → length bytes ≤ length text → length text ≤ lastPlace → written end last ≡ puts bytes text 0 →
+    (last ≡ length bytes) × (end ≡ bytes ++ drop last text)
+puts-front bytes text end last h few p =
+    let whole : puts bytes text 0 ≡ written (bytes ++ drop (length bytes) text) (length bytes) =
+        rw (puts-all bytes text 0 (omega arith), sets-eq bytes text 0 (omega arith), zero-add) in
+    let size : last ≡ length bytes = cc (p, whole) in
+    let front : end ≡ bytes ++ drop (length bytes) text = cc (p, whole) in
+    (size, rw size front)
 
--- the ways out of `put`
-pub put-past : (b : ℕ) (text : List ℕ) (at : ℕ) → length text ≤ at → written text at ≡ puts (b ∷ []) text at
-put-past b text at h = sym (puts-past (b ∷ []) text at h)
+-- their number, whatever the text
+pub puts-count : (bytes text end : List ℕ) (last : ℕ) → length bytes ≤ lastPlace → written end last ≡ puts bytes text 0 → last ≡ length bytes
+puts-count bytes text end last few p =
+    let whole : written end last ≡ written (sets text 0 bytes) (0 + length bytes) = p ∙ puts-all bytes text 0 (omega arith) in
+    let same : last ≡ 0 + length bytes = cc in
+    omega arith
 
-pub put-there : (b : ℕ) (text : List ℕ) (at : ℕ) → at < length text → written (set text at b) (at + 1) ≡ puts (b ∷ []) text at
+-- nothing is written past the end
+set-past : (text : List ℕ) (at b : ℕ) → length text ≤ at → set text at b ≡ text
+set-past [] at b h = refl
+set-past (x ∷ text) zero b h = absurd (omega arith)
+set-past (x ∷ text) (suc at) b h = ap (λ (l : List ℕ). x ∷ l) (set-past text at b (omega arith))
+
+-- the ways out of `next_place` and `put`
+pub next-last : (at : ℕ) → at ≡ lastPlace → at ≡ nextPlace at
+next-last at e = omega arith
+
+pub next-more : (at : ℕ) → (at ≡ lastPlace → ⊥) → at < 2 ^ 64 → at + 1 ≡ nextPlace at
+next-more at f h = omega (arith, f)
+
+pub put-past : (b : ℕ) (text : List ℕ) (at next : ℕ) → length text ≤ at → next ≡ nextPlace at → written text next ≡ puts (b ∷ []) text at
 unfolding puts
-put-there b text at h = rw (puts-cons b [] text at h, add-one)
+put-past b text at next h e = rw (set-past text at b h, e)
+
+pub put-there : (b : ℕ) (text : List ℕ) (at : ℕ) → at < length text → length text < 2 ^ 64 → written (set text at b) (at + 1) ≡ puts (b ∷ []) text at
+unfolding puts
+put-there b text at h long = let next : at + 1 ≡ nextPlace at = omega arith in rw next
 
 -- first these bytes, then those
 pub put-after : (xs ys text middle : List ℕ) (at mid : ℕ) → written middle mid ≡ puts xs text at → puts (xs ++ ys) text at ≡ puts ys middle mid
@@ -65,4 +78,4 @@ pub put-next : (x : ℕ) (ys text middle end : List ℕ) (at mid last : ℕ) →
     written end last ≡ puts ys middle mid → written end last ≡ puts (x ∷ ys) text at
 put-next x ys text middle end at mid last p q = put-then (x ∷ []) ys text middle end at mid last p q
 
-pub ruleset putting = (needs, put-past, put-there, put-then, put-next)
+pub ruleset putting = (needs, next-last, next-more, put-past, put-there, put-then, put-next)

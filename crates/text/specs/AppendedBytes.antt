@@ -1,15 +1,21 @@
--- Bytes put into a text one behind the other, as far as the text reaches.
-use Prim.Native.Nat.{ℕ, suc}
-use mathlib.Core.Bool.{true, false}
+-- Bytes put into a text one behind the other. Where the text has ended nothing is written, but they are counted on: the place behind the last of them says
+-- how long a text takes them all.
+use Prim.Native.Nat.{ℕ, suc, _-_, _^_, min}
 use mathlib.Core.List.{List, [], _∷_}
-use lib.ListN.{length, set}
-use lib.Dec.{ltb}
+use lib.ListN.{set}
 
 -- a text, and the place behind what was put into it
 pub data Written : Type 0 where
   written : List ℕ → ℕ → Written
 
+-- a place has 64 bits: the last number stands for every place from there on, which no text reaches
+abbrev pub lastPlace : ℕ
+lastPlace = 2 ^ 64 - 1
+
+abbrev pub nextPlace : ℕ → ℕ
+nextPlace at = min (suc at) lastPlace
+
 -- these bytes, into a text, from a place on
 unfoldable pub puts : List ℕ → List ℕ → ℕ → Written
 puts [] text at = written text at
-puts (b ∷ bytes) text at = elim (ltb at (length text)) [ true ↦ puts bytes (set text at b) (suc at) | false ↦ written text at ]
+puts (b ∷ bytes) text at = puts bytes (set text at b) (nextPlace at)

@@ -1,16 +1,29 @@
 // Bytes put into a text one behind the other: what the listing and the page are made of. Each function takes the place from which it puts its
-// bytes and gives the place behind them; where the text ends, it stops.
+// bytes and gives the place behind them. Where the text has ended it writes nothing but counts on, so an empty text measures.
 ghost use mathlib.Core.Path.{_≡_};
 ghost use mathlib.Core.List.{[], _∷_};
 ghost use Rattle.model.specs.Listing.{decimal, refusalLine};
-ghost use Rattle.text.specs.AppendedBytes.{written, puts};
+ghost use Rattle.text.specs.AppendedBytes.{written, nextPlace, puts};
+
+// The last place that a number can say.
+const LAST_PLACE: usize = 18446744073709551615;
+
+// The place behind a byte past the text's end.
+fn next_place(at: usize) -> usize
+    ensures { λ r. ⌜ r ≡ nextPlace at ⌝ }
+{
+    if at == LAST_PLACE {
+        return at;
+    }
+    at + 1
+}
 
 // One byte.
 pub fn put(text: &mut [u8], at: usize, byte: u8) -> usize
     ensures { λ r. ⌜ written (now (text .exit)) r ≡ puts (byte ∷ []) (now (text .entry)) at ⌝ }
 {
     if text.len() <= at {
-        return at;
+        return next_place(at);
     }
     text[at] = byte;
     at + 1

@@ -9,7 +9,5 @@ list-table-spec = tie.close (tie.spec
     (λ c. search tables)
     (λ c κs. search tables)
     (λ c. search tables)
-    (λ c. search tables)
     (λ c κs. search tables)
-    (λ c. search tables)
     (λ c. search tables))
