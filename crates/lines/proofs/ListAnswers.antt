@@ -13,7 +13,7 @@ use lib.Dec.{leb}
 use Rattle.model.specs.Limits.{noRoom}
 use Rattle.model.specs.Circuit.{Circuit}
 use Rattle.model.specs.Answers.{Outcome, gives, refuses, after, require, circuitRead, roomAfter}
-use Rattle.model.specs.Listing.{listed, circuitListing, circuitList}
+use Rattle.model.specs.Listing.{listed, circuitList}
 use Rattle.answers.specs.Structs.{answerOf, lengthAnswer, headerOf}
 use Rattle.answers.specs.declared.CircuitHeader.{CircuitHeader}
 use Rattle.circuit.proofs.CircuitReading.{read-gives}
