@@ -3,9 +3,9 @@
  *
  * A table of bytes holds a FOQ program. foq_verdict says whether it is accepted,
  * foq_run runs it from a basis state, and foq_compile translates it into a
- * circuit, which foq_circuit_read looks through, foq_circuit_run runs and
- * foq_page_band draws. Here a program that flips qubit 2 of three is run from
- * the word 5, and so is its circuit:
+ * circuit, which foq_circuit_read looks through, foq_circuit_run runs,
+ * foq_circuit_list lists and foq_page_band draws. Here a program that flips
+ * qubit 2 of three is run from the word 5, and so is its circuit:
  *
  *     #include <stdio.h>
  *     #include "foq.h"
@@ -61,6 +61,7 @@
  *     foq_compile      376 KiB
  *     foq_circuit_read   1 KiB
  *     foq_circuit_run    1 KiB
+ *     foq_circuit_list   1 KiB
  *     foq_page_band      6 KiB
  */
 #ifndef FOQ_H
@@ -91,7 +92,7 @@
 /* Refusals from the state. */
 #define FOQ_SHORT_WORKSPACE 21u /* a workspace shorter than FOQ_LEAST_WORKSPACE */
 #define FOQ_MANY_WIRES 22u      /* a wire number above FOQ_MOST_WIRES would be taken */
-#define FOQ_NO_ROOM 23u         /* the header or the next gate would pass the room's end */
+#define FOQ_NO_ROOM 23u         /* the header, the next gate or a listing does not fit */
 
 /*
  * A table is its edition, the number p of procedures, then the main statement
@@ -189,6 +190,12 @@
  */
 #define FOQ_MOST_BAND 20655u
 
+/*
+ * A text that is long enough for every listing, in bytes: six for each byte of
+ * the longest circuit.
+ */
+#define FOQ_MOST_LISTING 393216u
+
 /* The bytes that hold the wires of a running circuit. */
 #define FOQ_BLOCK_LENGTH 32u
 
@@ -223,7 +230,10 @@ typedef struct {
     uint8_t bits[FOQ_BLOCK_LENGTH];
 } foq_block;
 
-/* An answer with one value: the end word of a run, or a circuit's length. */
+/*
+ * An answer with one value: the end word of a run, or the length of a circuit or
+ * of a listing.
+ */
 typedef struct {
     uint32_t number;
     uint64_t value;
@@ -315,6 +325,33 @@ foq_circuit foq_circuit_read(const uint8_t *circuit, size_t length);
  * 32 to 63 too.
  */
 foq_block foq_circuit_run(const uint8_t *circuit, size_t length, uint64_t word);
+
+/*
+ * Puts the listing of a circuit into the text, from its first byte on, and gives
+ * the listing's length in bytes. What stood behind it stays. The first line is
+ * n, the ancilla count and the size, which is the number of gates, data wires
+ * and ancillas together. Then each gate has a line: its number, counted from 1,
+ * X for a NOT or S for a swap, the target or both swapped wires, lower first,
+ * and the controls, wires ascending, + on 1 and - on 0. Every line ends with a
+ * newline. PAIRS on three qubits has nine gates on six wires:
+ *
+ *     3 3 15
+ *     1 X 4
+ *     2 X 5 -1 -2 +4
+ *     ..
+ *     9 X 4
+ *
+ * It refuses with FOQ_NOT_WELL_FORMED exactly where foq_circuit_read does, and
+ * otherwise with FOQ_NO_ROOM where the text is shorter than the listing. A
+ * refusal leaves the whole text as it was.
+ *
+ * A text that is six times as long as the circuit is always long enough, so
+ * FOQ_MOST_LISTING bytes are enough for every circuit. Such a text gets the
+ * listing in one walk over the gates. For a shorter one the listing is measured
+ * first, and the call takes about twice as long.
+ */
+foq_answer foq_circuit_list(const uint8_t *circuit, size_t length,
+                            uint8_t *text, size_t text_length);
 
 /*
  * Puts one band of a circuit's page into the text. A page has a row for each

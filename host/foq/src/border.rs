@@ -13,6 +13,10 @@ pub const MOST_CIRCUIT: usize = 65_536;
 /// enough.
 pub const MOST_BAND: usize = 20_655;
 
+/// Six bytes for each byte of the longest circuit: a text that is always long
+/// enough for a listing.
+pub const MOST_LISTING: usize = 393_216;
+
 /// The shortest workspace that is enough.
 pub const LEAST_WORKSPACE: usize = 32_768;
 
@@ -22,7 +26,7 @@ pub const LEAST_WORKSPACE: usize = 32_768;
 pub struct Answer {
     /// 0 or a refusal's number.
     pub number: u32,
-    /// The end word, or a circuit's length.
+    /// The end word, or the length of a circuit or of a listing.
     pub value: u64,
 }
 
@@ -97,6 +101,12 @@ mod declared {
         ) -> Answer;
         pub fn foq_circuit_read(circuit: *const u8, length: usize) -> Circuit;
         pub fn foq_circuit_run(circuit: *const u8, length: usize, word: u64) -> Block;
+        pub fn foq_circuit_list(
+            circuit: *const u8,
+            length: usize,
+            text: *mut u8,
+            text_length: usize,
+        ) -> Answer;
         pub fn foq_page_band(
             circuit: *const u8,
             length: usize,
@@ -174,6 +184,20 @@ pub fn circuit_read(circuit: &[u8]) -> Circuit {
 pub fn circuit_run(circuit: &[u8], word: u64) -> Block {
     // SAFETY: as above; the circuit is only read.
     unsafe { declared::foq_circuit_run(circuit.as_ptr(), circuit.len(), word) }
+}
+
+/// The listing of a circuit, into the text.
+#[must_use]
+pub fn circuit_list(circuit: &[u8], text: &mut [u8]) -> Answer {
+    // SAFETY: as above; the circuit is only read.
+    unsafe {
+        declared::foq_circuit_list(
+            circuit.as_ptr(),
+            circuit.len(),
+            text.as_mut_ptr(),
+            text.len(),
+        )
+    }
 }
 
 /// One band of a circuit's page, into the text: the first for place 0.

@@ -12,6 +12,7 @@
 //! | [`compile`], [`compile_to_vec`] | translates a table into its circuit |
 //! | [`circuit_read`] | reads a circuit: its qubits, ancillas and gates |
 //! | [`circuit_run`] | runs a circuit from a start word |
+//! | [`circuit_list`], [`circuit_list_to_string`] | lists a circuit, gate by gate |
 //! | [`page_band`], [`write_page`] | draws a circuit on a page of 80 columns |
 //!
 //! [`PAIRS`] is a table to try. Its circuit ends as its run does, whatever the
@@ -42,7 +43,7 @@
 pub mod border;
 mod refusal;
 
-pub use border::{BLOCK_LENGTH, LEAST_WORKSPACE, MOST_BAND, MOST_CIRCUIT};
+pub use border::{BLOCK_LENGTH, LEAST_WORKSPACE, MOST_BAND, MOST_CIRCUIT, MOST_LISTING};
 pub use refusal::Refusal;
 use std::io::{self, Write};
 
@@ -260,6 +261,55 @@ pub fn circuit_run(circuit: &[u8], word: u64) -> Result<Block, Refusal> {
         ancillas: answer.ancillas,
         bits: answer.bits,
     })
+}
+
+/// The listing of a circuit is put into the text, whose rest stays as it was; a
+/// refusal leaves all of it. Gives the listing within the text. Its first line is
+/// n, the ancillas and the size, which is gates, data wires and ancillas
+/// together; then each gate has a line. A text of [`MOST_LISTING`] bytes takes
+/// every listing, and six times the circuit's length is enough too.
+///
+/// ```
+/// use foq::{circuit_list, compile_to_vec, Refusal, PAIRS};
+///
+/// let circuit = compile_to_vec(PAIRS, 1)?;
+/// let listing = "1 1 5\n1 X 2\n2 X 1 +2\n3 X 2\n";
+/// assert_eq!(circuit_list(&circuit, &mut [0; 27])?, listing);
+/// let short = &mut [0; 26];
+/// assert_eq!(circuit_list(&circuit, short), Err(Refusal::NO_ROOM));
+/// assert_eq!(circuit_list(PAIRS, short), Err(Refusal::NOT_WELL_FORMED));
+/// # Ok::<(), Refusal>(())
+/// ```
+///
+/// # Errors
+/// [`Refusal::NOT_WELL_FORMED`] exactly where [`circuit_read`] refuses, then
+/// [`Refusal::NO_ROOM`].
+pub fn circuit_list<'a>(circuit: &[u8], text: &'a mut [u8]) -> Result<&'a str, Refusal> {
+    let answer = border::circuit_list(circuit, text);
+    Refusal::unless_success(answer.number)?;
+    let length = usize::try_from(answer.value).expect("a listing lies within its text");
+    Ok(str::from_utf8(&text[..length]).expect("a listing is ASCII"))
+}
+
+/// The listing of a circuit, with a text of its own, in which every listing has
+/// its place.
+///
+/// ```
+/// let circuit = foq::compile_to_vec(foq::PAIRS, 3)?;
+/// let listing = foq::circuit_list_to_string(&circuit)?;
+/// let mut lines = listing.lines();
+/// // Nine gates on three data wires and three ancillas.
+/// assert_eq!(lines.next(), Some("3 3 15"));
+/// assert_eq!(lines.nth(1), Some("2 X 5 -1 -2 +4"));
+/// assert_eq!(lines.count(), 7);
+/// # Ok::<(), foq::Refusal>(())
+/// ```
+///
+/// # Errors
+/// [`Refusal::NOT_WELL_FORMED`].
+pub fn circuit_list_to_string(circuit: &[u8]) -> Result<String, Refusal> {
+    let mut text = vec![0; MOST_LISTING];
+    Ok(circuit_list(circuit, &mut text)?.to_string())
 }
 
 /// One band of a circuit's page, into a text: place 0 asks for the first band,
