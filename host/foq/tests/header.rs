@@ -1,7 +1,7 @@
 //! The constants of `foq.h` are those of the definitions that the proofs cite,
 //! of the bindings, and of the bytes that tables and circuits are made of.
 
-use foq::{Refusal, BLOCK_LENGTH, LEAST_WORKSPACE, MOST_BAND, MOST_CIRCUIT};
+use foq::{Refusal, BLOCK_LENGTH, LEAST_WORKSPACE, MOST_BAND, MOST_CIRCUIT, MOST_LISTING};
 use foq_generator::tree::{choose, table, Condition, Number, Statement};
 use foq_reference::{circuit_bytes, Action, Circuit, Control, Gate};
 use std::collections::BTreeMap;
@@ -61,7 +61,7 @@ fn the_header_has_the_constants_of_the_definitions() {
     let others = ["KIND_", "MAP_", "BASE_", "GATE_", "ENOUGH_STACK"];
     limits.retain(|name, _| !others.iter().any(|other| name.starts_with(other)));
     assert_eq!(limits, proved());
-    assert_eq!(limits.len(), 31);
+    assert_eq!(limits.len(), 32);
 }
 
 #[test]
@@ -76,6 +76,7 @@ fn the_bindings_have_the_constants_of_the_header() {
         ("LEAST_WORKSPACE", LEAST_WORKSPACE),
         ("MOST_BAND", MOST_BAND),
         ("MOST_CIRCUIT", MOST_CIRCUIT),
+        ("MOST_LISTING", MOST_LISTING),
     ] {
         assert_eq!(defined[name], length as u32);
     }
