@@ -130,7 +130,7 @@ pub struct Circuit {
     pub n: u8,
     /// The ancilla byte.
     pub ancillas: u8,
-    /// The gates; "The size of a circuit is its gate count."
+    /// The gates, in order; the header has their number, the "gate count".
     pub gates: Vec<Gate>,
 }
 

@@ -4,7 +4,8 @@
 //! 01: the program table, its meaning, access faults, calls and width, the
 //! emission, the circuit, the refusals with their order, and the listing. Of
 //! document 02 there is the page of a circuit (S-1), which is also read again,
-//! and the size of what is left (S-2), a third base of numbers.
+//! the size of what is left (S-2), a third base of numbers, and the published
+//! circuit size (S-4) in the listing's first line.
 //! Words in quotation marks in the comments are the documents' own.
 
 #![deny(clippy::unwrap_used, clippy::expect_used, clippy::panic)]

@@ -1,4 +1,5 @@
-//! Document 01, "Worked programs": what the listing program prints.
+//! Document 01, "Worked programs": what the listing program prints, with the
+//! size of document 02, S-4, "Published circuit size."
 
 use crate::circuit::{read_circuit, Action, Circuit, Control, Gate, LONGEST_CIRCUIT};
 use crate::operations::{compile, SHORTEST_WORKSPACE};
@@ -24,11 +25,18 @@ pub fn listing(input: &[u8]) -> Vec<u8> {
 /// from 1.
 fn circuit_lines(circuit: &Circuit) -> String {
     let Circuit { n, ancillas, gates } = circuit;
-    let mut lines = format!("{n} {ancillas} {}\n", gates.len());
+    let mut lines = format!("{n} {ancillas} {}\n", size(circuit));
     for (number, gate) in (1..).zip(gates) {
         lines.push_str(&gate_line(number, gate));
     }
     lines
+}
+
+/// "The size on the listing's first line becomes gates plus data wires plus
+/// ancillas". In source 000, just before definition 8: "The size #C of a
+/// circuit C is equal to the number of its gates and wires."
+fn size(circuit: &Circuit) -> usize {
+    circuit.gates.len() + usize::from(circuit.n) + usize::from(circuit.ancillas)
 }
 
 /// "then gate number, X or S, target (for a swap both, lower first), controls

@@ -191,7 +191,7 @@ fn an_emptied_list_has_size_0() {
     for removals in [[Constant(0), LeftPlus(1)], [LeftPlus(0), LeftPlus(1)]] {
         let calls = table(&call(&removals, 1), std::slice::from_ref(&body));
         assert_eq!(ran(&calls, 3, 0b101), Ok(0b101));
-        assert_eq!(listed(&calls, 3), "3 0 0\n");
+        assert_eq!(listed(&calls, 3), "3 0 3\n");
     }
     // A position of the empty list touches nothing: 0 + 1 is past its end.
     for constant in [-1, 0, 1, 3] {
@@ -266,12 +266,12 @@ fn position_a_of_a_qcase_goes_by_what_all_removals_left() {
     assert_eq!(ran(&behind_one, 4, 0b0000), Ok(0b0001));
     assert_eq!(ran(&behind_one, 4, 0b0100), Ok(0b0101));
     assert_eq!(ran(&behind_one, 4, 0b1000), Ok(0b1010));
-    assert_eq!(listed(&behind_one, 4), "4 0 2\n1 X 1 -4\n2 X 2 +4\n");
+    assert_eq!(listed(&behind_one, 4), "4 0 6\n1 X 1 -4\n2 X 2 +4\n");
     // Of 2 and 3 the last decides.
     let behind_two = asks(&[Constant(1), LeftPlus(0)]);
     assert_eq!(ran(&behind_two, 4, 0b1000), Ok(0b1001));
     assert_eq!(ran(&behind_two, 4, 0b0100), Ok(0b0110));
-    assert_eq!(listed(&behind_two, 4), "4 0 2\n1 X 1 -3\n2 X 2 +3\n");
+    assert_eq!(listed(&behind_two, 4), "4 0 6\n1 X 1 -3\n2 X 2 +3\n");
     // Of 2 alone: the one branch touches the closed qubit 2.
     assert_eq!(
         judged(&asks(&[Constant(1), LeftPlus(0), LeftPlus(0)]), 4),
@@ -317,7 +317,7 @@ fn a_body_gets_what_base_2_left() {
     assert_eq!(ran(&touches(SizePlus(0)), 4, 0), Ok(0b0100));
     assert_eq!(ran(&touches(LeftPlus(-1)), 4, 0), Ok(0b0010));
     assert_eq!(ran(&touches(LeftPlus(1)), 4, 0), Err(12));
-    let printed = "4 1 3\n1 X 5\n2 X 3 +5\n3 X 5\n";
+    let printed = "4 1 8\n1 X 5\n2 X 3 +5\n3 X 5\n";
     assert_eq!(listed(&touches(LeftPlus(0)), 4), printed);
     // And the body's removals go on from there: of 3 alone.
     let inner = not(&[LeftPlus(-1)], LeftPlus(0));
@@ -358,7 +358,7 @@ fn merged_lists_go_by_base_2() {
     let splits = qcase(&[], LeftPlus(-3), &first, &later);
     let flips = qcase(&[], LeftPlus(0), &not(&[LeftPlus(0)], LeftPlus(0)), &SKIP);
     let swapping = procedure(&choose(GREATER, LeftPlus(0), Constant(2), &splits, &flips));
-    let printed = "4 3 11\n1 X 5\n2 X 6 -1 +5\n3 X 7 +1 +5\n4 X 6 +7\n5 S 2 3 +7\n6 X 3 -4 +6\n\
+    let printed = "4 3 18\n1 X 5\n2 X 6 -1 +5\n3 X 7 +1 +5\n4 X 6 +7\n5 S 2 3 +7\n6 X 3 -4 +6\n\
                    7 S 2 3 +7\n8 X 6 +7\n9 X 7 +1 +5\n10 X 6 -1 +5\n11 X 5\n";
     assert_eq!(listed(&swapping, 4), printed);
     for word in 0..16 {

@@ -86,7 +86,8 @@ fn pairs_agrees_with_its_circuit() {
 
 #[test]
 fn pairs_lists_as_printed() {
-    let printed = "3 3 9\n1 X 4\n2 X 5 -1 -2 +4\n3 X 6 +1 +2 +4\n4 X 5 +6\n5 X 3 +5\n6 X 5 +6\n\
+    // The first line is document 02's: "PAIRS at n = 3 begins `3 3 15`".
+    let printed = "3 3 15\n1 X 4\n2 X 5 -1 -2 +4\n3 X 6 +1 +2 +4\n4 X 5 +6\n5 X 3 +5\n6 X 5 +6\n\
                    7 X 6 +1 +2 +4\n8 X 5 -1 -2 +4\n9 X 4\n";
     assert_eq!(listed(&bytes(PAIRS), 3), printed);
 }
@@ -204,7 +205,7 @@ fn the_shortest_circuit_needs_a_room_of_seven() {
     assert_eq!(compile(&skip, 5, 7, WORKSPACE), Ok(header));
     assert_eq!(compile(&skip, 5, 6, WORKSPACE), Err(23));
     assert_eq!(compile(&skip, 5, 0, WORKSPACE), Err(23));
-    assert_eq!(listed(&skip, 5), "5 0 0\n");
+    assert_eq!(listed(&skip, 5), "5 0 5\n");
 }
 
 #[test]
@@ -283,7 +284,7 @@ fn later_list_2_4_against_first_list_3_4_gives_one_swap() {
         case(2, not(1), Statement::Skip),
     );
     let swapping = procedure(body);
-    let printed = "4 3 11\n1 X 5\n2 X 6 -1 +5\n3 X 7 +1 +5\n4 X 6 +7\n5 S 2 3 +7\n6 X 3 -4 +6\n\
+    let printed = "4 3 18\n1 X 5\n2 X 6 -1 +5\n3 X 7 +1 +5\n4 X 6 +7\n5 S 2 3 +7\n6 X 3 -4 +6\n\
                    7 S 2 3 +7\n8 X 6 +7\n9 X 7 +1 +5\n10 X 6 -1 +5\n11 X 5\n";
     assert_eq!(listed(&swapping, 4), printed);
     compare_all_words(&swapping, 4);
@@ -323,7 +324,7 @@ fn left_and_right_parts_stand_as_an_onion() {
         sequence(not(1), sequence(call(1, &[1]), not(2))),
         not(1),
     );
-    let printed = "2 2 7\n1 X 3\n2 X 1 +3\n3 X 4 +3\n4 X 2 +4\n5 X 4 +3\n6 X 2 +3\n7 X 3\n";
+    let printed = "2 2 11\n1 X 3\n2 X 1 +3\n3 X 4 +3\n4 X 2 +4\n5 X 4 +3\n6 X 2 +3\n7 X 3\n";
     assert_eq!(listed(&procedure(body), 2), printed);
 }
 
@@ -334,7 +335,7 @@ fn a_branch_of_width_0_goes_left_in_its_turn() {
         sequence(case(1, not(2), call(1, &[1])), not(2)),
         not(1),
     );
-    let printed = "2 2 7\n1 X 3\n2 X 2 -1 +3\n3 X 4 +1 +3\n4 X 2 +4\n5 X 4 +1 +3\n6 X 2 +3\n\
+    let printed = "2 2 11\n1 X 3\n2 X 2 -1 +3\n3 X 4 +1 +3\n4 X 2 +4\n5 X 4 +1 +3\n6 X 2 +3\n\
                    7 X 3\n";
     assert_eq!(listed(&procedure(body), 2), printed);
 }
@@ -344,7 +345,7 @@ fn an_if_is_the_width_1_part_whatever_it_chooses() {
     // At size 1 the if chooses NOT, yet what follows it still goes right, and
     // so behind nothing else: gates 4 and 5 are the two parts of one body.
     let body = sequence(choose(longer_than(1), call(1, &[1]), not(1)), not(1));
-    let printed = "2 2 7\n1 X 3\n2 X 4 +3\n3 X 2 +4\n4 X 2 +4\n5 X 4 +3\n6 X 1 +3\n7 X 3\n";
+    let printed = "2 2 11\n1 X 3\n2 X 4 +3\n3 X 2 +4\n4 X 2 +4\n5 X 4 +3\n6 X 1 +3\n7 X 3\n";
     assert_eq!(listed(&procedure(body), 2), printed);
 }
 
@@ -356,7 +357,7 @@ fn nested_chains_take_wires_above_those_in_use_and_give_them_back() {
         Statement::Skip,
     );
     let nested = table(call(1, &[]), &[body, not(1)]);
-    let printed = "2 3 10\n1 X 3\n2 X 4 +3\n3 X 1 +4\n4 X 4 +3\n5 X 4 +3\n6 X 4 +3\n7 X 5 +3\n\
+    let printed = "2 3 15\n1 X 3\n2 X 4 +3\n3 X 1 +4\n4 X 4 +3\n5 X 4 +3\n6 X 4 +3\n7 X 5 +3\n\
                    8 X 1 +5\n9 X 5 +3\n10 X 3\n";
     assert_eq!(listed(&nested, 2), printed);
     let tally = emitted(&nested, 2).tally;
@@ -372,7 +373,7 @@ fn bodies_go_by_length_and_then_by_first_call() {
     let first = choose(longer_than(3), four, choose(longer_than(2), three, not(1)));
     let second = choose(longer_than(4), call(1, &[1]), not(2));
     let mixed = table(call(1, &[]), &[first, second]);
-    let printed = "4 5 14\n1 X 5\n2 X 6 -1 +5\n3 X 7 +1 +5\n4 X 8 -2 +7\n5 X 9 +2 +7\n6 X 6 +9\n\
+    let printed = "4 5 23\n1 X 5\n2 X 6 -1 +5\n3 X 7 +1 +5\n4 X 8 -2 +7\n5 X 9 +2 +7\n6 X 6 +9\n\
                    7 X 4 +6\n8 X 3 +8\n9 X 6 +9\n10 X 9 +2 +7\n11 X 8 -2 +7\n12 X 7 +1 +5\n\
                    13 X 6 -1 +5\n14 X 5\n";
     assert_eq!(listed(&mixed, 4), printed);
@@ -384,10 +385,10 @@ fn a_recursive_call_with_nothing_left_emits_nothing() {
     let body = sequence(call(1, &[0]), not(1));
     assert_eq!(
         listed(&procedure(body), 2),
-        "2 1 3\n1 X 3\n2 X 1 +3\n3 X 3\n"
+        "2 1 6\n1 X 3\n2 X 1 +3\n3 X 3\n"
     );
     let main = sequence(call(1, &[1, 1]), not(1));
-    assert_eq!(listed(&table(main, &[not(1)]), 2), "2 0 1\n1 X 1\n");
+    assert_eq!(listed(&table(main, &[not(1)]), 2), "2 0 3\n1 X 1\n");
 }
 
 #[test]
