@@ -1,11 +1,12 @@
 //! The parts of `foq`, a command line for people: programs as text, circuits as
-//! listings and as OpenQASM.
+//! OpenQASM.
 //!
 //! Nothing here is proved, and nothing that is proved depends on it. What
-//! decides is `libfoq.a`: verdict, run and compile see only a table's bytes.
+//! decides is `libfoq.a`: verdict, run and compile see only a table's bytes, and
+//! listings and pages are its own.
 //!
 //! - [`tree`] holds the tree of a program, [`bytes`] its table, [`text`] its text.
-//! - [`circuit`] takes a circuit's bytes apart, for [`listing`] and [`qasm`].
+//! - [`qasm`] turns the listing of a circuit into OpenQASM.
 
 #![deny(clippy::unwrap_used, clippy::expect_used, clippy::panic)]
 
@@ -13,6 +14,4 @@ pub mod bytes;
 pub mod text;
 pub mod tree;
 
-pub mod circuit;
-pub mod listing;
 pub mod qasm;

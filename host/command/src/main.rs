@@ -1,9 +1,9 @@
 //! `foq`: verdict, run and circuit of a FOQ program, for people at a shell.
 //!
-//! Verdict, run, compile, the circuit run and the bands of a page are the proved
-//! functions of `libfoq.a`. This program stands outside of what is proved: it
-//! reads files, turns texts into tables and circuits into listings, and says
-//! refusals in words.
+//! Verdict, run, compile, the circuit run, listings and the bands of a page are
+//! the proved functions of `libfoq.a`. This program stands outside of what is
+//! proved: it reads files, turns texts into tables and listings into OpenQASM,
+//! and says refusals in words.
 
 #![deny(clippy::unwrap_used, clippy::expect_used, clippy::panic)]
 
@@ -13,8 +13,6 @@ mod word;
 
 use failure::Failure;
 use foq::{Refusal, LEAST_WORKSPACE};
-use foq_command::circuit::{self, Circuit};
-use foq_command::listing::listing;
 use foq_command::qasm::qasm;
 use foq_command::{bytes, text};
 use source::{contents, Source};
@@ -48,9 +46,8 @@ docs/TEXT.md says how a text is written. WORD is decimal, or behind 0x or 0b;
 its lowest bit is qubit 1. A refusal ends with status 1; wrong arguments, a
 wrong text or a file that cannot be read or written with status 2.
 
-Verdict, run, compile, the run of a circuit and each band of a page are proved.
-Texts, OpenQASM and the listings of this command are not; the listing program
-is.
+Verdict, run, compile, the run of a circuit, its listing and each band of its
+page are proved. Texts and OpenQASM are not.
 ";
 
 fn main() -> ExitCode {
@@ -127,16 +124,14 @@ fn compiled(file: &OsStr, n: &OsStr) -> Result<Vec<u8>, Failure> {
     foq::compile_to_vec(&Source::read(file)?.table(), n).map_err(refused(file))
 }
 
-/// The gates of a circuit, if it is well formed.
-fn gates(file: &OsStr, circuit: &[u8]) -> Result<Circuit, Failure> {
-    let read = foq::circuit_read(circuit).map(|_| circuit::read(circuit));
-    let gates = read.and_then(|gates| gates.ok_or(Refusal::NOT_WELL_FORMED));
-    gates.map_err(refused(file))
+/// The listing of a circuit, if it is well formed.
+fn listing(file: &OsStr, circuit: &[u8]) -> Result<String, Failure> {
+    foq::circuit_list_to_string(circuit).map_err(refused(file))
 }
 
 /// `foq list FILE N` and `foq circuit list FILE`, with the circuit's bytes.
 fn list(file: &OsStr, circuit: &[u8]) -> Result<(), Failure> {
-    say(listing(&gates(file, circuit)?).as_bytes())
+    say(listing(file, circuit)?.as_bytes())
 }
 
 /// `foq page FILE N` and `foq circuit page FILE`, with the circuit's bytes. A
@@ -151,8 +146,10 @@ fn print_page(file: &OsStr, circuit: &[u8]) -> Result<(), Failure> {
 }
 
 /// `foq qasm FILE N` and `foq circuit qasm FILE`, with the circuit's bytes.
+/// Every listing has its program.
 fn print_qasm(file: &OsStr, circuit: &[u8]) -> Result<(), Failure> {
-    say(qasm(&gates(file, circuit)?).as_bytes())
+    let program = qasm(&listing(file, circuit)?).ok_or(Refusal::NOT_WELL_FORMED);
+    say(program.map_err(refused(file))?.as_bytes())
 }
 
 /// `foq circuit run FILE WORD`: the data wires, written as WORD is. The ancillas

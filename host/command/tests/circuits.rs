@@ -1,13 +1,11 @@
-//! Circuits as listings and as OpenQASM, made from the bytes that the proved
-//! compile gives.
+//! Circuits as listings and as OpenQASM. The listings are the proved ones, of the
+//! bytes that the proved compile gives.
 
 #[path = "../../foq/tests/counts/mod.rs"]
 mod counts;
 
 use counts::{assert_reached, count, Counts};
 use foq::{Refusal, LEAST_WORKSPACE, MOST_CIRCUIT};
-use foq_command::circuit;
-use foq_command::listing::listing;
 use foq_command::qasm::qasm;
 use foq_generator::programs::{program, wild_program, LARGE, MERGING, SMALL};
 use foq_generator::tree::encode;
@@ -21,15 +19,16 @@ fn compiled(table: &[u8], n: u32) -> Result<Vec<u8>, Refusal> {
     Ok(circuit.to_vec())
 }
 
-/// The circuit of PAIRS on three qubits.
-fn pairs() -> circuit::Circuit {
-    circuit::read(&compiled(PAIRS, 3).unwrap()).unwrap()
+/// The listing of a table's circuit.
+fn listed(table: &[u8], n: u32) -> Result<String, Refusal> {
+    foq::circuit_list_to_string(&compiled(table, n)?)
 }
 
+/// Document 01 has the gates, document 02 the size in front of them.
 #[test]
-fn pairs_lists_as_in_document_01() {
+fn pairs_lists_as_in_the_documents() {
     let worked = "\
-3 3 9
+3 3 15
 1 X 4
 2 X 5 -1 -2 +4
 3 X 6 +1 +2 +4
@@ -40,13 +39,29 @@ fn pairs_lists_as_in_document_01() {
 8 X 5 -1 -2 +4
 9 X 4
 ";
-    assert_eq!(listing(&pairs()), worked);
+    assert_eq!(listed(PAIRS, 3).unwrap(), worked);
 }
 
 #[test]
 fn pairs_in_openqasm_is_the_example() {
     let example = include_str!("../../../examples/pairs.qasm");
-    assert_eq!(qasm(&pairs()), example);
+    assert_eq!(qasm(&listed(PAIRS, 3).unwrap()).unwrap(), example);
+}
+
+#[test]
+fn what_is_no_listing_has_no_program() {
+    for text in [
+        "",
+        "14\n",
+        "3 many 15\n",
+        "3 3 15\n\n",
+        "3 3 15\n1 Y 4\n",
+        "3 3 15\n1 X 0\n",
+        "3 3 15\n1 X 256\n",
+        "3 3 15\n1 X 4 +\n",
+    ] {
+        assert_eq!(qasm(text), None, "{text}");
+    }
 }
 
 /// The gates of an OpenQASM program on n qubits, read back line by line.
@@ -96,19 +111,19 @@ fn wire(operand: &str, n: u8) -> u8 {
 
 /// Checks one table on n qubits and counts what it shows.
 fn check(table: &[u8], n: u8, counts: &mut Counts) {
-    let bytes = compiled(table, n.into());
-    let listed = match &bytes {
-        Ok(bytes) => listing(&circuit::read(bytes).unwrap()),
+    let listed = listed(table, n.into());
+    let lines = match &listed {
+        Ok(listing) => listing.clone(),
         Err(refusal) => format!("{}\n", refusal.number()),
     };
     let expected = foq_reference::listing(&[&[n], table].concat());
-    assert_eq!(listed.as_bytes(), expected);
-    count(counts, "refused", bytes.is_err());
-    let Ok(bytes) = bytes else {
+    assert_eq!(lines.as_bytes(), expected);
+    count(counts, "refused", listed.is_err());
+    let Ok(listing) = listed else {
         return;
     };
-    let circuit = read_circuit(&bytes).unwrap();
-    let program = qasm(&circuit::read(&bytes).unwrap());
+    let circuit = read_circuit(&compiled(table, n.into()).unwrap()).unwrap();
+    let program = qasm(&listing).unwrap();
     assert_eq!(gates(&program, n), circuit.gates);
     count(counts, "listed", true);
     count(counts, "no ancilla", circuit.ancillas == 0);

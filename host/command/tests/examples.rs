@@ -1,10 +1,8 @@
 //! The examples: each text assembles to its table, each table lists and is drawn
 //! as stored, and each program computes what its text says.
 
-use foq::{LEAST_WORKSPACE, MOST_CIRCUIT};
+use foq::LEAST_WORKSPACE;
 use foq_command::bytes::encode;
-use foq_command::circuit;
-use foq_command::listing::listing;
 use foq_command::text::parse;
 use foq_reference::{gates_on, read_circuit};
 use std::collections::BTreeSet;
@@ -34,9 +32,8 @@ fn names() -> BTreeSet<String> {
 
 /// The listing of a table on n qubits.
 fn listed(table: &[u8], n: u32) -> String {
-    let mut room = vec![0; MOST_CIRCUIT];
-    let bytes = foq::compile(table, n, &mut room, &mut [0; LEAST_WORKSPACE]).unwrap();
-    listing(&circuit::read(bytes).unwrap())
+    let circuit = foq::compile_to_vec(table, n).unwrap();
+    foq::circuit_list_to_string(&circuit).unwrap()
 }
 
 /// The page of a circuit.
