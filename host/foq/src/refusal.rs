@@ -44,7 +44,7 @@ refusals! {
     NOT_WELL_FORMED = 14, "the circuit is not well formed";
     SHORT_WORKSPACE = 21, "a workspace shorter than 32,768 bytes";
     MANY_WIRES = 22, "a wire number above 255 would be taken";
-    NO_ROOM = 23, "the header or the next gate would pass the end of the room, or of 65,536 bytes, or a listing the end of its text";
+    NO_ROOM = 23, "the header or the next gate would pass the end of the room, or of 65,536 bytes, or a text is shorter than its listing";
 }
 
 impl Refusal {
