@@ -5,7 +5,8 @@
 //! emission, the circuit, the refusals with their order, and the listing. Of
 //! document 02 there is the page of a circuit (S-1), which is also read again,
 //! the size of what is left (S-2), a third base of numbers, and the published
-//! circuit size (S-4) in the listing's first line.
+//! circuit size (S-4) in the listing's first line; a circuit can be listed
+//! without its table.
 //! Words in quotation marks in the comments are the documents' own.
 
 #![deny(clippy::unwrap_used, clippy::expect_used, clippy::panic)]
@@ -29,7 +30,7 @@ pub use circuit::{
     LONGEST_CIRCUIT,
 };
 pub use emission::{emission, Emission, Tally};
-pub use listing::listing;
+pub use listing::{circuit_list, listing};
 pub use meaning::{holds, remaining};
 pub use operations::{compile, plain_verdict, run, verdict, SHORTEST_WORKSPACE};
 pub use page::{gates_on, page};

@@ -3,6 +3,7 @@
 
 use crate::circuit::{read_circuit, Action, Circuit, Control, Gate, LONGEST_CIRCUIT};
 use crate::operations::{compile, SHORTEST_WORKSPACE};
+use crate::refusal;
 
 /// "The listing program reads the byte n and then a table on standard input,
 /// and lends compile a room of 65,536 bytes. Empty input counts as n = 0. A
@@ -19,6 +20,22 @@ pub fn listing(input: &[u8]) -> Vec<u8> {
         Err(refusal) => format!("{refusal}\n"),
     };
     lines.into_bytes()
+}
+
+/// Lists a circuit given as its bytes: the lines that the listing program
+/// prints for a table that compiles to them, for a text of this many bytes.
+/// A listing can be longer than any circuit; no length of the text is too
+/// great.
+///
+/// # Errors
+/// "14 circuit not well formed", then 23 where the text is shorter than the
+/// whole listing.
+pub fn circuit_list(bytes: &[u8], room: usize) -> Result<Vec<u8>, u32> {
+    let lines = circuit_lines(&read_circuit(bytes)?);
+    if lines.len() > room {
+        return Err(refusal::ROOM);
+    }
+    Ok(lines.into_bytes())
 }
 
 /// "Otherwise the first line is n, ancillas, size"; then the gates, numbered
