@@ -2,6 +2,8 @@
 //! are no circuit and bytes that are no page, and random circuits whose gates
 //! are read off their pages again.
 
+mod met;
+
 use foq_generator::circuits::{circuit, circuit_of, crowded_circuit, sizes};
 use foq_generator::damage::{damaged, single_changes, truncations};
 use foq_generator::{Random, PAIRS};
@@ -9,7 +11,7 @@ use foq_reference::{
     circuit_bytes, compile, gates_on, page, read_circuit, Action, Circuit, Control, Gate,
     LONGEST_CIRCUIT, SHORTEST_WORKSPACE,
 };
-use std::collections::BTreeMap;
+use met::{add, assert_met, Counts};
 use std::io::Write;
 use std::process::{Command, Stdio};
 
@@ -353,18 +355,6 @@ fn bytes_that_are_no_page_have_no_gates() {
     }
 }
 
-/// How often each class was met.
-type Counts = BTreeMap<&'static str, usize>;
-
-/// Asserts that each class was met at least so often.
-fn assert_met(counts: &Counts, least: &[(&str, usize)]) {
-    println!("{counts:#?}");
-    for (class, least) in least {
-        let count = counts.get(class).copied().unwrap_or(0);
-        assert!(count >= *least, "{class}: {count} of {least}");
-    }
-}
-
 /// Mostly a circuit of up to three bands, now and then one whose gates name
 /// every wire.
 fn random_circuit(random: &mut Random) -> Vec<u8> {
@@ -420,9 +410,7 @@ fn the_gates_of_random_circuits_are_read_off_their_pages() {
         if turn % 3 == 0 {
             input = damaged(&mut random, &input);
         }
-        for class in check_page(&input) {
-            *counts.entry(class).or_default() += 1;
-        }
+        add(&mut counts, check_page(&input));
     }
     let least = [
         ("refused", 1_000),
@@ -482,7 +470,7 @@ fn bytes_with_gates_are_the_page_of_those_gates() {
                 }
             }
         };
-        *counts.entry(class).or_default() += 1;
+        add(&mut counts, [class]);
     }
     let least = [
         ("no page", 20_000),

@@ -2,6 +2,8 @@
 //! emission keeps its promises. Each test counts the programs of the classes
 //! that it is meant to reach, so that it cannot run empty.
 
+mod met;
+
 use foq_generator::programs::{program, Shape, LARGE, MERGING, SMALL};
 use foq_generator::tree::encode;
 use foq_generator::Random;
@@ -9,7 +11,8 @@ use foq_reference::{
     circuit_run, compile, emission, gate_bound, read_circuit, read_table, run, verdict, Circuit,
     Emission, Gate,
 };
-use std::collections::{BTreeMap, BTreeSet};
+use met::{add, assert_met, Counts};
+use std::collections::BTreeSet;
 use std::thread;
 
 const WORKSPACE: usize = 32_768;
@@ -17,8 +20,6 @@ const ROOM: usize = 65_536;
 
 /// The classes that a program shows for some number of qubits.
 type Shown = BTreeSet<&'static str>;
-/// How many programs show each class.
-type Counts = BTreeMap<&'static str, usize>;
 
 /// Checks one table on n qubits with these start words.
 fn check(table: &[u8], n: u32, words: &[u64], shown: &mut Shown) {
@@ -131,22 +132,6 @@ fn check_some_words(seed: u64, shape: &Shape, programs: usize) -> Counts {
     counts
 }
 
-/// Adds one program's classes.
-fn add(counts: &mut Counts, shown: Shown) {
-    for class in shown {
-        *counts.entry(class).or_default() += 1;
-    }
-}
-
-/// Asserts that each class has at least so many programs.
-fn assert_reached(counts: &Counts, least: &[(&str, usize)]) {
-    println!("{counts:#?}");
-    for (class, least) in least {
-        let count = counts.get(class).copied().unwrap_or(0);
-        assert!(count >= *least, "{class}: {count} of {least}");
-    }
-}
-
 #[test]
 fn circuits_do_what_runs_do_on_every_word() {
     let small = thread::spawn(|| check_all_words(1, &SMALL, 16_000, 6));
@@ -166,7 +151,7 @@ fn circuits_do_what_runs_do_on_every_word() {
         ("nested in a right part", 400),
         ("refused", 500),
     ];
-    assert_reached(&counts, &least);
+    assert_met(&counts, &least);
 }
 
 #[test]
@@ -179,7 +164,7 @@ fn circuits_of_many_procedures_do_what_runs_do_on_every_word() {
         ("nested in a left part", 800),
         ("nested in a right part", 100),
     ];
-    assert_reached(&counts, &least);
+    assert_met(&counts, &least);
 }
 
 #[test]
@@ -195,5 +180,5 @@ fn circuits_on_many_qubits_do_what_runs_do_on_some_words() {
         ("swaps matter", 150),
         ("too large", 20),
     ];
-    assert_reached(&counts, &least);
+    assert_met(&counts, &least);
 }
