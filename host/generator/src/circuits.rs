@@ -28,6 +28,16 @@ pub fn crowded_circuit(random: &mut Random, n: u8, ancillas: u8, gates: usize) -
     filled(random, n, ancillas, gates, crowded_gate)
 }
 
+/// The circuit with the longest listing that is known: NOTs of the last wire,
+/// and a swap for the byte that they leave. A NOT has two bytes and, where gate
+/// and wire have most digits, a line of twelve; a swap or a control gives less
+/// for its bytes.
+pub fn longest_listing() -> Vec<u8> {
+    let mut gates: Vec<&[u8]> = vec![&[0, 255]; 32_764];
+    gates[0] = &[4, 254, 255];
+    circuit_of(32, 223, &gates)
+}
+
 /// Numbers of data wires and ancillas whose sum is at most 255: mostly few
 /// ancillas, now and then any number or as many as there may be.
 pub fn sizes(random: &mut Random) -> (u8, u8) {
