@@ -12,6 +12,12 @@ pub fn answer(given: Result<u64, u32>) -> border::Answer {
     }
 }
 
+/// The answer where these bytes are written: their length.
+pub fn written(given: &Result<Vec<u8>, u32>) -> border::Answer {
+    let length = given.as_ref().map(|bytes| bytes.len() as u64);
+    answer(length.map_err(|number| *number))
+}
+
 /// The answer of a circuit read.
 pub fn header(read: &Result<Circuit, u32>) -> border::Circuit {
     match read {

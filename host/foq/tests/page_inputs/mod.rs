@@ -1,4 +1,4 @@
-//! Circuits whose pages are drawn, and bytes that are mostly none.
+//! Circuits that are drawn and listed, and bytes that are mostly none.
 
 // Each test uses a part of this.
 #![allow(dead_code)]
