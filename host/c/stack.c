@@ -23,7 +23,7 @@
 
 static uint8_t table[FOQ_MOST_CIRCUIT];
 static uint8_t circuit[FOQ_MOST_CIRCUIT];
-static uint8_t text[FOQ_MOST_BAND];
+static uint8_t text[FOQ_MOST_LISTING];
 static uint8_t workspace[FOQ_LEAST_WORKSPACE];
 static size_t table_length, circuit_length;
 static uint32_t n;
@@ -63,6 +63,15 @@ static void *circuit_read(void *unused)
 static void *circuit_run(void *unused)
 {
     foq_circuit_run(circuit, circuit_length, word);
+    return unused;
+}
+
+/* In one walk, and for a text that is just long enough. */
+static void *circuit_list(void *unused)
+{
+    foq_answer listing =
+        foq_circuit_list(circuit, circuit_length, text, sizeof text);
+    foq_circuit_list(circuit, circuit_length, text, listing.value);
     return unused;
 }
 
@@ -110,6 +119,7 @@ int main(int count, char **arguments)
                      {"foq_compile", compile},
                      {"foq_circuit_read", circuit_read},
                      {"foq_circuit_run", circuit_run},
+                     {"foq_circuit_list", circuit_list},
                      {"foq_page_band", page_band}};
     uint64_t qubits;
     if (count != 4 || !read_number(arguments[2], UINT32_MAX, &qubits) ||
