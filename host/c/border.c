@@ -1,18 +1,22 @@
 /*
  * Calls every function once for each case on standard input. A case is a line
- * "N WORD ROOM WORKSPACE PLACE TEXT LENGTH" and that many bytes, which are taken
- * as a table and as a circuit. What is printed is a line
+ * "N WORD ROOM WORKSPACE PLACE TEXT LISTING LENGTH" and that many bytes, which
+ * are taken as a table and as a circuit. TEXT is the length of a text for a band,
+ * LISTING of one for a listing. What is printed is a line
  *
  *     verdict | number end-word | number length | number qubits ancillas gates |
- *     number data ancillas bits-in-hexadecimal | number length next
+ *     number data ancillas bits-in-hexadecimal | number length next |
+ *     number length
  *
- * and behind it the bytes that compile wrote and those of a band.
+ * and behind it the bytes that compile wrote, those of a band and those of a
+ * listing.
  *
  * A slice stands just before a fence, so that reading or writing past its end
  * stops the program, and so does writing into the table or circuit. An empty
  * slice is null. The bytes before a slice, a refused room or text, a text that
- * is too short for its band, and what follows a circuit or a band must stay as
- * they are, a workspace must come back as zeros: otherwise the program stops too.
+ * is too short for its band, and what follows a circuit, a band or a listing must
+ * stay as they are, a workspace must come back as zeros: otherwise the program
+ * stops too.
  */
 #define _DEFAULT_SOURCE
 #include <string.h>
@@ -21,14 +25,14 @@
 #include "foq.h"
 #include "program.h"
 
-/* The longest slice, and the length of a fence. */
-#define MOST 131072u
+/* The longest slice, which takes every listing, and the length of a fence. */
+#define MOST FOQ_MOST_LISTING
 #define FENCE 65536u
 
 #define DIRT 0xA5
 
-/* The ends of the four slices, where their fences begin. */
-static uint8_t *bytes_end, *room_end, *workspace_end, *text_end;
+/* The ends of the five slices, where their fences begin. */
+static uint8_t *bytes_end, *room_end, *workspace_end, *text_end, *listing_end;
 
 /* Memory that ends at a fence; gives its end. */
 static uint8_t *before_a_fence(void)
@@ -48,13 +52,14 @@ static uint8_t *lent(uint8_t *end, size_t length)
     return length == 0 ? NULL : end - length;
 }
 
-/* Says whether all bytes of a range are this one. */
+/*
+ * Says whether all bytes of a range are this one: the first is, and every other
+ * one is as the one before it.
+ */
 static int all_are(const uint8_t *from, const uint8_t *to, int byte)
 {
-    while (from < to)
-        if (*from++ != byte)
-            return 0;
-    return 1;
+    return from == to ||
+           (*from == byte && memcmp(from, from + 1, (size_t)(to - from) - 1) == 0);
 }
 
 /* A workspace comes back as zeros, and nothing before it has changed. */
@@ -119,9 +124,25 @@ static size_t call_page_band(const uint8_t *circuit, size_t length,
     size_t put = band.length <= text ? band.length : 0;
     expect(all_are(start + put, text_end, DIRT), "the text's rest changed");
     expect(all_are(text_end - MOST, start, DIRT), "bytes before the text changed");
-    printf(" | %" PRIu32 " %" PRIu64 " %" PRIu64 "\n", band.number, band.length,
+    printf(" | %" PRIu32 " %" PRIu64 " %" PRIu64, band.number, band.length,
            band.next);
     return put;
+}
+
+/* Gives the length of the listing, which then stands in the text. */
+static size_t call_circuit_list(const uint8_t *circuit, size_t length,
+                                size_t text)
+{
+    foq_answer answer =
+        foq_circuit_list(circuit, length, lent(listing_end, text), text);
+    const uint8_t *start = listing_end - text;
+    expect(answer.value <= text, "a listing is longer than its text");
+    expect(all_are(start + answer.value, listing_end, DIRT),
+           "the listing's rest changed");
+    expect(all_are(listing_end - MOST, start, DIRT),
+           "bytes before the listing changed");
+    printf(" | %" PRIu32 " %" PRIu64 "\n", answer.number, answer.value);
+    return answer.value;
 }
 
 /* Reads the bytes of a case, which then can only be read. */
@@ -140,15 +161,16 @@ int main(void)
 {
     uint32_t n;
     uint64_t word, place;
-    size_t room, space, text, length;
+    size_t room, space, text, listing, length;
     bytes_end = before_a_fence();
     room_end = before_a_fence();
     workspace_end = before_a_fence();
     text_end = before_a_fence();
-    while (scanf("%" SCNu32 " %" SCNu64 " %zu %zu %" SCNu64 " %zu %zu", &n, &word,
-                 &room, &space, &place, &text, &length) == 7) {
+    listing_end = before_a_fence();
+    while (scanf("%" SCNu32 " %" SCNu64 " %zu %zu %" SCNu64 " %zu %zu %zu", &n,
+                 &word, &room, &space, &place, &text, &listing, &length) == 8) {
         expect(getchar() == '\n' && room <= MOST && space <= MOST &&
-                   text <= MOST && length <= MOST,
+                   text <= MOST && listing <= MOST && length <= MOST,
                "a case is not one");
         const uint8_t *bytes = read_bytes(length);
         call_verdict(bytes, length, n, space);
@@ -156,8 +178,10 @@ int main(void)
         size_t compiled = call_compile(bytes, length, n, room, space);
         call_circuit(bytes, length, word);
         size_t drawn = call_page_band(bytes, length, place, text);
+        size_t listed = call_circuit_list(bytes, length, listing);
         fwrite(room_end - room, 1, compiled, stdout);
         fwrite(text_end - text, 1, drawn, stdout);
+        fwrite(listing_end - listing, 1, listed, stdout);
     }
     expect(feof(stdin), "a case is not one");
     return EXIT_SUCCESS;

@@ -7,6 +7,7 @@
  *     end word 4
  *     circuit of 49 bytes
  *     3 qubits, 3 ancillas, 9 gates
+ *     3 3 15
  *     1 X 4
  *     2 X 5 -1 -2 +4
  *     ..
@@ -23,8 +24,9 @@
  *        1----o---+---------------+---o-------
  *     ..
  *
- * A gate is its number, X or S for NOT or swap, its wires and its controls: + on
- * 1, - on 0. Where a function refuses, the line is "refused" and its number.
+ * The listing, which begins with n, the ancillas and the size, is printed as
+ * foq_circuit_list gives it. Where a function refuses, the line is "refused" and
+ * its number.
  */
 #include <string.h>
 
@@ -40,7 +42,8 @@
 static uint8_t table[LONGEST_TABLE];
 /* One byte more than a circuit can have: what is longer is refused too. */
 static uint8_t circuit[FOQ_MOST_CIRCUIT + 1];
-static uint8_t text[FOQ_MOST_BAND];
+/* For a listing or, which is shorter, a band. */
+static uint8_t text[FOQ_MOST_LISTING];
 static uint8_t workspace[FOQ_LEAST_WORKSPACE];
 
 /* Says whether an answer is a success; otherwise prints the refusal. */
@@ -51,35 +54,6 @@ static int succeeds(uint32_t number)
     return number == FOQ_SUCCESS;
 }
 
-/* Notes the sign of each wire in a gate's list; gives what follows the list. */
-static const uint8_t *note_controls(char *signs, char sign, const uint8_t *list)
-{
-    uint8_t count = *list++;
-    while (count-- > 0)
-        signs[*list++] = sign;
-    return list;
-}
-
-/* Prints a gate of a well-formed circuit; gives what follows it. */
-static const uint8_t *print_gate(uint32_t number, const uint8_t *gate)
-{
-    char signs[FOQ_MOST_WIRES + 1] = {0};
-    unsigned map = *gate++;
-    unsigned target = *gate++;
-    if (map & FOQ_GATE_ON_ONE)
-        gate = note_controls(signs, '+', gate);
-    if (map & FOQ_GATE_ON_ZERO)
-        gate = note_controls(signs, '-', gate);
-    printf("%" PRIu32 " %c %u", number, map & FOQ_GATE_SWAP ? 'S' : 'X', target);
-    if (map & FOQ_GATE_SWAP)
-        printf(" %u", (unsigned)*gate++);
-    for (unsigned wire = 1; wire <= FOQ_MOST_WIRES; wire++)
-        if (signs[wire] != 0)
-            printf(" %c%u", signs[wire], wire);
-    putchar('\n');
-    return gate;
-}
-
 static void print_wires(const foq_block *block)
 {
     fputs("wires ", stdout);
@@ -88,17 +62,23 @@ static void print_wires(const foq_block *block)
     putchar('\n');
 }
 
+/* Prints a circuit's header and its listing. */
+static void show_gates(size_t length)
+{
+    foq_circuit header = foq_circuit_read(circuit, length);
+    if (!succeeds(header.number))
+        return;
+    printf("%" PRIu32 " qubits, %" PRIu32 " ancillas, %" PRIu32 " gates\n",
+           header.qubits, header.ancillas, header.gates);
+    foq_answer listing = foq_circuit_list(circuit, length, text, sizeof text);
+    if (succeeds(listing.number))
+        fwrite(text, 1, listing.value, stdout);
+}
+
 /* Prints a circuit and its wires at the end. */
 static void show_circuit(size_t length, uint64_t word)
 {
-    foq_circuit header = foq_circuit_read(circuit, length);
-    if (succeeds(header.number)) {
-        printf("%" PRIu32 " qubits, %" PRIu32 " ancillas, %" PRIu32 " gates\n",
-               header.qubits, header.ancillas, header.gates);
-        const uint8_t *gate = circuit + FOQ_HEADER_LENGTH;
-        for (uint32_t number = 1; number <= header.gates; number++)
-            gate = print_gate(number, gate);
-    }
+    show_gates(length);
     foq_block block = foq_circuit_run(circuit, length, word);
     if (succeeds(block.number))
         print_wires(&block);

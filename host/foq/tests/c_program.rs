@@ -7,8 +7,8 @@ mod programs;
 use counts::{assert_reached, count, Counts};
 use foq::border::{self, Answer, Band};
 use foq::{circuit_read, circuit_run, compile_to_vec, run, verdict, Refusal};
-use foq::{LEAST_WORKSPACE, MOST_BAND, MOST_CIRCUIT, PAIRS};
-use foq_generator::circuits::{circuit, circuit_of, crowded_circuit, sizes};
+use foq::{LEAST_WORKSPACE, MOST_BAND, MOST_CIRCUIT, MOST_LISTING, PAIRS};
+use foq_generator::circuits::{circuit, circuit_of, crowded_circuit, longest_listing, sizes};
 use foq_generator::damage::damaged;
 use foq_generator::programs::{program, SMALL};
 use foq_generator::size_left::{program_by_size_left, reversal, reversal_by_hand};
@@ -18,7 +18,7 @@ use foq_generator::tables::{
 };
 use foq_generator::tree::{encode, not, table, Number, Statement};
 use foq_generator::Random;
-use foq_reference::{page, read_circuit, Action, Control, Gate};
+use foq_reference::{circuit_list, page, read_circuit};
 use programs::{compiled, example, flags, output, page_example, printed, scratch};
 use programs::{C11, CPP, SANITIZED};
 use std::collections::{BTreeMap, BTreeSet};
@@ -193,21 +193,9 @@ fn refused_line(refusal: Refusal) -> String {
     format!("refused {}\n", refusal.number())
 }
 
-/// The lines of a well-formed circuit's gates, as the second interpreter reads
-/// them.
-fn gate_lines(circuit: &[u8]) -> String {
-    let gates = read_circuit(circuit).unwrap().gates;
-    let line = |(number, gate): (usize, Gate)| {
-        let mut line = match gate.action {
-            Action::Not { target } => format!("{number} X {target}"),
-            Action::Swap { lower, upper } => format!("{number} S {lower} {upper}"),
-        };
-        for Control { wire, asks } in gate.controls {
-            line += &format!(" {}{wire}", if asks { '+' } else { '-' });
-        }
-        line + "\n"
-    };
-    (1..).zip(gates).map(line).collect()
+/// The listing of a well-formed circuit, as the second interpreter has it.
+fn listing(circuit: &[u8]) -> String {
+    String::from_utf8(circuit_list(circuit, MOST_LISTING).unwrap()).unwrap()
 }
 
 /// What the tool is to print of a circuit.
@@ -218,7 +206,7 @@ fn circuit_lines(circuit: &[u8], word: u64) -> String {
             header.qubits,
             header.ancillas,
             header.gates,
-            gate_lines(circuit)
+            listing(circuit)
         ),
         Err(refusal) => refused_line(refusal),
     };
@@ -325,7 +313,7 @@ fn the_tool_shows_tables_as_the_bindings_do() {
     let all = [1, 2, 3, 4, 5, 6, 7, 8, 9, 10, 11, 12, 13, 22, 23];
     assert!(refusals.keys().eq(&all));
     let worked = "accepted\nend word 4\ncircuit of 49 bytes\n3 qubits, 3 ancillas, 9 gates\n\
-        1 X 4\n2 X 5 -1 -2 +4\n3 X 6 +1 +2 +4\n4 X 5 +6\n5 X 3 +5\n6 X 5 +6\n\
+        3 3 15\n1 X 4\n2 X 5 -1 -2 +4\n3 X 6 +1 +2 +4\n4 X 5 +6\n5 X 3 +5\n6 X 5 +6\n\
         7 X 6 +1 +2 +4\n8 X 5 -1 -2 +4\n9 X 4\nwires 001000\n";
     tools.assert_print(&["table", "/dev/stdin", "3", "0x0"], PAIRS, worked);
 }
@@ -399,10 +387,12 @@ struct Case {
     workspace: usize,
     place: u64,
     text: usize,
+    listing: usize,
 }
 
 impl Case {
-    /// A circuit: the functions of tables are lent nothing.
+    /// A circuit: the functions of tables are lent nothing, and for a listing
+    /// there is no text.
     fn of_circuit(bytes: Vec<u8>, word: u64, place: u64, text: usize) -> Case {
         Case {
             bytes,
@@ -412,6 +402,15 @@ impl Case {
             workspace: 0,
             place,
             text,
+            listing: 0,
+        }
+    }
+
+    /// A circuit with a text for its listing; for a band there is none.
+    fn of_listing(bytes: Vec<u8>, listing: usize) -> Case {
+        Case {
+            listing,
+            ..Case::of_circuit(bytes, 0, 0, 0)
         }
     }
 
@@ -425,9 +424,10 @@ impl Case {
             workspace,
             place,
             text,
+            listing,
         } = self;
         let length = bytes.len();
-        let line = format!("{n} {word} {room} {workspace} {place} {text} {length}\n");
+        let line = format!("{n} {word} {room} {workspace} {place} {text} {listing} {length}\n");
         [line.as_bytes(), bytes].concat()
     }
 
@@ -450,6 +450,14 @@ impl Case {
         (band, text)
     }
 
+    /// The answer of a call for the listing, and what stands in the text.
+    fn listed(&self) -> (Answer, Vec<u8>) {
+        let mut text = vec![2; self.listing];
+        let answer = border::circuit_list(&self.bytes, &mut text);
+        text.truncate(answer.value as usize);
+        (answer, text)
+    }
+
     /// What the program is to print.
     fn expected(&self) -> Vec<u8> {
         let (bytes, n, word) = (&self.bytes, self.n, self.word);
@@ -465,8 +473,9 @@ impl Case {
             .map(|byte| format!("{byte:02x}"))
             .collect();
         let (band, text) = self.band();
+        let (listed, listing) = self.listed();
         let line = format!(
-            "{judged} | {} {} | {} {} | {} {} {} {} | {} {} {} {bits} | {} {} {}\n",
+            "{judged} | {} {} | {} {} | {} {} {} {} | {} {} {} {bits} | {} {} {} | {} {}\n",
             ran.number,
             ran.value,
             compiled.number,
@@ -481,8 +490,10 @@ impl Case {
             band.number,
             band.length,
             band.next,
+            listed.number,
+            listed.value,
         );
-        [line.as_bytes(), &circuit, &text].concat()
+        [line.as_bytes(), &circuit, &text, &listing].concat()
     }
 }
 
@@ -546,6 +557,29 @@ fn band_cases() -> Vec<Case> {
     cases
 }
 
+/// Texts to try a listing with: none, one byte, about the listing's length,
+/// about six times the circuit's, and one that is always long enough.
+fn listing_texts(circuit: &[u8]) -> BTreeSet<usize> {
+    let enough = MOST_LISTING.min(6 * circuit.len());
+    let mut texts = BTreeSet::from([0, 1, enough, MOST_LISTING]);
+    if let Ok(listing) = circuit_list(circuit, MOST_LISTING) {
+        let length = listing.len();
+        texts.extend([length - 1, length, length + 1, enough - 1]);
+    }
+    texts
+}
+
+/// Circuits with many texts for their listings.
+fn listing_cases() -> Vec<Case> {
+    let kept = circuits().into_iter().map(|(circuit, _)| circuit);
+    let circuits = kept.chain(drawn()).chain([longest_listing()]);
+    let cases = circuits.flat_map(|circuit| {
+        let texts = listing_texts(&circuit).into_iter();
+        texts.map(move |text| Case::of_listing(circuit.clone(), text))
+    });
+    cases.collect()
+}
+
 /// Tables with many rooms and workspaces, and circuits.
 fn cases() -> Vec<Case> {
     let mut cases = Vec::new();
@@ -561,12 +595,14 @@ fn cases() -> Vec<Case> {
                 workspace,
                 place: 0,
                 text: MOST_BAND,
+                listing: 100,
             });
         }
     }
     let circuits = circuits().into_iter();
     cases.extend(circuits.map(|(bytes, word)| Case::of_circuit(bytes, word, 0, MOST_BAND)));
     cases.extend(band_cases());
+    cases.extend(listing_cases());
     cases
 }
 
@@ -623,11 +659,42 @@ fn assert_bands_reached(cases: &[Case]) {
     assert_reached(&counts, &least);
 }
 
+/// Asserts that calls for a listing of each sort are among the cases.
+fn assert_listings_reached(cases: &[Case]) {
+    let mut counts = Counts::new();
+    for case in cases {
+        let text = case.listing;
+        let (answer, listing) = case.listed();
+        let listed = answer.number == 0;
+        let one_walk = text >= 6 * case.bytes.len();
+        count(&mut counts, "14", answer.number == 14);
+        count(&mut counts, "23", answer.number == 23);
+        count(&mut counts, "null", answer.number == 23 && text == 0);
+        count(&mut counts, "one walk", listed && one_walk);
+        count(&mut counts, "measured", listed && !one_walk);
+        count(&mut counts, "exact", listed && listing.len() == text);
+        let whole = circuit_list(&case.bytes, MOST_LISTING);
+        let one_less = whole.is_ok_and(|whole| whole.len() == text + 1);
+        count(&mut counts, "one less", one_less);
+    }
+    let least = [
+        ("14", 3_000),
+        ("23", 2_000),
+        ("null", 2_000),
+        ("one walk", 150),
+        ("measured", 250),
+        ("exact", 80),
+        ("one less", 80),
+    ];
+    assert_reached(&counts, &least);
+}
+
 #[test]
 fn every_function_answers_at_the_border_as_the_bindings_say() {
     let cases = cases();
     println!("{} cases", cases.len());
     assert_bands_reached(&cases);
+    assert_listings_reached(&cases);
     for (compiler, name) in [
         (C11, "border-c"),
         (CPP, "border-cpp"),
