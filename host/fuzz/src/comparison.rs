@@ -159,6 +159,33 @@ fn run_circuit(
     same("circuit run", product.circuit_run(circuit, word), block)
 }
 
+/// Lists a circuit into a text of this length. Gives the length of what stands
+/// there.
+fn list_into(
+    product: &impl Operations,
+    circuit: &[u8],
+    length: usize,
+) -> Result<usize, Difference> {
+    let (ours, text) = lend(length, |text| product.circuit_list(circuit, text))?;
+    let theirs = foq_reference::circuit_list(circuit, length);
+    same("circuit list", ours, expected::written(&theirs))?;
+    let listing = theirs.unwrap_or_default();
+    let (put, rest) = text.split_at(listing.len());
+    same_text("circuit list's text", put, &listing)?;
+    let unchanged = rest.iter().all(|&byte| byte == DIRT);
+    same("circuit list's rest", unchanged, true)?;
+    Ok(listing.len())
+}
+
+/// Lists a circuit into a text that is long enough for one walk, into one that is
+/// just long enough, and into one that lacks a byte.
+fn list(product: &impl Operations, circuit: &[u8]) -> Result<(), Difference> {
+    let length = list_into(product, circuit, 6 * circuit.len())?;
+    list_into(product, circuit, length)?;
+    list_into(product, circuit, length.saturating_sub(1))?;
+    Ok(())
+}
+
 /// One band of a page and its text: asked for first with a text that has no byte,
 /// then with one that is just long enough.
 fn band(
@@ -227,8 +254,9 @@ fn runs_alike(
 
 /// A table is judged, compiled into a room that is always enough and into one of
 /// the length at hand, and run. Where it has a circuit it is also compiled into
-/// a room of just that length and of one byte less, and the circuit is drawn.
-/// Where its circuit does not fit it is not run: that could take for ever.
+/// a room of just that length and of one byte less, and the circuit is listed
+/// and drawn. Where its circuit does not fit it is not run: that could take for
+/// ever.
 fn compare_table(product: &impl Operations, table: &Table) -> Result<Class, Difference> {
     let judged = verdict(product, table)?;
     let Compiled { number, circuit } = compile(product, table, LONGEST_CIRCUIT)?;
@@ -244,6 +272,7 @@ fn compare_table(product: &impl Operations, table: &Table) -> Result<Class, Diff
         compile(product, table, circuit.len())?;
         compile(product, table, circuit.len() - 1)?;
         class.run = runs_alike(product, table, &circuit)?.number;
+        list(product, &circuit)?;
         draw(product, &circuit)?;
         class = class.with_circuit(&circuit, read(product, &circuit)?);
         class.ancillas = circuit[2].into();
@@ -257,6 +286,7 @@ fn compare_circuit(product: &impl Operations, circuit: &Circuit) -> Result<Class
     let Circuit { bytes, word } = circuit;
     let gates = read(product, bytes)?;
     let run = run_circuit(product, bytes, *word)?.number;
+    list(product, bytes)?;
     draw(product, bytes)?;
     let class = Class {
         run,

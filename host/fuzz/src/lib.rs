@@ -31,9 +31,10 @@ pub struct Tried {
     pub compiled: u64,
     /// Circuits.
     pub circuits: u64,
-    /// Circuits that are well formed, those of tables too: each has a page.
+    /// Circuits that are well formed, those of tables too: each has a listing
+    /// and a page.
     pub drawn: u64,
-    /// Tables that were listed too.
+    /// Tables that the listing program listed too.
     pub listed: u64,
     /// Classes of answers, of which each has an input that is kept.
     pub classes: usize,

@@ -4,7 +4,7 @@
 //!     $ fuzz 60 1
 //!     seed 1, 60 seconds, .. classes of answers:
 //!     .. tables, of which .. gave a circuit and .. were listed; .. circuits;
-//!     .. pages
+//!     .. pages, and as many listings of circuits
 //!     no mismatch
 //!
 //! On a mismatch it prints the input, made as small as it went, and what
@@ -29,7 +29,7 @@ fn main() -> ExitCode {
     };
     let product = Product::of_the_repository();
     if !product.lists() {
-        println!("target/bin/listing is not built: nothing is listed");
+        println!("target/bin/listing is not built: no table is listed");
     }
     let end = Instant::now() + Duration::from_secs(seconds);
     let (tried, mismatch) = fuzz(&product, seed, |_| Instant::now() < end);
@@ -57,5 +57,5 @@ fn print_counts(tried: &Tried) {
     } = tried;
     print!("{tables} tables, of which {compiled} gave a circuit ");
     println!("and {listed} were listed; {circuits} circuits;");
-    println!("{drawn} pages");
+    println!("{drawn} pages, and as many listings of circuits");
 }

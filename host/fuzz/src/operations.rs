@@ -5,7 +5,7 @@ use std::io::Write;
 use std::path::PathBuf;
 use std::process::{Command, Stdio};
 
-/// The seven operations, as C sees them. A test that plants a fault changes one.
+/// The eight operations, as C sees them. A test that plants a fault changes one.
 pub trait Operations {
     /// The verdict on a table.
     fn verdict(&self, table: &[u8], n: u32, workspace: &mut [u8]) -> u32 {
@@ -30,6 +30,11 @@ pub trait Operations {
     /// The circuit run.
     fn circuit_run(&self, circuit: &[u8], word: u64) -> Block {
         border::circuit_run(circuit, word)
+    }
+
+    /// The listing of a circuit, into the text.
+    fn circuit_list(&self, circuit: &[u8], text: &mut [u8]) -> Answer {
+        border::circuit_list(circuit, text)
     }
 
     /// One band of a circuit's page, into the text.

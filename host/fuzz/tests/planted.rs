@@ -2,6 +2,7 @@
 //! product itself has none among as many inputs.
 
 use foq::border::{self, Answer, Band, Block, Circuit};
+use foq::circuit_list_to_string;
 use foq_fuzz::input::Input;
 use foq_fuzz::operations::{Operations, Product};
 use foq_fuzz::trees::trees;
@@ -157,6 +158,52 @@ impl Operations for Short {
     }
 }
 
+/// Prints the number of gates as the size.
+struct Outdated;
+
+impl Operations for Outdated {
+    fn circuit_list(&self, circuit: &[u8], text: &mut [u8]) -> Answer {
+        let Ok(listing) = circuit_list_to_string(circuit) else {
+            return border::circuit_list(circuit, text);
+        };
+        let gates = listing.lines().count() - 1;
+        let (first, lines) = listing.split_once('\n').unwrap();
+        let (sizes, _) = first.rsplit_once(' ').unwrap();
+        let outdated = format!("{sizes} {gates}\n{lines}");
+        let Some(put) = text.get_mut(..outdated.len()) else {
+            let (number, value) = (23, 0);
+            return Answer { number, value };
+        };
+        put.copy_from_slice(outdated.as_bytes());
+        let (number, value) = (0, outdated.len() as u64);
+        Answer { number, value }
+    }
+}
+
+/// Puts as much of a listing into a text that is too short as it takes.
+struct Spilling;
+
+impl Operations for Spilling {
+    fn circuit_list(&self, circuit: &[u8], text: &mut [u8]) -> Answer {
+        let answer = border::circuit_list(circuit, text);
+        if answer.number == 23 {
+            let listing = circuit_list_to_string(circuit).unwrap();
+            text.copy_from_slice(&listing.as_bytes()[..text.len()]);
+        }
+        answer
+    }
+}
+
+/// Wants a text that is longer than the listing.
+struct Greedy;
+
+impl Operations for Greedy {
+    fn circuit_list(&self, circuit: &[u8], text: &mut [u8]) -> Answer {
+        let shorter = text.len().saturating_sub(1);
+        border::circuit_list(circuit, &mut text[..shorter])
+    }
+}
+
 /// Draws controls on 1 as controls on 0, and the other way round.
 struct Twisted;
 
@@ -208,6 +255,9 @@ fn planted_faults_are_found() {
     assert_found(&Forgetful, "workspace");
     assert_found(&Careless, "circuit read");
     assert_found(&Short, "circuit run");
+    assert_found(&Outdated, "circuit list");
+    assert_found(&Spilling, "circuit list's rest");
+    assert_found(&Greedy, "circuit list");
     assert_found(&Twisted, "page");
     // Twenty gates of two bytes are the least that go on in a second band.
     assert_found_within(&Hasty, "page's end", 47);
