@@ -77,6 +77,15 @@ fn text_table_listing_and_page_say_the_same() {
     }
 }
 
+/// As one block, each line indented.
+#[test]
+fn the_readme_shows_the_listing_of_pairs() {
+    let readme = fs::read_to_string(example("../README.md")).unwrap();
+    let stored = fs::read_to_string(example("pairs.listing")).unwrap();
+    let shown: String = stored.lines().map(|line| format!("    {line}\n")).collect();
+    assert!(readme.contains(&format!("\n\n{shown}\n")), "{shown}");
+}
+
 /// The end word of an example's run on n qubits.
 fn end(table: &[u8], n: u32, word: u64) -> u64 {
     foq::run(table, n, word, &mut [0; LEAST_WORKSPACE]).unwrap()
