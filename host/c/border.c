@@ -25,31 +25,35 @@
 #include "foq.h"
 #include "program.h"
 
-/* The longest slice, which takes every listing, and the length of a fence. */
-#define MOST FOQ_MOST_LISTING
+/* The longest slice that is not a text for a listing, and a fence's length. */
+#define MOST 131072u
 #define FENCE 65536u
 
 #define DIRT 0xA5
 
-/* The ends of the five slices, where their fences begin. */
-static uint8_t *bytes_end, *room_end, *workspace_end, *text_end, *listing_end;
+/* Where the memory for a slice begins, and where it ends at a fence. */
+typedef struct {
+    uint8_t *start, *end;
+} memory;
 
-/* Memory that ends at a fence; gives its end. */
-static uint8_t *before_a_fence(void)
+static memory for_bytes, for_room, for_workspace, for_band, for_listing;
+
+/* Memory of this length before a fence. */
+static memory before_a_fence(size_t most)
 {
-    void *start = mmap(NULL, MOST + FENCE, PROT_READ | PROT_WRITE,
+    void *start = mmap(NULL, most + FENCE, PROT_READ | PROT_WRITE,
                        MAP_PRIVATE | MAP_ANONYMOUS, -1, 0);
     expect(start != MAP_FAILED, "no memory");
-    uint8_t *end = (uint8_t *)start + MOST;
-    expect(mprotect(end, FENCE, PROT_NONE) == 0, "no fence");
-    return end;
+    memory all = {(uint8_t *)start, (uint8_t *)start + most};
+    expect(mprotect(all.end, FENCE, PROT_NONE) == 0, "no fence");
+    return all;
 }
 
 /* The last bytes before a fence, among dirt. An empty slice is null. */
-static uint8_t *lent(uint8_t *end, size_t length)
+static uint8_t *lent(memory all, size_t length)
 {
-    memset(end - MOST, DIRT, MOST);
-    return length == 0 ? NULL : end - length;
+    memset(all.start, DIRT, (size_t)(all.end - all.start));
+    return length == 0 ? NULL : all.end - length;
 }
 
 /*
@@ -65,16 +69,25 @@ static int all_are(const uint8_t *from, const uint8_t *to, int byte)
 /* A workspace comes back as zeros, and nothing before it has changed. */
 static void expect_workspace(size_t length)
 {
-    const uint8_t *start = workspace_end - length;
-    expect(all_are(start, workspace_end, 0), "a workspace is not zero");
-    expect(all_are(workspace_end - MOST, start, DIRT), "bytes before it changed");
+    const uint8_t *start = for_workspace.end - length;
+    expect(all_are(start, for_workspace.end, 0), "a workspace is not zero");
+    expect(all_are(for_workspace.start, start, DIRT), "bytes before it changed");
+}
+
+/* So much is written into a room or text, and nothing beside that has changed. */
+static void expect_written(memory all, size_t length, size_t written)
+{
+    const uint8_t *start = all.end - length;
+    expect(written <= length, "more is written than there is room for");
+    expect(all_are(start + written, all.end, DIRT), "a slice's rest changed");
+    expect(all_are(all.start, start, DIRT), "bytes before a slice changed");
 }
 
 static void call_verdict(const uint8_t *table, size_t length, uint32_t n,
                          size_t space)
 {
     uint32_t number =
-        foq_verdict(table, length, n, lent(workspace_end, space), space);
+        foq_verdict(table, length, n, lent(for_workspace, space), space);
     expect_workspace(space);
     printf("%" PRIu32, number);
 }
@@ -83,7 +96,7 @@ static void call_run(const uint8_t *table, size_t length, uint32_t n,
                      uint64_t word, size_t space)
 {
     foq_answer answer =
-        foq_run(table, length, n, word, lent(workspace_end, space), space);
+        foq_run(table, length, n, word, lent(for_workspace, space), space);
     expect_workspace(space);
     printf(" | %" PRIu32 " %" PRIu64, answer.number, answer.value);
 }
@@ -92,13 +105,10 @@ static void call_run(const uint8_t *table, size_t length, uint32_t n,
 static size_t call_compile(const uint8_t *table, size_t length, uint32_t n,
                            size_t room, size_t space)
 {
-    foq_answer answer = foq_compile(table, length, n, lent(room_end, room), room,
-                                    lent(workspace_end, space), space);
-    const uint8_t *start = room_end - room;
+    foq_answer answer = foq_compile(table, length, n, lent(for_room, room), room,
+                                    lent(for_workspace, space), space);
     expect_workspace(space);
-    expect(answer.value <= room, "a circuit is longer than its room");
-    expect(all_are(start + answer.value, room_end, DIRT), "the room's rest changed");
-    expect(all_are(room_end - MOST, start, DIRT), "bytes before the room changed");
+    expect_written(for_room, room, answer.value);
     printf(" | %" PRIu32 " %" PRIu64, answer.number, answer.value);
     return answer.value;
 }
@@ -119,11 +129,9 @@ static size_t call_page_band(const uint8_t *circuit, size_t length,
                              uint64_t place, size_t text)
 {
     foq_band band =
-        foq_page_band(circuit, length, place, lent(text_end, text), text);
-    const uint8_t *start = text_end - text;
+        foq_page_band(circuit, length, place, lent(for_band, text), text);
     size_t put = band.length <= text ? band.length : 0;
-    expect(all_are(start + put, text_end, DIRT), "the text's rest changed");
-    expect(all_are(text_end - MOST, start, DIRT), "bytes before the text changed");
+    expect_written(for_band, text, put);
     printf(" | %" PRIu32 " %" PRIu64 " %" PRIu64, band.number, band.length,
            band.next);
     return put;
@@ -134,13 +142,8 @@ static size_t call_circuit_list(const uint8_t *circuit, size_t length,
                                 size_t text)
 {
     foq_answer answer =
-        foq_circuit_list(circuit, length, lent(listing_end, text), text);
-    const uint8_t *start = listing_end - text;
-    expect(answer.value <= text, "a listing is longer than its text");
-    expect(all_are(start + answer.value, listing_end, DIRT),
-           "the listing's rest changed");
-    expect(all_are(listing_end - MOST, start, DIRT),
-           "bytes before the listing changed");
+        foq_circuit_list(circuit, length, lent(for_listing, text), text);
+    expect_written(for_listing, text, answer.value);
     printf(" | %" PRIu32 " %" PRIu64 "\n", answer.number, answer.value);
     return answer.value;
 }
@@ -148,10 +151,10 @@ static size_t call_circuit_list(const uint8_t *circuit, size_t length,
 /* Reads the bytes of a case, which then can only be read. */
 static const uint8_t *read_bytes(size_t length)
 {
-    uint8_t *start = bytes_end - MOST;
+    uint8_t *start = for_bytes.start;
     expect(mprotect(start, MOST, PROT_READ | PROT_WRITE) == 0, "no memory");
-    uint8_t *bytes = lent(bytes_end, length);
-    expect(fread(bytes_end - length, 1, length, stdin) == length,
+    uint8_t *bytes = lent(for_bytes, length);
+    expect(fread(for_bytes.end - length, 1, length, stdin) == length,
            "a case stops too soon");
     expect(mprotect(start, MOST, PROT_READ) == 0, "no memory");
     return bytes;
@@ -162,15 +165,15 @@ int main(void)
     uint32_t n;
     uint64_t word, place;
     size_t room, space, text, listing, length;
-    bytes_end = before_a_fence();
-    room_end = before_a_fence();
-    workspace_end = before_a_fence();
-    text_end = before_a_fence();
-    listing_end = before_a_fence();
+    for_bytes = before_a_fence(MOST);
+    for_room = before_a_fence(MOST);
+    for_workspace = before_a_fence(MOST);
+    for_band = before_a_fence(MOST);
+    for_listing = before_a_fence(FOQ_MOST_LISTING);
     while (scanf("%" SCNu32 " %" SCNu64 " %zu %zu %" SCNu64 " %zu %zu %zu", &n,
                  &word, &room, &space, &place, &text, &listing, &length) == 8) {
         expect(getchar() == '\n' && room <= MOST && space <= MOST &&
-                   text <= MOST && listing <= MOST && length <= MOST,
+                   text <= MOST && listing <= FOQ_MOST_LISTING && length <= MOST,
                "a case is not one");
         const uint8_t *bytes = read_bytes(length);
         call_verdict(bytes, length, n, space);
@@ -179,9 +182,9 @@ int main(void)
         call_circuit(bytes, length, word);
         size_t drawn = call_page_band(bytes, length, place, text);
         size_t listed = call_circuit_list(bytes, length, listing);
-        fwrite(room_end - room, 1, compiled, stdout);
-        fwrite(text_end - text, 1, drawn, stdout);
-        fwrite(listing_end - listing, 1, listed, stdout);
+        fwrite(for_room.end - room, 1, compiled, stdout);
+        fwrite(for_band.end - text, 1, drawn, stdout);
+        fwrite(for_listing.end - listing, 1, listed, stdout);
     }
     expect(feof(stdin), "a case is not one");
     return EXIT_SUCCESS;
