@@ -12,10 +12,13 @@ use counts::{assert_reached, count, Counts};
 use foq::border::{page_band, Band};
 use foq::{write_page, Refusal, MOST_BAND};
 use foq_generator::circuits::{circuit, circuit_of, crowded_circuit, sizes};
-use foq_generator::damage::{damaged, single_changes, truncations};
+use foq_generator::damage::{damaged, single_changes};
 use foq_generator::Random;
 use foq_reference::{gates_on, page, read_circuit, Circuit, Gate, LONGEST_CIRCUIT};
-use page_inputs::{any_bytes, any_circuit, long_circuit, pairs, short_circuits, GATES_IN_A_BAND};
+use page_inputs::{
+    any_bytes, any_circuit, cut_and_longer, long_circuit, pairs, short_circuits, wires,
+    with_false_counts, GATES_IN_A_BAND,
+};
 use room::Room;
 
 /// The answer where a circuit is not well formed.
@@ -57,10 +60,6 @@ fn followed(bytes: &[u8]) -> Vec<Given> {
 fn joined(bands: &[Given]) -> Vec<u8> {
     let texts: Vec<&[u8]> = bands.iter().map(|band| &band.text[..]).collect();
     texts.concat()
-}
-
-fn wires(circuit: &Circuit) -> usize {
-    usize::from(circuit.n) + usize::from(circuit.ancillas)
 }
 
 /// Asserts that the bands are those of a circuit that was read: no line passes
@@ -253,16 +252,8 @@ fn damaged_circuits_are_drawn_alike() {
 fn truncated_and_longer_circuits_are_refused_alike() {
     let mut random = Random::from_seed(74);
     let mut drawing = Drawing::new();
-    let mut circuits = short_circuits(&mut random);
-    circuits.push(pairs(32));
-    circuits.extend((0..20).map(|_| circuit(&mut random, 5, 40, 45)));
-    for bytes in &circuits {
-        for truncated in truncations(bytes) {
-            drawing.compare(&truncated);
-        }
-        for byte in 0..=255 {
-            drawing.compare(&[&bytes[..], &[byte]].concat());
-        }
+    for bytes in cut_and_longer(&mut random) {
+        drawing.compare(&bytes);
     }
     assert_eq!(drawing.seen("well formed"), 0);
     assert_reached(&drawing.counts, &[("14", 10_000)]);
@@ -273,17 +264,7 @@ fn false_counts_are_refused_alike() {
     let mut random = Random::from_seed(75);
     let mut drawing = Drawing::new();
     for _ in 0..500 {
-        let mut bytes = any_circuit(&mut random);
-        let gates = read_circuit(&bytes).unwrap().gates.len() as u32;
-        for count in [
-            gates.wrapping_sub(1),
-            gates + 1,
-            gates + 19,
-            gates ^ 1 << 8,
-            gates ^ 1 << 31,
-            !gates,
-        ] {
-            bytes[3..7].copy_from_slice(&count.to_le_bytes());
+        for bytes in with_false_counts(&mut random) {
             drawing.compare(&bytes);
         }
     }

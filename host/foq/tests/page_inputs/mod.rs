@@ -4,8 +4,9 @@
 #![allow(dead_code)]
 
 use foq_generator::circuits::{circuit, circuit_of, crowded_circuit, sizes};
+use foq_generator::damage::truncations;
 use foq_generator::{Random, PAIRS};
-use foq_reference::{compile, LONGEST_CIRCUIT, SHORTEST_WORKSPACE};
+use foq_reference::{compile, read_circuit, Circuit, LONGEST_CIRCUIT, SHORTEST_WORKSPACE};
 
 /// "nineteen gates fill a line of 80".
 pub const GATES_IN_A_BAND: usize = 19;
@@ -45,6 +46,43 @@ pub fn any_circuit(random: &mut Random) -> Vec<u8> {
 pub fn short_circuits(random: &mut Random) -> Vec<Vec<u8>> {
     let random_ones = [0, 1, 5, 21].map(|gates| circuit(random, 3, 2, gates));
     [vec![pairs(3)], random_ones.to_vec()].concat()
+}
+
+/// The number of all wires.
+pub fn wires(circuit: &Circuit) -> usize {
+    usize::from(circuit.n) + usize::from(circuit.ancillas)
+}
+
+/// Beginnings of circuits, and circuits with a byte behind them: none of them is
+/// well formed.
+pub fn cut_and_longer(random: &mut Random) -> impl Iterator<Item = Vec<u8>> {
+    let mut circuits = short_circuits(random);
+    circuits.push(pairs(32));
+    circuits.extend((0..20).map(|_| circuit(random, 5, 40, 45)));
+    circuits.into_iter().flat_map(|bytes| {
+        let cut: Vec<Vec<u8>> = truncations(&bytes).collect();
+        let longer = (0..=255).map(move |byte| [&bytes[..], &[byte]].concat());
+        cut.into_iter().chain(longer)
+    })
+}
+
+/// A random circuit, each time with another gate count that is not true.
+pub fn with_false_counts(random: &mut Random) -> [Vec<u8>; 6] {
+    let bytes = any_circuit(random);
+    let gates = read_circuit(&bytes).unwrap().gates.len() as u32;
+    let counts = [
+        gates.wrapping_sub(1),
+        gates + 1,
+        gates + 19,
+        gates ^ 1 << 8,
+        gates ^ 1 << 31,
+        !gates,
+    ];
+    counts.map(|count| {
+        let mut bytes = bytes.clone();
+        bytes[3..7].copy_from_slice(&count.to_le_bytes());
+        bytes
+    })
 }
 
 /// Bytes at random, small ones or any, mostly behind the header of a circuit on
