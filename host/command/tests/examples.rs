@@ -70,10 +70,12 @@ fn text_table_listing_and_page_say_the_same() {
         assert!(text.starts_with("/* "), "{name} starts without a comment");
         assert_eq!(encode(&parse(&text).unwrap()), table(&name), "{name}");
         let stored = fs::read_to_string(example(&format!("{name}.listing"))).unwrap();
-        let n = stored.split(' ').next().unwrap().parse().unwrap();
-        assert_eq!(listed(&table(&name), n), stored, "{name}");
+        let n: u8 = stored.split(' ').next().unwrap().parse().unwrap();
+        assert_eq!(listed(&table(&name), n.into()), stored, "{name}");
+        let input = [&[n], &table(&name)[..]].concat();
+        assert_eq!(foq_reference::listing(&input), stored.as_bytes(), "{name}");
         let page = fs::read(example(&format!("{name}.page"))).unwrap();
-        assert_page(&table(&name), n, &page);
+        assert_page(&table(&name), n.into(), &page);
     }
 }
 
