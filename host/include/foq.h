@@ -348,7 +348,7 @@ foq_block foq_circuit_run(const uint8_t *circuit, size_t length, uint64_t word);
  * A text that is six times as long as the circuit is always long enough, so
  * FOQ_MOST_LISTING bytes are enough for every circuit. Such a text gets the
  * listing in one walk over the gates. For a shorter one the listing is measured
- * first, and the call takes about twice as long.
+ * first, and the call takes up to twice as long.
  */
 foq_answer foq_circuit_list(const uint8_t *circuit, size_t length,
                             uint8_t *text, size_t text_length);
