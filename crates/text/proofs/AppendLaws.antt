@@ -7,7 +7,7 @@ use native.Mathlib.Omega.{arith}
 use borrow.Author.Needs.{needs}
 use lib.ListN.{length, drop, set}
 use lib.Seq.{sets, sets-eq}
-use Rattle.text.specs.AppendedBytes.{Written, written, lastPlace, nextPlace, puts}
+use Rattle.text.specs.AppendedBytes.{Written, written, lastPlace, placeAfter, nextPlace, puts}
 
 -- what is put behind what was written
 unfoldable behind : Written → List ℕ → Written
@@ -50,6 +50,14 @@ set-past [] at b h = refl
 set-past (x ∷ text) zero b h = absurd (omega arith)
 set-past (x ∷ text) (suc at) b h = ap (λ (l : List ℕ). x ∷ l) (set-past text at b (omega arith))
 
+-- where the text has ended they are only counted
+pub puts-past : (bytes text : List ℕ) (at : ℕ) → length text ≤ at → at < 2 ^ 64 → puts bytes text at ≡ written text (placeAfter at (length bytes))
+unfolding puts
+puts-past [] text at h l = let stays : placeAfter at 0 ≡ at = omega arith in rw stays
+puts-past (b ∷ bytes) text at h l =
+    let on : placeAfter (nextPlace at) (length bytes) ≡ placeAfter at (suc (length bytes)) = omega arith in
+    rw (set-past text at b h, ← on) (puts-past bytes text (nextPlace at) (omega arith) (omega arith))
+
 -- the ways out of `next_place` and `put`
 pub next-last : (at : ℕ) → at ≡ lastPlace → at ≡ nextPlace at
 next-last at e = omega arith
@@ -63,7 +71,7 @@ put-past b text at next h e = rw (set-past text at b h, e)
 
 pub put-there : (b : ℕ) (text : List ℕ) (at : ℕ) → at < length text → length text < 2 ^ 64 → written (set text at b) (at + 1) ≡ puts (b ∷ []) text at
 unfolding puts
-put-there b text at h long = let next : at + 1 ≡ nextPlace at = omega arith in rw next
+put-there b text at h long = let next : at + 1 ≡ nextPlace at = omega arith in ap (λ (k : ℕ). written (set text at b) k) next
 
 -- first these bytes, then those
 pub put-after : (xs ys text middle : List ℕ) (at mid : ℕ) → written middle mid ≡ puts xs text at → puts (xs ++ ys) text at ≡ puts ys middle mid

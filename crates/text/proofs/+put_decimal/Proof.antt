@@ -1,4 +1,4 @@
--- `put_decimal` meets its contract. It calls itself with a tenth of the number.
+-- `put_decimal` meets its contract. It calls itself with a hundredth of the number.
 use Prim.Native.Nat.{ℕ, _<_}
 use borrow.Fn.Kinds.{In}
 use borrow.Fn.PlainCycle.{Measures, is, falls, and}
@@ -6,7 +6,9 @@ use Rattle.text.proofs.DecimalText.{digits}
 use Rattle.text.proofs.put_decimal.Reads as put-decimal
 use Rattle.text.proofs.put_decimal.Kinds as put-decimal-kinds
 use Rattle.text.proofs.+put_decimal.Lts-put_decimal as put-decimal-lts
+use Rattle.text.proofs.count_decimal.Reads as count-decimal-reads
 use Rattle.text.proofs.put.Reads as put-reads
+use Rattle.text.proofs.put_two.Reads as put-two-reads
 use Rattle.text.proofs.+put_decimal.{statement}
 use Rattle.text.proofs.+put_decimal.Tie.{close}
 
@@ -23,13 +25,19 @@ put-decimal-below t =
 
 pub +put-decimal-spec : {M : Type 1} → statement M
 +put-decimal-spec = close μ-put-decimal λ t. put-decimal-lts.spec (
+  count-decimal-reads.Asked,
+  count-decimal-reads.Learnt,
   put-reads.Asked,
   put-reads.Learnt,
+  put-two-reads.Asked,
+  put-two-reads.Learnt,
   put-decimal-below t,
   put-decimal.Post,
 )
     (put-decimal-at t)
     put-decimal.Post
+    (λ c κs. search digits)
+    (λ c. search digits)
     (λ c. search digits)
     (λ c. search digits)
     (λ c κs. search digits)
@@ -38,6 +46,7 @@ pub +put-decimal-spec : {M : Type 1} → statement M
     (λ c κs. search digits)
     (λ c. search digits)
     (λ c. search digits)
+    (λ c κs. search digits)
     (λ c κs. search digits)
     (λ c. search digits)
     (λ c. search digits)
