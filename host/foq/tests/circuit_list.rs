@@ -3,13 +3,17 @@
 //! test counts the inputs of the classes that it is meant to reach, so that it
 //! cannot run empty.
 
+mod circuit_inputs;
 mod counts;
 mod lent;
-mod page_inputs;
 mod programs;
 mod room;
 mod words;
 
+use circuit_inputs::{
+    any_bytes, any_circuit, cut_and_longer, long_circuit, pairs, short_circuits, wires,
+    with_false_counts,
+};
 use counts::{assert_reached, count, Counts};
 use foq::{border, circuit_list_to_string, compile_to_vec, Refusal, MOST_LISTING};
 use foq_expected::written;
@@ -20,10 +24,6 @@ use foq_generator::tree::encode;
 use foq_generator::{Random, PAIRS};
 use foq_reference::{circuit_bytes, circuit_list, listing, read_circuit};
 use foq_reference::{Action, Circuit, Control, Gate, LONGEST_CIRCUIT};
-use page_inputs::{
-    any_bytes, any_circuit, cut_and_longer, long_circuit, pairs, short_circuits, wires,
-    with_false_counts,
-};
 use programs::{printed, repository};
 use room::Room;
 use words::on_many_qubits;

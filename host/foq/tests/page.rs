@@ -3,11 +3,15 @@
 //! and places that no band gave. Each test counts the inputs of the classes
 //! that it is meant to reach, so that it cannot run empty.
 
+mod circuit_inputs;
 mod counts;
 mod lent;
-mod page_inputs;
 mod room;
 
+use circuit_inputs::{
+    any_bytes, any_circuit, cut_and_longer, long_circuit, pairs, short_circuits, wires,
+    with_false_counts, GATES_IN_A_BAND,
+};
 use counts::{assert_reached, count, Counts};
 use foq::border::{page_band, Band};
 use foq::{write_page, Refusal, MOST_BAND};
@@ -15,10 +19,6 @@ use foq_generator::circuits::{circuit, circuit_of, crowded_circuit, sizes};
 use foq_generator::damage::{damaged, single_changes};
 use foq_generator::Random;
 use foq_reference::{gates_on, page, read_circuit, Circuit, Gate, LONGEST_CIRCUIT};
-use page_inputs::{
-    any_bytes, any_circuit, cut_and_longer, long_circuit, pairs, short_circuits, wires,
-    with_false_counts, GATES_IN_A_BAND,
-};
 use room::Room;
 
 /// The answer where a circuit is not well formed.

@@ -1,15 +1,15 @@
 //! The page program, `target/bin/page`, prints what the second interpreter
 //! prints, whatever it reads.
 
+mod circuit_inputs;
 mod counts;
-mod page_inputs;
 mod programs;
 
+use circuit_inputs::{any_bytes, any_circuit, long_circuit, pairs};
 use counts::{assert_reached, count, Counts};
 use foq_generator::damage::damaged;
 use foq_generator::Random;
 use foq_reference::{page, LONGEST_CIRCUIT};
-use page_inputs::{any_bytes, any_circuit, long_circuit, pairs};
 use programs::{printed, repository, scratch};
 use std::fs;
 use std::io::Write;
