@@ -1,5 +1,5 @@
 -- The ways out of the gate reader, and of the loop over the gates.
-use mathlib.Core.Path.{_≡_, refl, sym}
+use mathlib.Core.Path.{_≡_, refl, sym, ap, _∙_}
 use mathlib.Core.Bool.{Bool, true, false}
 use mathlib.Core.List.{List, [], _∷_}
 use Prim.Native.Nat.{ℕ, zero, suc, _+_, _-_, _/_, _%_, _≤_, _<_}
@@ -11,12 +11,13 @@ use borrow.Author.Tests.{eq-eqb, ne-eqb, lt-ltb, le-ltb, le-leb, lt-leb, not-tru
 use lib.ListN.{length, getD, length-drop}
 use lib.Dec.{eqb, ltb, leb}
 use Rattle.model.specs.Limits.{notWellFormed}
-use Rattle.model.specs.Reading.{Input, Parsed, parsed, refused, andThen, provided, optional}
+use Rattle.model.specs.Reading.{Input, Parsed, parsed, refused, andThen, provided, optional, stands}
+use Rattle.model.specs.Reading as reading
 use Rattle.model.specs.Gates.{Gate}
 use Rattle.model.specs.Circuit.{wireList, gateOf, gateIsWellFormed, readGate, readGates}
 use Rattle.model.proofs.BooleanLaws.{byBool, byLt}
 use Rattle.model.proofs.ByteAtAPlace.{byte-there, byte-past}
-use Rattle.circuit.specs.GatesInBytes.{inputAt, settled, fills, listIn, listParsed, gateIn, gateParsed, gateChecked, gateEnd}
+use Rattle.circuit.specs.GatesInBytes.{inputAt, settled, fills, listIn, listParsed, gateIn, gateParsed, gateChecked, gateEnd, gateWritten}
 use Rattle.circuit.specs.declared.WireList.{WireList}
 use Rattle.circuit.specs.declared.ListRead.{ListRead}
 use Rattle.circuit.specs.declared.ListRead.the-variants.{Wires, NoWires}
@@ -53,79 +54,74 @@ module _ (bs : List ℕ) (g : GateAt) (most : ℕ) (good : Bool) (is : good ≡ 
 pub ruleset gate-checks = (needs, check-good, check-bad)
 
 -- the ways out of `end_gate`
-module _ (bs : List ℕ) (most target : ℕ) (ones zeros : WireList) (swaps : Bool) (r : GateRead) where
-  abbrev Ends : Type 0
-  Ends = gateParsed bs r ≡ settled (gateEnd most swaps (listIn bs ones) (listIn bs zeros) target (inputAt bs (zeros .next)))
+module _ (bs : List ℕ) (target : ℕ) (ones zeros : WireList) (swaps : Bool) where
+  abbrev Ends : GateRead → Type 0
+  Ends r = gateParsed bs r ≡ settled (gateEnd swaps (listIn bs ones) (listIn bs zeros) target (inputAt bs (zeros .next)))
 
-  abbrev Judged : GateAt → Type 0
-  Judged g = gateParsed bs r ≡ gateChecked most (gateIn bs g) (inputAt bs (g .next))
-
-  pub end-flip : swaps ≡ false →
-      Judged (record { target = target; ones = ones; zeros = zeros; swaps = false; second = 0; next = zeros .next }) → Ends
-  unfolding andThen gateOf
-  end-flip e s = rw (e, s) (sym (settled-checked most _ _))
+  pub end-flip : swaps ≡ false → Ends (Found (record { target = target; ones = ones; zeros = zeros; swaps = false; second = 0; next = zeros .next }))
+  unfolding gateParsed settled gateOf
+  end-flip e = rw e
 
   pub end-swap : swaps ≡ true → zeros .next < length bs →
-      Judged (record { target = target; ones = ones; zeros = zeros; swaps = true; second = getD bs (zeros .next) 0; next = zeros .next + 1 }) → Ends
-  unfolding andThen gateOf
-  end-swap e h s = rw (e, byte-there bs (zeros .next) 0 h, s) (sym (settled-checked most _ _))
+      Ends (Found (record { target = target; ones = ones; zeros = zeros; swaps = true; second = getD bs (zeros .next) 0; next = zeros .next + 1 }))
+  unfolding gateParsed settled andThen gateOf
+  end-swap e h = rw (e, byte-there bs (zeros .next) 0 h)
 
-pub end-short : (bs : List ℕ) (most target : ℕ) (ones zeros : WireList) (swaps : Bool) → swaps ≡ true → length bs ≤ zeros .next →
-    gateParsed bs NoGate ≡ settled (gateEnd most swaps (listIn bs ones) (listIn bs zeros) target (inputAt bs (zeros .next)))
-unfolding gateParsed settled andThen gateOf
-end-short bs most target ones zeros swaps e h = rw (e, byte-past bs (zeros .next) 0 h)
+  pub end-short : swaps ≡ true → length bs ≤ zeros .next → Ends NoGate
+  unfolding gateParsed settled andThen gateOf
+  end-short e h = rw (e, byte-past bs (zeros .next) 0 h)
 
 pub ruleset ends = (needs, not-true, not-false, end-flip, end-swap, end-short)
 
 -- a gate behind its map, its target and the first list of its controls
-abbrev afterOnes : ℕ → ℕ → ℕ → List ℕ → Input → Parsed Gate
-afterOnes most map target ones i =
-    andThen (optional (eqb (map / 2 % 2) 1) wireList [] i) (λ zeros j. gateEnd most (eqb (map / 4 % 2) 1) ones zeros target j)
+abbrev afterOnes : ℕ → ℕ → List ℕ → Input → Parsed Gate
+afterOnes map target ones i =
+    andThen (optional (eqb (map / 2 % 2) 1) wireList [] i) (λ zeros j. gateEnd (eqb (map / 4 % 2) 1) ones zeros target j)
 
--- the ways out of `read_gate`
-module _ (bs : List ℕ) (at most : ℕ) where
-  gate-lacks : length bs < at + 2 → gateParsed bs NoGate ≡ settled (readGate most (inputAt bs at))
-  unfolding gateParsed settled readGate andThen
+-- the ways out of `gate_at`
+module _ (bs : List ℕ) (at : ℕ) where
+  gate-lacks : length bs < at + 2 → gateParsed bs NoGate ≡ settled (gateWritten (inputAt bs at))
+  unfolding gateParsed settled gateWritten andThen
   gate-lacks h = byLt at (length bs)
       (λ l. rw (byte-there bs at 0 l, byte-past bs (at + 1) 0 (omega arith)))
       (λ l. rw (byte-past bs at 0 l))
 
-  pub gate-none : length bs < 2 → gateParsed bs NoGate ≡ settled (readGate most (inputAt bs at))
+  pub gate-none : length bs < 2 → gateParsed bs NoGate ≡ settled (gateWritten (inputAt bs at))
   gate-none h = gate-lacks (omega arith)
 
   module _ (l : 2 ≤ length bs) where
-    pub gate-short : length bs - 2 < at → gateParsed bs NoGate ≡ settled (readGate most (inputAt bs at))
+    pub gate-short : length bs - 2 < at → gateParsed bs NoGate ≡ settled (gateWritten (inputAt bs at))
     gate-short h = gate-lacks (omega arith)
 
     module _ (h : at ≤ length bs - 2) where
-      opened : readGate most (inputAt bs at) ≡ provided (ltb (getD bs at 0) 8) notWellFormed
+      opened : gateWritten (inputAt bs at) ≡ provided (ltb (getD bs at 0) 8) notWellFormed
           (andThen (optional (eqb (getD bs at 0 % 2) 1) wireList [] (inputAt bs (at + 2)))
-          (λ ones i. afterOnes most (getD bs at 0) (getD bs (at + 1) 0) ones i))
-      unfolding readGate andThen
+          (λ ones i. afterOnes (getD bs at 0) (getD bs (at + 1) 0) ones i))
+      unfolding gateWritten andThen
       opened =
           let e : (at + 1) + 1 ≡ at + 2 = omega arith in
           rw (byte-there bs at 0 (omega arith), byte-there bs (at + 1) 0 (omega arith), e, div-one (getD bs at 0))
 
-      pub gate-map : 7 < getD bs at 0 → gateParsed bs NoGate ≡ settled (readGate most (inputAt bs at))
+      pub gate-map : 7 < getD bs at 0 → gateParsed bs NoGate ≡ settled (gateWritten (inputAt bs at))
       unfolding gateParsed settled provided
       gate-map k = rw (opened, le-ltb (getD bs at 0) 8 (omega arith))
 
       module _ (k : getD bs at 0 ≤ 7) (x : ListRead)
           (p : listParsed bs x ≡ settled (optional (eqb (getD bs at 0 % 2) 1) wireList [] (inputAt bs (at + 2)))) where
-        kept : readGate most (inputAt bs at) ≡ andThen (optional (eqb (getD bs at 0 % 2) 1) wireList [] (inputAt bs (at + 2)))
-            (λ ones i. afterOnes most (getD bs at 0) (getD bs (at + 1) 0) ones i)
+        kept : gateWritten (inputAt bs at) ≡ andThen (optional (eqb (getD bs at 0 % 2) 1) wireList [] (inputAt bs (at + 2)))
+            (λ ones i. afterOnes (getD bs at 0) (getD bs (at + 1) 0) ones i)
         unfolding provided
         kept = rw (opened, lt-ltb (getD bs at 0) 8 (omega arith))
 
-        pub gate-ones : x ≡ NoWires → gateParsed bs NoGate ≡ settled (readGate most (inputAt bs at))
+        pub gate-ones : x ≡ NoWires → gateParsed bs NoGate ≡ settled (gateWritten (inputAt bs at))
         unfolding gateParsed listParsed
         gate-ones e = rw kept
             (settled-refused (optional (eqb (getD bs at 0 % 2) 1) wireList [] (inputAt bs (at + 2))) notWellFormed
-            (λ ones i. afterOnes most (getD bs at 0) (getD bs (at + 1) 0) ones i) (rw e at p))
+            (λ ones i. afterOnes (getD bs at 0) (getD bs (at + 1) 0) ones i) (rw e at p))
 
         module _ (ones : WireList) (e : x ≡ Wires ones) (y : ListRead)
             (q : listParsed bs y ≡ settled (optional (eqb (getD bs at 0 / 2 % 2) 1) wireList [] (inputAt bs (ones .next)))) where
-          with-ones : readGate most (inputAt bs at) ≡ afterOnes most (getD bs at 0) (getD bs (at + 1) 0) (listIn bs ones) (inputAt bs (ones .next))
+          with-ones : gateWritten (inputAt bs at) ≡ afterOnes (getD bs at 0) (getD bs (at + 1) 0) (listIn bs ones) (inputAt bs (ones .next))
           unfolding listParsed andThen
           with-ones =
               rw (
@@ -134,16 +130,16 @@ module _ (bs : List ℕ) (at most : ℕ) where
                     (listIn bs ones) (inputAt bs (ones .next)) (rw e at p),
               )
 
-          pub gate-zeros : y ≡ NoWires → gateParsed bs NoGate ≡ settled (readGate most (inputAt bs at))
+          pub gate-zeros : y ≡ NoWires → gateParsed bs NoGate ≡ settled (gateWritten (inputAt bs at))
           unfolding gateParsed listParsed
           gate-zeros f = rw with-ones
               (settled-refused (optional (eqb (getD bs at 0 / 2 % 2) 1) wireList [] (inputAt bs (ones .next))) notWellFormed
-              (λ zeros i. gateEnd most (eqb (getD bs at 0 / 4 % 2) 1) (listIn bs ones) zeros (getD bs (at + 1) 0) i) (rw f at q))
+              (λ zeros i. gateEnd (eqb (getD bs at 0 / 4 % 2) 1) (listIn bs ones) zeros (getD bs (at + 1) 0) i) (rw f at q))
 
           pub gate-end : (zeros : WireList) → y ≡ Wires zeros → (r : GateRead) →
-              gateParsed bs r ≡ settled (gateEnd most (eqb (getD bs at 0 / 4 % 2) 1) (listIn bs ones) (listIn bs zeros) (getD bs (at + 1) 0)
+              gateParsed bs r ≡ settled (gateEnd (eqb (getD bs at 0 / 4 % 2) 1) (listIn bs ones) (listIn bs zeros) (getD bs (at + 1) 0)
               (inputAt bs (zeros .next))) →
-              gateParsed bs r ≡ settled (readGate most (inputAt bs at))
+              gateParsed bs r ≡ settled (gateWritten (inputAt bs at))
           unfolding listParsed andThen
           gate-end zeros f r s =
               rw (
@@ -153,6 +149,58 @@ module _ (bs : List ℕ) (at most : ℕ) where
               ) s
 
 pub ruleset gates = (needs, gate-none, gate-short, gate-map, gate-ones, gate-zeros, gate-end)
+
+-- reading in two steps: first this, then that
+then-then : {A B C : Type 0} (p : Parsed A) (f : A → Input → Parsed B) (g : B → Input → Parsed C) (h : A → Input → Parsed C) →
+    ((a : A) (i : Input) → h a i ≡ andThen (f a i) g) → andThen p h ≡ andThen (andThen p f) g
+unfolding andThen
+then-then (parsed a i) f g h e = e a i
+then-then (refused k) f g h e = refl
+
+provided-then : {A B : Type 0} (b : Bool) (k : ℕ) (p : Parsed A) (g : A → Input → Parsed B) →
+    provided b k (andThen p g) ≡ andThen (provided b k p) g
+unfolding andThen provided
+provided-then true k p g = refl
+provided-then false k p g = refl
+
+-- document 01's gate is the gate as it is written, if it is well formed
+pub read-is : (most : ℕ) (i : Input) → readGate most i ≡ andThen (gateWritten i) (λ g j. gateChecked most g j)
+unfolding readGate gateWritten
+read-is most i =
+    then-then (reading.byte i) _ _ _ (λ map j. then-then (reading.byte j) _ _ _ (λ target k.
+    ap (provided (ltb map 8) notWellFormed) (then-then (optional (stands 0 map) wireList [] k) _ _ _ (λ ones l.
+      then-then (optional (stands 1 map) wireList [] l) _ _ _ (λ zeros m. refl))) ∙
+    provided-then (ltb map 8) notWellFormed _ _))
+
+-- so what was read as a gate is written there
+pub read-written : (most : ℕ) (i j : Input) (g : Gate) → readGate most i ≡ parsed g j → gateWritten i ≡ parsed g j
+unfolding andThen provided
+read-written most i j g e = go (gateWritten i) (rw (read-is most i) at e)
+  where
+    go : (p : Parsed Gate) → andThen p (λ h k. gateChecked most h k) ≡ parsed g j → p ≡ parsed g j
+    go (parsed h k) f = byBool (gateIsWellFormed most h)
+        (λ b. rw b at f)
+        (λ b. let z : refused notWellFormed ≡ parsed g j = rw b at f in let y : _≡_ {A = ℕ} 0 1 = cc in absurd (omega arith))
+    go (refused k) f = let z : _≡_ {A = ℕ} 0 1 = cc in absurd (omega arith)
+
+-- the ways out of `read_gate`
+module _ (bs : List ℕ) (at most : ℕ) (x : GateRead) (p : gateParsed bs x ≡ settled (gateWritten (inputAt bs at))) where
+  pub read-none : x ≡ NoGate → gateParsed bs NoGate ≡ settled (readGate most (inputAt bs at))
+  unfolding gateParsed
+  read-none e = rw (read-is most (inputAt bs at))
+      (settled-refused (gateWritten (inputAt bs at)) notWellFormed (λ g j. gateChecked most g j) (rw e at p))
+
+  pub read-judged : (g : GateAt) → x ≡ Found g → (r : GateRead) → gateParsed bs r ≡ gateChecked most (gateIn bs g) (inputAt bs (g .next)) →
+      gateParsed bs r ≡ settled (readGate most (inputAt bs at))
+  unfolding gateParsed andThen
+  read-judged g e r s =
+      rw (
+        read-is most (inputAt bs at),
+        settled-parsed (gateWritten (inputAt bs at)) (gateIn bs g) (inputAt bs (g .next)) (rw e at p),
+      )
+      (s ∙ sym (settled-checked most (gateIn bs g) (inputAt bs (g .next))))
+
+pub ruleset judged = (needs, read-none, read-judged)
 
 fills-settled : {A : Type 0} (p : Parsed A) → fills (settled p) ≡ fills p
 unfolding fills settled

@@ -1,14 +1,14 @@
 -- What the code's places say in the terms of document 01's definitions: a place in the bytes as an input, a gate's places as a gate.
 use Prim.Native.Nat.{ℕ}
 use mathlib.Core.Bool.{Bool, true, false}
-use mathlib.Core.List.{List}
+use mathlib.Core.List.{List, []}
 use lib.ListN.{length, take, drop}
-use lib.Dec.{eqb}
+use lib.Dec.{eqb, ltb}
 use Rattle.model.specs.Limits.{notWellFormed}
-use Rattle.model.specs.Reading.{Input, Parsed, parsed, refused, andThen, provided}
+use Rattle.model.specs.Reading.{Input, Parsed, parsed, refused, andThen, provided, optional, stands}
 use Rattle.model.specs.Reading as reading
 use Rattle.model.specs.Gates.{Controls, Gate, flip, swap}
-use Rattle.model.specs.Circuit.{gateOf, gateIsWellFormed}
+use Rattle.model.specs.Circuit.{wireList, gateOf, gateIsWellFormed}
 use Rattle.circuit.specs.declared.WireList.{WireList}
 use Rattle.circuit.specs.declared.ListRead.{ListRead}
 use Rattle.circuit.specs.declared.ListRead.the-variants.{Wires, NoWires}
@@ -62,6 +62,13 @@ gateParsed bs NoGate = refused notWellFormed
 abbrev pub gateChecked : ℕ → Gate → Input → Parsed Gate
 gateChecked most g i = provided (gateIsWellFormed most g) notWellFormed (parsed g i)
 
--- a gate behind its controls: a swap's second wire, then the verdict
-abbrev pub gateEnd : ℕ → Bool → List ℕ → List ℕ → ℕ → Input → Parsed Gate
-gateEnd most swaps ones zeros target i = andThen (gateOf swaps (record { ones = ones; zeros = zeros }) target i) (λ g j. gateChecked most g j)
+-- a gate behind its controls: a swap's second wire
+abbrev pub gateEnd : Bool → List ℕ → List ℕ → ℕ → Input → Parsed Gate
+gateEnd swaps ones zeros target i = gateOf swaps (record { ones = ones; zeros = zeros }) target i
+
+-- a gate as it is written: document 01's `readGate` but for the question whether it is well formed (`read-is` in proofs/GateReading.antt)
+unfoldable pub gateWritten : Input → Parsed Gate
+gateWritten i =
+    andThen (reading.byte i) (λ map j. andThen (reading.byte j) (λ target k. provided (ltb map 8) notWellFormed
+    (andThen (optional (stands 0 map) wireList [] k) (λ ones l.
+    andThen (optional (stands 1 map) wireList [] l) (λ zeros m. gateEnd (stands 2 map) ones zeros target m)))))

@@ -6,7 +6,7 @@ ghost use Rattle.model.specs.Lists.{member};
 ghost use Rattle.model.specs.Circuit.{wireList, readGate, readGates, gateIsWellFormed};
 ghost use Rattle.model.specs.Reading.{optional};
 ghost use Rattle.model.specs.Answers.{circuitRead};
-ghost use Rattle.circuit.specs.GatesInBytes.{part, inputAt, settled, fills, listIn, listParsed, gateIn, gateParsed, gateChecked, gateEnd};
+ghost use Rattle.circuit.specs.GatesInBytes.{part, inputAt, settled, fills, listIn, listParsed, gateIn, gateParsed, gateChecked, gateEnd, gateWritten};
 ghost use Rattle.circuit.specs.GateChecks.{ascendsFrom, free, controlsWellFormed};
 ghost use Rattle.circuit.specs.Header.{circuitAfter};
 ghost use Rattle.answers.specs.Structs.{headerOf, refusedHeader};
@@ -218,47 +218,44 @@ fn check_gate(bytes: &[u8], gate: GateAt, most: u8) -> GateRead
     }
 }
 
-// A gate behind its controls: "bit 2, the second wire of a swap", then the verdict.
+// A gate behind its controls: "bit 2, the second wire of a swap".
 fn end_gate(
     bytes: &[u8],
     target: u8,
     ones: WireList,
     zeros: WireList,
     swaps: bool,
-    most: u8,
 ) -> GateRead
-    ensures { λ r. ⌜ gateParsed (now (bytes .entry)) r ≡ settled (gateEnd most swaps (listIn (now (bytes .entry)) ones)
+    ensures { λ r. ⌜ gateParsed (now (bytes .entry)) r ≡ settled (gateEnd swaps (listIn (now (bytes .entry)) ones)
         (listIn (now (bytes .entry)) zeros) target (inputAt (now (bytes .entry)) (zeros .next))) ⌝ }
 {
     let next = zeros.next;
     if !swaps {
-        let gate = GateAt {
+        return GateRead::Found(GateAt {
             target: target,
             ones: ones,
             zeros: zeros,
             swaps: false,
             second: 0,
             next: next,
-        };
-        return check_gate(bytes, gate, most);
+        });
     }
     if bytes.len() <= next {
         return GateRead::NoGate;
     }
-    let gate = GateAt {
+    GateRead::Found(GateAt {
         target: target,
         ones: ones,
         zeros: zeros,
         swaps: true,
         second: bytes[next],
         next: next + 1,
-    };
-    check_gate(bytes, gate, most)
+    })
 }
 
-// One gate over wires 1 to `most`, from a place on.
-pub fn read_gate(bytes: &[u8], at: usize, most: u8) -> GateRead
-    ensures { λ r. ⌜ gateParsed (now (bytes .entry)) r ≡ settled (readGate most (inputAt (now (bytes .entry)) at)) ⌝ }
+// One gate as it is written, from a place on. Whether it is well formed is not asked: whoever walks a circuit that was read knows that.
+pub fn gate_at(bytes: &[u8], at: usize) -> GateRead
+    ensures { λ r. ⌜ gateParsed (now (bytes .entry)) r ≡ settled (gateWritten (inputAt (now (bytes .entry)) at)) ⌝ }
 {
     if bytes.len() < 2 {
         return GateRead::NoGate;
@@ -279,7 +276,18 @@ pub fn read_gate(bytes: &[u8], at: usize, most: u8) -> GateRead
     let ListRead::Wires(zeros) = second else {
         return GateRead::NoGate;
     };
-    end_gate(bytes, target, ones, zeros, map / 4 % 2 == 1, most)
+    end_gate(bytes, target, ones, zeros, map / 4 % 2 == 1)
+}
+
+// One gate over wires 1 to `most`, from a place on.
+pub fn read_gate(bytes: &[u8], at: usize, most: u8) -> GateRead
+    ensures { λ r. ⌜ gateParsed (now (bytes .entry)) r ≡ settled (readGate most (inputAt (now (bytes .entry)) at)) ⌝ }
+{
+    let found = gate_at(bytes, at);
+    let GateRead::Found(gate) = found else {
+        return GateRead::NoGate;
+    };
+    check_gate(bytes, gate, most)
 }
 
 // Do `count` gates from a place on fill the bytes?

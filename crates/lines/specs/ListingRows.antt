@@ -5,9 +5,8 @@ use mathlib.Core.List.{List, [], _∷_, _++_}
 use lib.Dec.{ltb}
 use Rattle.model.specs.Reading.{Input, Parsed, parsed, refused}
 use Rattle.model.specs.Gates.{noControls, Gate}
-use Rattle.model.specs.Circuit.{readGate}
 use Rattle.model.specs.Listing.{actionText, gateLine}
-use Rattle.circuit.specs.GatesInBytes.{gateWith}
+use Rattle.circuit.specs.GatesInBytes.{gateWith, gateWritten}
 
 -- how many wires come before the first that is not below w
 unfoldable pub lower : ℕ → List ℕ → ℕ
@@ -23,7 +22,7 @@ unfoldable pub lineThen : ℕ → Parsed Gate → (Input → List ℕ) → List 
 lineThen k (parsed g i) others = gateLine k g ++ others i
 lineThen k (refused r) others = []
 
--- the lines of n gates over wires 1 to `most`, the first of them gate k, as far as they are gates
-unfoldable pub linesRead : ℕ → ℕ → ℕ → Input → List ℕ
-linesRead most k zero i = []
-linesRead most k (suc n) i = lineThen k (readGate most i) (linesRead most (suc k) n)
+-- the lines of n gates as they are written, the first of them gate k
+unfoldable pub linesRead : ℕ → ℕ → Input → List ℕ
+linesRead k zero i = []
+linesRead k (suc n) i = lineThen k (gateWritten i) (linesRead (suc k) n)

@@ -15,8 +15,8 @@ use answers::{Answer, CircuitHeader};
 use circuit::GateAt;
 use circuit::GateRead;
 use circuit::WireList;
+use circuit::gate_at;
 use circuit::read_circuit;
-use circuit::read_gate;
 use limits::{HEADER_LENGTH, LISTING_FACTOR, NO_ROOM};
 use text::put;
 use text::put_decimal;
@@ -165,24 +165,17 @@ fn first_line(text: &mut [u8], at: usize, n: u32, ancillas: u32, size: u64) -> u
     put(text, size_end, b'\n')
 }
 
-// The lines of `count` gates from a place of the circuit on, numbered from 1, as far as they are gates over wires 1 to `most`.
-fn gate_lines(
-    text: &mut [u8],
-    at: usize,
-    circuit: &[u8],
-    from: usize,
-    most: u8,
-    count: u32,
-) -> usize
+// The lines of `count` gates from a place of the circuit on, numbered from 1.
+fn gate_lines(text: &mut [u8], at: usize, circuit: &[u8], from: usize, count: u32) -> usize
     ensures { λ r. ⌜ written (now (text .exit)) r ≡
-        puts (linesRead most 1 count (inputAt (now (circuit .entry)) from)) (now (text .entry)) at ⌝ }
+        puts (linesRead 1 count (inputAt (now (circuit .entry)) from)) (now (text .entry)) at ⌝ }
 {
     let mut place = at;
     let mut next = from;
     let mut number = 1u64;
     let mut left = count;
     while 0 < left {
-        let found = read_gate(circuit, next, most);
+        let found = gate_at(circuit, next);
         let GateRead::Found(gate) = found else {
             return place;
         };
@@ -201,8 +194,7 @@ fn put_listing(text: &mut [u8], circuit: &[u8], header: CircuitHeader) -> usize
     ensures { λ r. ⌜ written (now (text .exit)) r ≡ puts (listed (circuitRead (now (circuit .entry)))) (now (text .entry)) 0 ⌝ }
 {
     let first_end = first_line(text, 0, header.qubits, header.ancillas, size(header));
-    let wires = (header.qubits + header.ancillas) as u8;
-    gate_lines(text, first_end, circuit, HEADER_LENGTH, wires, header.gates)
+    gate_lines(text, first_end, circuit, HEADER_LENGTH, header.gates)
 }
 
 // Does a text of this length take the listing? Where it may be too short, the listing is measured.

@@ -11,12 +11,12 @@ use Rattle.lines.proofs.gate_lines.Statement.{statement}
 use Rattle.lines.proofs.gate_lines.Tie as tie
 
 abbrev Inv-loop : tie.InvT-loop
-Inv-loop text₀ at circuit from most count place₀ next₀ number₀ left₀ text place next number left =
+Inv-loop text₀ at circuit from count place₀ next₀ number₀ left₀ text place next number left =
     (number + left ≡ 1 + count) × (length text ≡ length text₀) ×
-    (puts (linesRead most 1 count (inputAt circuit from)) text₀ at ≡ puts (linesRead most number left (inputAt circuit next)) text place)
+    (puts (linesRead 1 count (inputAt circuit from)) text₀ at ≡ puts (linesRead number left (inputAt circuit next)) text place)
 
 abbrev μ-loop : tie.MeasureT-loop
-μ-loop text₀ at circuit from most count place₀ next₀ number₀ left₀ text place next number left = left
+μ-loop text₀ at circuit from count place₀ next₀ number₀ left₀ text place next number left = left
 
 pub gate-lines-spec : {M : Type 1} → statement M
 gate-lines-spec = tie.close (tie.spec

@@ -7,8 +7,6 @@ pub put-listing-spec : {M : Type 1} → statement M
 put-listing-spec = tie.close (tie.spec
     (λ c κs. search circuits)
     (λ c κs. search circuits)
-    (λ c. search circuits)
-    (λ c. search circuits)
     (λ c κs. search circuits)
     (λ c. search circuits)
     (λ c. search circuits))
