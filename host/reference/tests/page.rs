@@ -2,9 +2,11 @@
 //! are no circuit and bytes that are no page, and random circuits whose gates
 //! are read off their pages again.
 
+mod circuits;
 mod met;
 
-use foq_generator::circuits::{circuit, circuit_of, crowded_circuit, sizes};
+use circuits::check_random;
+use foq_generator::circuits::{circuit, circuit_of};
 use foq_generator::damage::{damaged, single_changes, truncations};
 use foq_generator::{Random, PAIRS};
 use foq_reference::{
@@ -355,23 +357,6 @@ fn bytes_that_are_no_page_have_no_gates() {
     }
 }
 
-/// Mostly a circuit of up to three bands, now and then one whose gates name
-/// every wire.
-fn random_circuit(random: &mut Random) -> Vec<u8> {
-    let (n, ancillas) = sizes(random);
-    match random.below(8) {
-        0 => {
-            let gates = random.below(25);
-            crowded_circuit(random, n, ancillas, gates)
-        }
-        1 => circuit(random, n, ancillas, 19),
-        _ => {
-            let gates = random.below(58);
-            circuit(random, n, ancillas, gates)
-        }
-    }
-}
-
 /// Checks a circuit's page and gives the classes that it shows.
 fn check_page(input: &[u8]) -> Vec<&'static str> {
     let page = page(input);
@@ -403,15 +388,7 @@ fn check_page(input: &[u8]) -> Vec<&'static str> {
 
 #[test]
 fn the_gates_of_random_circuits_are_read_off_their_pages() {
-    let mut random = Random::from_seed(31);
-    let mut counts = Counts::new();
-    for turn in 0..6_000 {
-        let mut input = random_circuit(&mut random);
-        if turn % 3 == 0 {
-            input = damaged(&mut random, &input);
-        }
-        add(&mut counts, check_page(&input));
-    }
+    let counts = check_random(31, 6_000, 19, check_page);
     let least = [
         ("refused", 1_000),
         ("accepted", 4_000),

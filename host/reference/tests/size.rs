@@ -3,10 +3,12 @@
 //! bytes are listed here too, for texts too short and long enough. Listings are
 //! written by hand from the documents; those of random circuits are read again.
 
+mod circuits;
 mod met;
 
-use foq_generator::circuits::{circuit, circuit_of, crowded_circuit, sizes};
-use foq_generator::damage::{damaged, single_changes, truncations};
+use circuits::check_random;
+use foq_generator::circuits::circuit_of;
+use foq_generator::damage::{single_changes, truncations};
 use foq_generator::programs::{program, LARGE, MERGING, SMALL};
 use foq_generator::tree::encode;
 use foq_generator::{Random, PAIRS};
@@ -274,23 +276,6 @@ fn read_listing(lines: &[u8]) -> ([usize; 3], Vec<Gate>) {
     (first.try_into().unwrap(), gates)
 }
 
-/// Mostly a circuit of a few gates, now and then one of many, or one whose
-/// gates name every wire.
-fn random_circuit(random: &mut Random) -> Vec<u8> {
-    let (n, ancillas) = sizes(random);
-    match random.below(8) {
-        0 => {
-            let gates = random.below(25);
-            crowded_circuit(random, n, ancillas, gates)
-        }
-        1 => circuit(random, n, ancillas, 1_000),
-        _ => {
-            let gates = random.below(60);
-            circuit(random, n, ancillas, gates)
-        }
-    }
-}
-
 /// Checks a circuit's listing and gives the classes that it shows.
 fn check_listing(input: &[u8]) -> Vec<&'static str> {
     let Ok(Circuit { n, ancillas, gates }) = read_circuit(input) else {
@@ -323,15 +308,7 @@ fn check_listing(input: &[u8]) -> Vec<&'static str> {
 
 #[test]
 fn random_circuits_are_read_off_their_listings() {
-    let mut random = Random::from_seed(41);
-    let mut counts = Counts::new();
-    for turn in 0..3_000 {
-        let mut input = random_circuit(&mut random);
-        if turn % 3 == 0 {
-            input = damaged(&mut random, &input);
-        }
-        add(&mut counts, check_listing(&input));
-    }
+    let counts = check_random(41, 3_000, 1_000, check_listing);
     let least = [
         ("refused", 700),
         ("listed", 2_000),
