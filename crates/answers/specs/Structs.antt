@@ -18,7 +18,7 @@ unfoldable pub answerOf : Outcome ℕ → Answer
 answerOf (gives value) = record { number = success; value = value }
 answerOf (refuses k) = record { number = k; value = 0 }
 
--- "compile the circuit's length in bytes"
+-- "compile the circuit's length in bytes"; of a listing, its own
 abbrev pub lengthAnswer : Outcome (List ℕ) → Answer
 lengthAnswer o = answerOf (after o (λ bytes. gives (length bytes)))
 

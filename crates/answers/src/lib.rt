@@ -2,7 +2,7 @@
 // no function.
 use limits::BLOCK_LENGTH;
 
-// A number, and beside 0 the value: a run's end word, or the length of what was written into a room.
+// A number, and beside 0 the value: a run's end word, or the length of what was written into a room or a text.
 #[repr(C)]
 pub struct Answer {
     pub number: u32,
