@@ -108,7 +108,7 @@ module _ (bs room ws : List ℕ) (n : ℕ) (r : Compiled) (room₁ : List ℕ)
   answer : (r ≡ compiledOf o) × (room₁ ≡ roomAfter o room)
   answer = let e : answered r room₁ ≡ answeredOf o room = rw (long, enough) at is in answer-halves o room e
 
-  module _ (f : r .number ≡ 0 → ⊥) (text end : List ℕ) (last : ℕ) (whole-text : length text ≡ mostListing)
+  module _ (f : r .number ≡ 0 → ⊥) (text end : List ℕ) (last : ℕ) (text-long : length text ≡ mostListing)
       (p : written end last ≡ puts (refusalLine (r .number)) text 0) where
     refusal : InFront (listingOf n bs) text end last
     unfolding after number listed
@@ -119,7 +119,7 @@ module _ (bs room ws : List ℕ) (n : ℕ) (r : Compiled) (room₁ : List ℕ)
         go (refuses k) low e =
             let same : r .number ≡ k = ap (λ (y : Compiled). y .number) e in
             let few = low .1 in
-            line-in-front k (omega arith) text end last whole-text (rw same at p)
+            line-in-front k (omega arith) text end last text-long (rw same at p)
 
     pub refusal-count : last ≡ length (listingOf n bs)
     refusal-count = refusal .0
