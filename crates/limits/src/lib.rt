@@ -7,7 +7,7 @@ ghost use Rattle.model.specs.Limits.{
 };
 ghost use Rattle.model.specs.Limits.{
   tableStops, wrongEdition, manyProcedures, wrongKind, wrongMap, wrongField, tooDeep, bytesLeft, wrongQubits, noRemoval, tooWide,
-  accessFault, highBit, notWellFormed, shortWorkspace, manyWires, noRoom,
+  accessFault, highBit, notWellFormed, shortWorkspace, manyWires, noRoom, shortTableRoom,
 };
 ghost use Rattle.model.specs.Reading.{mostBase};
 ghost use Rattle.model.specs.Page.{bandGates};
@@ -105,6 +105,8 @@ pub const MANY_WIRES: u8 = 22;
 
 pub const NO_ROOM: u8 = 23;
 
+pub const SHORT_TABLE_ROOM: u8 = 24;
+
 // The bodies of a table: main and each procedure.
 pub const BODIES: u8 = MOST_PROCEDURES + 1;
 
@@ -186,15 +188,15 @@ fn limits() -> [usize; 16]
 }
 
 // Each refusal's number is the definition's.
-fn numbers() -> [u8; 17]
+fn numbers() -> [u8; 18]
     ensures {
         λ r. ⌜ r ≡ tableStops ∷ wrongEdition ∷ manyProcedures ∷ wrongKind ∷ wrongMap ∷ wrongField ∷ tooDeep ∷ bytesLeft ∷ wrongQubits ∷
-            noRemoval ∷ tooWide ∷ accessFault ∷ highBit ∷ notWellFormed ∷ shortWorkspace ∷ manyWires ∷ noRoom ∷ [] ⌝
+            noRemoval ∷ tooWide ∷ accessFault ∷ highBit ∷ notWellFormed ∷ shortWorkspace ∷ manyWires ∷ noRoom ∷ shortTableRoom ∷ [] ⌝
     }
 {
     [
         TABLE_STOPS, WRONG_EDITION, MANY_PROCEDURES, WRONG_KIND, WRONG_MAP, WRONG_FIELD, TOO_DEEP, BYTES_LEFT, WRONG_QUBITS, NO_REMOVAL,
-        TOO_WIDE, ACCESS_FAULT, HIGH_BIT, NOT_WELL_FORMED, SHORT_WORKSPACE, MANY_WIRES, NO_ROOM,
+        TOO_WIDE, ACCESS_FAULT, HIGH_BIT, NOT_WELL_FORMED, SHORT_WORKSPACE, MANY_WIRES, NO_ROOM, SHORT_TABLE_ROOM,
     ]
 }
 

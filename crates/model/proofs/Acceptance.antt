@@ -1,4 +1,4 @@
--- Number 0 exactly where document 01 accepts: one law for each public operation, for every input. A refusal has a number from 1 to 23.
+-- Number 0 exactly where document 01 accepts: one law for each public operation, for every input. A refusal has a number from 1 to 24.
 use mathlib.Core.Path.{_≡_, refl, sym, subst}
 use mathlib.Core.Logic.{_↔_}
 use mathlib.Core.Bool.{Bool, true, false, not, _&&_}
@@ -10,16 +10,19 @@ use lib.ListN.{length}
 use lib.Dec.{ltb, leb}
 use Rattle.model.specs.Limits.{
   mostQubits, mostWires, headerLength, leastWorkspace, success, wrongQubits, noRemoval, tooWide, accessFault, highBit, shortWorkspace, noRoom,
+  shortTableRoom,
 }
 use Rattle.model.specs.Syntax.{Program}
 use Rattle.model.specs.Reading.{Input, Parsed, parsed, refused, readTable}
 use Rattle.model.specs.Faults.{programFaults}
 use Rattle.model.specs.Reach.{anyLacksRemoval, anyTooWide}
+use Rattle.model.specs.Writing.{writeTable}
+use Rattle.model.specs.Inverse.{inverseProgram}
 use Rattle.model.specs.Emission.{Event, takes, places, frees, emission}
 use Rattle.model.specs.Circuit.{Circuit, encode, write, readCircuit}
 use Rattle.model.specs.Answers.{
-  Outcome, gives, refuses, after, require, outcome, number, accepted, verdict, run, fit, fitted, circuit, usable, compile, wellFormed, circuitRead,
-  circuitRun,
+  Outcome, gives, refuses, after, require, outcome, number, accepted, verdict, run, fit, fitted, circuit, usable, compile, inverseTable, wellFormed,
+  circuitRead, circuitRun,
 }
 use Rattle.model.specs.Listing.{circuitListing, listed, circuitList}
 use Rattle.model.proofs.BooleanLaws.{byBool, and-left, and-right}
@@ -29,7 +32,7 @@ use Rattle.model.proofs.RoundTrip.{Bytes, WellFormed, read-write, read-
 
 -- a number that document 01 has for a refusal
 abbrev pub Refusal : ℕ → Type 0
-Refusal k = (1 ≤ k) × (k ≤ noRoom)
+Refusal k = (1 ≤ k) × (k ≤ shortTableRoom)
 
 -- an outcome that is a result, or such a refusal
 abbrev pub Numbered : {A : Type 0} → Outcome A → Type 0
@@ -94,7 +97,7 @@ fit-low room used (frees a ∷ es) = fit-low room used es
 fitted-numbered : (k : ℕ) (c : Circuit) → k ≤ noRoom → Numbered (fitted k c)
 unfolding fitted
 fitted-numbered zero c h = tt
-fitted-numbered (suc k) c h = (omega arith, h)
+fitted-numbered (suc k) c h = (omega arith, omega arith)
 
 pub compile-numbered : (table : List ℕ) (n room workspace : ℕ) → Numbered (compile table n room workspace)
 unfolding compile
@@ -103,6 +106,12 @@ compile-numbered table n room workspace =
     required-numbered (leb leastWorkspace workspace) shortWorkspace _ (omega arith, omega arith)
     (required-numbered (leb headerLength (usable room)) noRoom _ (omega arith, omega arith)
     (fitted-numbered (fit (usable room) headerLength (emission P n)) (circuit P n) (fit-low (usable room) headerLength (emission P n)))))
+
+pub inverse-numbered : (table : List ℕ) (n room : ℕ) → Numbered (inverseTable table n room)
+unfolding inverseTable
+inverse-numbered table n room =
+    after-numbered (accepted table n) _ (accepted-numbered table n) (λ P.
+    required-numbered (leb (length table) room) shortTableRoom (gives _) (omega arith, omega arith) tt)
 
 wellFormed-numbered : (x : Parsed Circuit) → Numbered (wellFormed x)
 unfolding wellFormed
@@ -230,6 +239,32 @@ compile-zero table n room workspace =
       let given = zero-gives (compile table n room workspace) (compile-numbered table n room workspace) .0 e in
       compile-gives table n room workspace (given .1) .0,
     λ c. rw (c .accepts, le-leb leastWorkspace workspace (c .space), le-leb headerLength (usable room) (c .header), c .fits))
+
+-- .. the table is accepted, and the room is not shorter than it
+pub record Inverts (table : List ℕ) (n room : ℕ) : Type 0 where
+  pub program : Program
+  pub accepts : accepted table n ≡ gives program
+  pub enough : length table ≤ room
+
+-- where inverse gives bytes, they are those of the inverse program
+pub inverse-gives : (table : List ℕ) (n room : ℕ) {bytes : List ℕ} → inverseTable table n room ≡ gives bytes →
+    (i : Inverts table n room) × (bytes ≡ writeTable (inverseProgram (i .program)))
+unfolding inverseTable
+inverse-gives table n room e =
+    let acceptance = gave (accepted table n) _ e in
+    let enough = required (leb (length table) room) _ _ (acceptance .then-is) in
+    (record {
+      program = acceptance .first;
+      accepts = acceptance .first-is;
+      enough = leb-true (length table) room (enough .0) }, sym (gives-same (enough .1)))
+
+pub inverse-zero : (table : List ℕ) (n room : ℕ) → (number (inverseTable table n room) ≡ success) ↔ Inverts table n room
+unfolding inverseTable after require number
+inverse-zero table n room =
+    (λ e.
+      let given = zero-gives (inverseTable table n room) (inverse-numbered table n room) .0 e in
+      inverse-gives table n room (given .1) .0,
+    λ i. rw (i .accepts, le-leb (length table) room (i .enough)))
 
 -- bytes are a well-formed circuit: the reader of circuits reads one
 abbrev pub IsCircuit : List ℕ → Type 0

@@ -14,6 +14,8 @@ pub mod Figure3
 pub mod ReadingLaws
 pub mod Acceptance
 pub mod RoundTrip
+pub mod WrittenTables
+pub mod InverseTables
 pub mod DecimalDigits
 pub mod PageLines
 pub mod PageShape
@@ -22,3 +24,4 @@ pub mod PageReadBack
 pub mod PageBands
 pub mod WorkedPrograms
 pub mod WorkedPages
+pub mod WorkedInverses

@@ -6,13 +6,15 @@ use lib.ListN.{length, drop, replicate}
 use lib.Dec.{ltb, leb}
 use Rattle.model.specs.Limits.{
   mostQubits, mostWires, headerLength, mostCircuit, leastWorkspace, success, wrongQubits, noRemoval, tooWide, accessFault, highBit, notWellFormed,
-  shortWorkspace, manyWires, noRoom,
+  shortWorkspace, manyWires, noRoom, shortTableRoom,
 }
 use Rattle.model.specs.Syntax.{Program}
 use Rattle.model.specs.Reading.{Parsed, parsed, refused, readTable}
 use Rattle.model.specs.Faults.{programFaults}
 use Rattle.model.specs.Meaning.{endWord}
 use Rattle.model.specs.Reach.{anyLacksRemoval, anyTooWide}
+use Rattle.model.specs.Writing.{writeTable}
+use Rattle.model.specs.Inverse.{inverseProgram}
 use Rattle.model.specs.Emission.{Event, takes, places, frees, emission, gates, peak}
 use Rattle.model.specs.Circuit.{Circuit, encode, write, readCircuit, circuitBlock}
 
@@ -93,6 +95,14 @@ compile table n room workspace =
     require (leb leastWorkspace workspace) shortWorkspace
     (require (leb headerLength (usable room)) noRoom
     (fitted (fit (usable room) headerLength (emission P n)) (circuit P n))))
+
+-- document 02, S-5, the inverse: "Answers: 24, the table's room is shorter than the source table, after 12", then the bytes of the table whose run undoes
+-- this one's
+unfoldable pub inverseTable : List ℕ → ℕ → ℕ → Outcome (List ℕ)
+inverseTable table n room =
+    after (accepted table n) (λ P.
+    require (leb (length table) room) shortTableRoom
+    (gives (writeTable (inverseProgram P))))
 
 -- "14 circuit not well formed", whatever is wrong with it
 unfoldable pub wellFormed : Parsed Circuit → Outcome Circuit

@@ -5,6 +5,8 @@ pub mod Lists
 pub mod Faults
 pub mod Meaning
 pub mod Reach
+pub mod Writing
+pub mod Inverse
 pub mod Rules
 pub mod Gates
 pub mod Emission
@@ -12,6 +14,7 @@ pub mod Circuit
 pub mod Bound
 pub mod Answers
 pub mod Demand
+pub mod Undoing
 pub mod Listing
 pub mod Page
 pub mod Examples

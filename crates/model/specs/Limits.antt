@@ -127,3 +127,7 @@ manyWires = 22
 -- "23 header or next gate would pass the room's end"; a listing, its text's end
 abbrev pub noRoom : ℕ
 noRoom = 23
+
+-- document 02, S-5: "24, the table's room is shorter than the source table"
+abbrev pub shortTableRoom : ℕ
+shortTableRoom = 24

@@ -14,6 +14,7 @@ use Rattle.model.specs.Limits.{tableStops, wrongField, mostRemovals}
 use Rattle.model.specs.Reading as model
 use Rattle.model.specs.Reading.{Input, inputAt, Parsed, parsed, refused, andThen, provided, byte, mostBase, number, numbers, removals, procedure}
 use Rattle.model.specs.Reading.{permitted, stands, Fields, optional, fields}
+use Rattle.model.specs.Writing.{noFields, touchedFields, comparedFields, calledFields}
 use Rattle.model.proofs.BooleanLaws.{byEq, byLt, or-cases}
 use Rattle.model.proofs.ByteAtAPlace.{byte-there, byte-past}
 use Rattle.records.specs.declared.Number.{Number}
@@ -24,7 +25,7 @@ use Rattle.records.specs.declared.Answer.the-variants as answer
 use Rattle.records.specs.Fields.{byteAt, andThenPlace, andThenNumber, andThenProcedure, based, writtenAt, numberAt, numbersAt, removalsAt, procedureAt}
 use Rattle.records.specs.Fields.{maybeRemovalsAt, placeOf, afterRemovals, plainRecord, touchRecord, comparisonRecord, callRecord, withNumber, withNumbers, withProcedure}
 use Rattle.records.specs.Fields.{
-  fieldsAt, recordOf, recordAt, numberOf, numbersFrom, removalsOf, noFields, touchedFields, comparedFields, calledFields, fieldsOf,
+  fieldsAt, recordOf, recordAt, numberOf, numbersFrom, removalsOf, fieldsOf,
   fieldsParsed, FieldsRead,
 }
 

@@ -10,6 +10,7 @@ use lib.IntN.{ℤ, pos}
 use Rattle.limits.specs.Sizes.{placeCount, kindCount}
 use Rattle.model.specs.Limits.{mostRemovals, tableStops, wrongField}
 use Rattle.model.specs.Syntax as syntax
+use Rattle.model.specs.Writing.{noFields, touchedFields, comparedFields, calledFields}
 use Rattle.model.specs.Reading.{inputAt, Parsed, parsed, refused, signed16, mostBase, requiredMap, permitted, stands, Fields, fields}
 use Rattle.records.specs.declared.Number.{Number}
 use Rattle.records.specs.declared.Number.the-variants.{Constant, SizePlus, LeftPlus}
@@ -184,22 +185,6 @@ numbersFrom (suc n) bs at = numberOf (writtenAt bs at) ∷ numbersFrom n bs (at 
 unfoldable pub removalsOf : List ℕ → ℕ → List syntax.Number
 removalsOf bs zero = []
 removalsOf bs (suc at) = numbersFrom (byteAt bs (suc at)) bs (suc (suc at))
-
--- fields as the model has them, with 0 and no removals where a map has no bit for them
-abbrev pub absent : syntax.Number
-absent = syntax.constant (pos 0)
-
-abbrev pub noFields : Fields
-noFields = record { removed = []; a = absent; b = absent; called = 0 }
-
-abbrev pub touchedFields : List syntax.Number → syntax.Number → Fields
-touchedFields rs a = record { removed = rs; a = a; b = absent; called = 0 }
-
-abbrev pub comparedFields : syntax.Number → syntax.Number → Fields
-comparedFields a b = record { removed = []; a = a; b = b; called = 0 }
-
-abbrev pub calledFields : List syntax.Number → ℕ → Fields
-calledFields rs f = record { removed = rs; a = absent; b = absent; called = f }
 
 -- the fields that a record of the table holds
 unfoldable pub fieldsOf : List ℕ → Record → Fields
