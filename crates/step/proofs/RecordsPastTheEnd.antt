@@ -20,7 +20,8 @@ use Rattle.step.proofs.PlacesPastTheEnd.{far-past-end}
 end-alike : (ix : List ℕ) (i j : ℕ) → length ix ≤ i → length ix ≤ j → endOf ix i ≡ endOf ix j
 end-alike ix i j h k = sym (far-past-end ix endsAt i h) ∙ far-past-end ix endsAt j k
 
-next-in : (ix : List ℕ) (i : ℕ) → i < length ix → firstChild ix i ≡ i + 1
+-- in the index the next record is i + 1
+pub next-in : (ix : List ℕ) (i : ℕ) → i < length ix → firstChild ix i ≡ i + 1
 unfolding firstChild
 next-in ix i h = rw (lt-ltb i (length ix) h)
 

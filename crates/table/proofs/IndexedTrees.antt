@@ -5,7 +5,7 @@ use native.Mathlib.Numerals.{add-one}
 use native.Mathlib.Omega.{arith}
 use mathlib.Core.Path.{_≡_, refl, _∙_, subst}
 use mathlib.Core.Bool.{Bool, true, false, cond}
-use mathlib.Core.List.{List, [], _∷_}
+use mathlib.Core.List.{List, [], _∷_, _++_}
 use mathlib.Core.Option.{Option, none, some}
 use borrow.Author.Tests.{lt-ltb, le-ltb, le-leb, lt-leb, ltb-true, ltb-false}
 use lib.Dec.{ltb}
@@ -15,35 +15,38 @@ use Rattle.model.specs.Limits.{mostRecords, tooDeep, tableStops, wrongKind, wro
 use Rattle.model.specs.Syntax.{Condition, conjunction, disjunction, Statement, sequence, if, qcase}
 use Rattle.model.specs.Reading as model
 use Rattle.model.specs.Reading.{Input, inputAt, Parsed, parsed, refused, andThen, provided, Fields, known, opening, contents, permitted, stands, two}
-use Rattle.model.specs.Reading.{conditionKind, statementKind, conditionOf, condition, statement}
+use Rattle.model.specs.Reading.{conditionKind, statementKind, conditionOf, condition, statement, fields}
+use Rattle.model.specs.Writing.{recordBytes, noFields, conditionBytes, headBytes}
 use Rattle.model.proofs.BooleanLaws.{byBool, byLt, clash}
 use Rattle.model.proofs.ByteAtAPlace.{byte-there, byte-past}
 use Rattle.model.proofs.ReadingLaws.{longestRecord}
+use Rattle.model.proofs.RoundTrip.{Bytes}
 use Rattle.records.specs.declared.Record.{Record}
 use Rattle.records.specs.declared.Record.the-variants as kind
 use Rattle.records.specs.Fields.{byteAt, recordOf, recordAt, fieldsOf}
 use Rattle.records.proofs.ReadingAtAPlace.{kindOf, fields-cases, record-again}
 use Rattle.table.specs.declared.Tree.the-variants as tree
-use Rattle.table.specs.Index.{startOf, endOf, testOf, testAt, statementOf, statementAt}
+use Rattle.table.specs.Index.{startOf, endOf, testOf, testAt, statementOf, statementAt, piece, Placed}
 use Rattle.table.specs.TreeReading.{Ran, ran, andThenTree, noted, wanted, parts, contentsAt, many, refusal, andThenFields}
 use Rattle.table.specs.TreeReading.{childrenAt, opened, treeAt}
 use Rattle.table.proofs.IndexSlots.{noted-there, noted-other, noted-long, Same, same-then, same-part}
+use Rattle.table.proofs.SpannedBytes.{Spans, spans-then, spans-piece, record-spans}
 use Rattle.table.proofs.IndexSlots.{Kept, kept-itself, kept-then, kept-start, kept-end, same-end}
 
--- where a tree was read from record i on: up to `at` and record j, with `found` leading to it in every index that agrees on its records
-pub record Reached {A : Type 0} (i : ℕ) (ix : List ℕ) (found : List ℕ → A) (a : A) (at j : ℕ) (jx : List ℕ) : Type 0 where
+-- where a tree was read from record i on, up to `at` and record j: it is found there by every index that agrees on its records
+pub record Reached {A : Type 0} (i : ℕ) (ix : List ℕ) (Found : List ℕ → ℕ → A → Type 0) (a : A) (at j : ℕ) (jx : List ℕ) : Type 0 where
   pub more : i < j
   pub few : j ≤ mostRecords
   pub near : at ≤ 2 + longestRecord * j
   pub kept : Kept i ix jx
   pub total : endOf jx i ≡ j
-  pub finds : (kx : List ℕ) → Same i j jx kx → found kx ≡ a
+  pub finds : (kx : List ℕ) → length kx ≡ indexLength → Same i j jx kx → Found kx at a
 
 -- both read, up to the same place and record, or both refuse with the same number
-pub data Agree {A : Type 0} (bs : List ℕ) (i : ℕ) (ix : List ℕ) (found : List ℕ → A) : Parsed A → Ran → Type 0 where
-  reads : (a : A) (at j : ℕ) (jx : List ℕ) → Reached i ix found a at j jx →
-      Agree bs i ix found (parsed a (inputAt bs at j)) (ran (tree.Read at j) jx)
-  refuses : (k : ℕ) (jx : List ℕ) → Agree bs i ix found (refused k) (ran (tree.Refused k) jx)
+pub data Agree {A : Type 0} (bs : List ℕ) (i : ℕ) (ix : List ℕ) (Found : List ℕ → ℕ → A → Type 0) : Parsed A → Ran → Type 0 where
+  reads : (a : A) (at j : ℕ) (jx : List ℕ) → Reached i ix Found a at j jx →
+      Agree bs i ix Found (parsed a (inputAt bs at j)) (ran (tree.Read at j) jx)
+  refuses : (k : ℕ) (jx : List ℕ) → Agree bs i ix Found (refused k) (ran (tree.Refused k) jx)
 
 -- a record whose parts are read: its last note
 abbrev finished : ℕ → ℕ → ℕ → List ℕ → Ran
@@ -120,21 +123,21 @@ record Partly (i : ℕ) (ix : List ℕ) (at j : ℕ) (jx : List ℕ) : Type 0 wh
   kept : Kept (i + 1) ix jx
   long : length jx ≡ indexLength
 
--- what an index says of a part of record i, from record j on, that ended before record n
-record Part {B : Type 0} (i j : ℕ) (jx : List ℕ) (find : List ℕ → ℕ → B) (b : B) (n : ℕ) (kx : List ℕ) : Type 0 where
+-- what an index says of a part of record i, from record j on, that ended at a place and before record n
+record Part {B : Type 0} (i j : ℕ) (jx : List ℕ) (Found : List ℕ → ℕ → B → Type 0) (end : ℕ) (b : B) (n : ℕ) (kx : List ℕ) : Type 0 where
   earlier : Same (i + 1) j jx kx
-  is : find kx j ≡ b
+  is : Found kx end b
   ends : endOf kx j ≡ n
 
 -- a record, whose start is noted: one part more
-module _ {A B : Type 0} (bs : List ℕ) (i : ℕ) (ix ix₁ : List ℕ) (found : List ℕ → A) (find : List ℕ → ℕ → B) where
+module _ {A B : Type 0} (bs : List ℕ) (i : ℕ) (ix ix₁ : List ℕ) (Found : List ℕ → ℕ → A → Type 0) (Inner : List ℕ → ℕ → B → Type 0) where
   step :
       (at j : ℕ) (jx : List ℕ) (p : Parsed B) (r : Ran) (f : B → Input → Parsed A) (g : ℕ → ℕ → List ℕ → Ran) → Partly i ix₁ at j jx →
-      Agree bs j jx (λ kx. find kx j) p r →
+      Agree bs j jx Inner p r →
       ((b : B) (end n : ℕ) (nx : List ℕ) → Partly i ix₁ end n nx →
-      ((kx : List ℕ) → Same (i + 1) n nx kx → Part i j jx find b n kx) →
-      Agree bs i ix found (f b (inputAt bs end n)) (g end n nx)) →
-      Agree bs i ix found (andThen p f) (andThenTree r g)
+      ((kx : List ℕ) → length kx ≡ indexLength → Same (i + 1) n nx kx → Part i j jx Inner end b n kx) →
+      Agree bs i ix Found (f b (inputAt bs end n)) (g end n nx)) →
+      Agree bs i ix Found (andThen p f) (andThenTree r g)
   unfolding andThen andThenTree
   step at j jx _ _ f g s (refuses k kx) go = refuses k kx
   step at j jx _ _ f g s (reads b end n nx r) go =
@@ -148,20 +151,20 @@ module _ {A B : Type 0} (bs : List ℕ) (i : ℕ) (ix ix₁ : List ℕ) (found :
         kept = kept-then (omega arith) (s .kept) (r .kept);
         long = r .kept .long ∙ s .long;
       })
-      (λ kx t.
+      (λ kx full t.
       record {
         earlier = same-then (i + 1) j (omega arith) (omega arith) (omega arith) (omega arith) (r .kept .same) t;
-        is = r .finds kx (same-part j n (omega arith) (omega arith) t);
+        is = r .finds kx full (same-part j n (omega arith) (omega arith) t);
         ends = t .subtreeEnds j (omega arith) m ∙ r .total;
       })
 
 -- all parts are read: the record behind them is noted
 finish :
-    {A : Type 0} (bs : List ℕ) (i at : ℕ) (ix : List ℕ) (found : List ℕ → A) (a : A) (end j : ℕ) (jx : List ℕ) →
+    {A : Type 0} (bs : List ℕ) (i at : ℕ) (ix : List ℕ) (Found : List ℕ → ℕ → A → Type 0) (a : A) (end j : ℕ) (jx : List ℕ) →
     i < mostRecords → at < placeCount → length ix ≡ indexLength → Partly i (noted ix i at) end j jx →
-    ((kx : List ℕ) → startOf kx i ≡ at → Same (i + 1) j jx kx → found kx ≡ a) →
-    Agree bs i ix found (parsed a (inputAt bs end j)) (finished i end j jx)
-finish bs i at ix found a end j jx h l n s find =
+    ((kx : List ℕ) → length kx ≡ indexLength → startOf kx i ≡ at → Same (i + 1) j jx kx → Found kx end a) →
+    Agree bs i ix Found (parsed a (inputAt bs end j)) (finished i end j jx)
+finish bs i at ix Found a end j jx h l n s find =
     let m : i < j = s .after in
     let few : j ≤ mostRecords = s .few in
     reads a end j (noted jx (endsAt + i) j)
@@ -172,32 +175,36 @@ finish bs i at ix found a end j jx h l n s find =
       kept = kept-then {i = i} {j = i} (omega arith) (kept-then (omega arith) (kept-start i at ix h) (s .kept)) (kept-end i j jx h);
       total = noted-there jx (endsAt + i) j (s .long) (omega arith) (omega arith);
       finds =
-          λ kx t. find kx
+          λ kx full t. find kx full
           (t .starts i (omega arith) m ∙ noted-other jx (endsAt + i) j i (omega arith) ∙ s .kept .same .starts i (omega arith) (omega arith)
           ∙ noted-there ix i at n (omega arith) l)
           (same-then (i + 1) j (omega arith) (omega arith) (omega arith) (omega arith) (same-end i j jx h j few) t);
     })
 
--- a reader of parts: what it finds at record j
-abbrev pub Reads : {B : Type 0} → List ℕ → (Input → Parsed B) → (ℕ → ℕ → List ℕ → Ran) → (List ℕ → ℕ → B) → Type 0
-Reads bs part one find =
-    (at j : ℕ) (jx : List ℕ) → at ≤ 2 + longestRecord * j → length jx ≡ indexLength → Agree bs j jx (λ kx. find kx j) (part (inputAt bs at j)) (one at j jx)
+-- what a reader of parts finds from a place and a record on, by an index, up to a place
+abbrev pub Finds : Type 0 → Type 1
+Finds B = ℕ → ℕ → List ℕ → ℕ → B → Type 0
+
+abbrev pub Reads : {B : Type 0} → List ℕ → (Input → Parsed B) → (ℕ → ℕ → List ℕ → Ran) → Finds B → Type 0
+Reads bs part one Find =
+    (at j : ℕ) (jx : List ℕ) → at ≤ 2 + longestRecord * j → length jx ≡ indexLength → Agree bs j jx (Find at j) (part (inputAt bs at j)) (one at j jx)
 
 -- the last two parts
 two-from :
-    {A B : Type 0} (bs : List ℕ) (i at : ℕ) (ix : List ℕ) (found : List ℕ → A) (find : List ℕ → ℕ → B) (part : Input → Parsed B)
+    {A B : Type 0} (bs : List ℕ) (i at : ℕ) (ix : List ℕ) (Found : List ℕ → ℕ → A → Type 0) (Find : Finds B) (part : Input → Parsed B)
     (one : ℕ → ℕ → List ℕ → Ran) (make : B → B → A) (from j : ℕ) (jx : List ℕ) →
-    i < mostRecords → at < placeCount → length ix ≡ indexLength → Reads bs part one find → Partly i (noted ix i at) from j jx →
-    ((kx : List ℕ) → startOf kx i ≡ at → Same (i + 1) j jx kx → found kx ≡ make (find kx j) (find kx (endOf kx j))) →
-    Agree bs i ix found (two part make (inputAt bs from j)) (andThenTree (one from j jx) (λ a n nx. andThenTree (one a n nx) (finished i)))
+    i < mostRecords → at < placeCount → length ix ≡ indexLength → Reads bs part one Find → Partly i (noted ix i at) from j jx →
+    ((kx : List ℕ) → length kx ≡ indexLength → startOf kx i ≡ at → Same (i + 1) j jx kx → (b c : B) (middle end m : ℕ) →
+    Find from j kx middle b → endOf kx j ≡ m → Find middle m kx end c → Found kx end (make b c)) →
+    Agree bs i ix Found (two part make (inputAt bs from j)) (andThenTree (one from j jx) (λ a n nx. andThenTree (one a n nx) (finished i)))
 unfolding two
-two-from bs i at ix found find part one make from j jx h l n reader s is =
-    step bs i ix (noted ix i at) found find from j jx _ _ _ _ s (reader from j jx (s .near) (s .long)) λ b end m mx s₁ p.
-    step bs i ix (noted ix i at) found find end m mx _ _ _ _ s₁ (reader end m mx (s₁ .near) (s₁ .long)) λ c last o ox s₂ q.
-    finish bs i at ix found (make b c) last o ox h l n s₂ λ kx e t.
-    let second : Part i m mx find c o kx = q kx t in
-    let first : Part i j jx find b m kx = p kx (second .earlier) in
-    is kx e (first .earlier) ∙ rw (first .is, first .ends, second .is)
+two-from bs i at ix Found Find part one make from j jx h l n reader s is =
+    step bs i ix (noted ix i at) Found (Find from j) from j jx _ _ _ _ s (reader from j jx (s .near) (s .long)) λ b middle m mx s₁ p.
+    step bs i ix (noted ix i at) Found (Find middle m) middle m mx _ _ _ _ s₁ (reader middle m mx (s₁ .near) (s₁ .long)) λ c end o ox s₂ q.
+    finish bs i at ix Found (make b c) end o ox h l n s₂ λ kx full e t.
+    let second : Part i m mx (Find middle m) end c o kx = q kx full t in
+    let first : Part i j jx (Find from j) middle b m kx = p kx full (second .earlier) in
+    is kx full e (first .earlier) b c middle end m (first .is) (first .ends) (second .is)
 
 -- the kinds: 0 to 5 are statements, 6 to 11 conditions, and there are no others
 entry-there : {A : Type 0} (l : List A) (k : ℕ) → k < length l → getElem? l k ≡ none → ⊥
@@ -249,25 +256,28 @@ conditions-sorted k = byLt k firstCondition
     kinds : List model.ConditionKind
     kinds = model.greaters ∷ model.atLeasts ∷ model.equals ∷ model.ands ∷ model.ors ∷ model.negations ∷ []
 
-module _ {A : Type 0} (p : ℕ) (bs : List ℕ) (at i : ℕ) (ix : List ℕ) (found : List ℕ → A) where
+module _ {A : Type 0} (p : ℕ) (bs : List ℕ) (ok : Bytes bs) (at i : ℕ) (ix : List ℕ) (Found : List ℕ → ℕ → A → Type 0) where
   -- a record that was opened: its fields, and its children
   contents-agree :
-      (map k : ℕ) (f : Fields → Input → Parsed A) (g : ℕ → Ran) → at + 2 ≤ length bs → k < kindCount → at ≤ 2 + longestRecord * i →
-      ((r : Record) (next : ℕ) → i < mostRecords → recordOf p k (stands 0 map) bs (at + 2) ≡ r → kindOf r ≡ k →
-      next ≤ 2 + longestRecord * (i + 1) →
-      Agree bs i ix found (f (fieldsOf bs r) (inputAt bs next (i + 1))) (g next)) →
-      Agree bs i ix found (contents p map k (inputAt bs (at + 2) i) f)
-      (cond (ltb i mostRecords) (andThenFields (contentsAt p map k bs (at + 2)) ix g) (ran (tree.Refused tooDeep) ix))
+      (f : Fields → Input → Parsed A) (g : ℕ → Ran) → at + 2 ≤ length bs → byteAt bs (at + 1) < kindCount → at ≤ 2 + longestRecord * i →
+      ((r : Record) (next : ℕ) → i < mostRecords → recordOf p (byteAt bs (at + 1)) (stands 0 (byteAt bs at)) bs (at + 2) ≡ r →
+      kindOf r ≡ byteAt bs (at + 1) → next ≤ 2 + longestRecord * (i + 1) → Spans bs at next (recordBytes (kindOf r) (fieldsOf bs r)) →
+      Agree bs i ix Found (f (fieldsOf bs r) (inputAt bs next (i + 1))) (g next)) →
+      Agree bs i ix Found (contents p (byteAt bs at) (byteAt bs (at + 1)) (inputAt bs (at + 2) i) f)
+      (cond (ltb i mostRecords) (andThenFields (contentsAt p (byteAt bs at) (byteAt bs (at + 1)) bs (at + 2)) ix g) (ran (tree.Refused tooDeep) ix))
   unfolding contents contentsAt provided andThen andThenFields refusal
-  contents-agree map k f g inside small near go =
+  contents-agree f g inside small near go =
+      let map = byteAt bs at in
+      let k = byteAt bs (at + 1) in
       byLt i mostRecords
       (λ l. rw (lt-ltb i mostRecords l)
       (byBool (permitted k map)
       (λ t. rw (t, ← add-one i)
       (fields-cases p k map bs (at + 2) (i + 1) (omega arith) (omega arith) inside small t
-      (λ q x. Agree bs i ix found (andThen q f) (andThenFields x ix g))
-      (λ r next e is w. go r next l e is (omega (arith, w .high)))
-      (λ m. refuses m ix)))
+      (λ q x. fields p map (inputAt bs (at + 2) (i + 1)) ≡ q → Agree bs i ix Found (andThen q f) (andThenFields x ix g))
+      (λ r next e is w read. go r next l e is (omega (arith, w .high))
+      (rw is (record-spans p bs at (i + 1) next (fieldsOf bs r) ok inside t (w .low) (w .inside) read)))
+      (λ m read. refuses m ix) refl))
       (λ t. rw t (refuses wrongMap ix))))
       (λ l. rw (le-ltb i mostRecords l) (refuses tooDeep ix))
 
@@ -276,8 +286,8 @@ module _ {A : Type 0} (p : ℕ) (bs : List ℕ) (at i : ℕ) (ix : List ℕ) (fo
       {K : Type 0} (tests : Bool) (sort : ℕ → Option K) (f : ℕ → ℕ → K → Input → Parsed A) (x : Ran) →
       ((k : ℕ) → Sorted tests sort k) →
       ((what : K) → sort (byteAt bs (at + 1)) ≡ some what → at + 2 ≤ length bs → byteAt bs (at + 1) < kindCount →
-      Agree bs i ix found (f (byteAt bs at) (byteAt bs (at + 1)) what (inputAt bs (at + 2) i)) x) →
-      Agree bs i ix found (opening sort (inputAt bs at i) f) (opened tests bs at ix x)
+      Agree bs i ix Found (f (byteAt bs at) (byteAt bs (at + 1)) what (inputAt bs (at + 2) i)) x) →
+      Agree bs i ix Found (opening sort (inputAt bs at i) f) (opened tests bs at ix x)
   unfolding opening andThen known
   opening-agrees tests sort f x sorted go =
       byLt at (length bs)
@@ -294,16 +304,26 @@ module _ {A : Type 0} (p : ℕ) (bs : List ℕ) (at i : ℕ) (ix : List ℕ) (fo
       byte-next l = let e : at + 1 + 1 ≡ at + 2 = omega arith in rw (← e) (byte-there bs (at + 1) i l)
 
       by : (o : _) → sort (byteAt bs (at + 1)) ≡ o → at + 1 < length bs → wanted tests (byteAt bs (at + 1)) ≡ true →
-          Agree bs i ix found (known o (λ what. f (byteAt bs at) (byteAt bs (at + 1)) what (inputAt bs (at + 2) i))) x
+          Agree bs i ix Found (known o (λ what. f (byteAt bs at) (byteAt bs (at + 1)) what (inputAt bs (at + 2) i))) x
       by none e l w = absurd (sorted (byteAt bs (at + 1)) .there w e)
       by (some what) e l w = go what e (omega arith) (sorted (byteAt bs (at + 1)) .small w)
 
--- what stands at record j: a condition, or a statement, of at most `depth` records from its root down
+-- what stands at record j, from a place up to another: a condition, or a statement, of at most `depth` records from its root down
+pub record TestFound (p : ℕ) (bs : List ℕ) (depth at j : ℕ) (kx : List ℕ) (end : ℕ) (c : Condition) : Type 0 where
+  pub is : testAt p bs kx depth j ≡ c
+  pub spans : Spans bs at end (conditionBytes c)
+
+pub record StatementFound (p : ℕ) (bs : List ℕ) (depth at j : ℕ) (kx : List ℕ) (end : ℕ) (s : Statement) : Type 0 where
+  pub is : statementAt p bs kx depth j ≡ s
+  pub starts : startOf kx j ≡ at
+  pub inside : end ≤ length bs
+  pub placed : Placed bs kx j end s
+
 abbrev pub Tests : ℕ → List ℕ → ℕ → Type 0
-Tests p bs depth = Reads bs (condition p depth) (treeAt p bs depth true) (λ kx j. testAt p bs kx depth j)
+Tests p bs depth = Reads bs (condition p depth) (treeAt p bs depth true) (TestFound p bs depth)
 
 abbrev pub Bodies : ℕ → List ℕ → ℕ → Type 0
-Bodies p bs depth = Reads bs (statement p depth) (treeAt p bs depth false) (λ kx j. statementAt p bs kx depth j)
+Bodies p bs depth = Reads bs (statement p depth) (treeAt p bs depth false) (StatementFound p bs depth)
 
 -- record i, at `at`, whose fields were read up to `next`
 module _
@@ -324,130 +344,173 @@ module _
 
   -- without children
   alone :
-      {A : Type 0} (k : ℕ) (found : List ℕ → A) (a : A) → parts true k ≡ 0 → parts false k ≡ 0 →
-      ((kx : List ℕ) → startOf kx i ≡ at → found kx ≡ a) →
-      Agree bs i ix found (parsed a (inputAt bs next (i + 1))) (childrenAt (treeAt p bs depth) k at next i ix)
-  alone k found a e f is =
+      {A : Type 0} (k : ℕ) (Found : List ℕ → ℕ → A → Type 0) (a : A) → parts true k ≡ 0 → parts false k ≡ 0 →
+      ((kx : List ℕ) → startOf kx i ≡ at → Found kx next a) →
+      Agree bs i ix Found (parsed a (inputAt bs next (i + 1))) (childrenAt (treeAt p bs depth) k at next i ix)
+  alone k Found a e f is =
       rw (no-children (treeAt p bs depth) k at next i ix e f)
-      (finish bs i at ix found a next (i + 1) (noted ix i at) h fits n began λ kx s t. is kx s)
+      (finish bs i at ix Found a next (i + 1) (noted ix i at) h fits n began λ kx full s t. is kx s)
 
   module _ (tests : Tests p bs depth) where
     -- a condition, and what follows
     condition-first :
-        {A : Type 0} (found : List ℕ → A) (f : Condition → Input → Parsed A) (g : ℕ → ℕ → List ℕ → Ran) →
+        {A : Type 0} (Found : List ℕ → ℕ → A → Type 0) (f : Condition → Input → Parsed A) (g : ℕ → ℕ → List ℕ → Ran) →
         ((c : Condition) (end m : ℕ) (mx : List ℕ) → Partly i (noted ix i at) end m mx →
-        ((kx : List ℕ) → Same (i + 1) m mx kx → Part i (i + 1) (noted ix i at) (λ lx j. testAt p bs lx depth j) c m kx) →
-        Agree bs i ix found (f c (inputAt bs end m)) (g end m mx)) →
-        Agree bs i ix found (andThen (condition p depth (inputAt bs next (i + 1))) f)
+        ((kx : List ℕ) → length kx ≡ indexLength → Same (i + 1) m mx kx →
+        Part i (i + 1) (noted ix i at) (TestFound p bs depth next (i + 1)) end c m kx) →
+        Agree bs i ix Found (f c (inputAt bs end m)) (g end m mx)) →
+        Agree bs i ix Found (andThen (condition p depth (inputAt bs next (i + 1))) f)
         (andThenTree (treeAt p bs depth true next (i + 1) (noted ix i at)) g)
-    condition-first found f g go =
-        step bs i ix (noted ix i at) found (λ kx j. testAt p bs kx depth j) next (i + 1) (noted ix i at) _ _ f g began
+    condition-first Found f g go =
+        step bs i ix (noted ix i at) Found (TestFound p bs depth next (i + 1)) next (i + 1) (noted ix i at) _ _ f g began
         (tests next (i + 1) (noted ix i at) close (began .long)) go
 
     -- two conditions
     both-conditions :
-        (k : ℕ) (found : List ℕ → Condition) (make : Condition → Condition → Condition) → parts false k ≡ 0 → parts true k ≡ 2 →
+        (k : ℕ) (make : Condition → Condition → Condition) → parts false k ≡ 0 → parts true k ≡ 2 → Spans bs at next (recordBytes k noFields) →
+        ((c d : Condition) → conditionBytes (make c d) ≡ recordBytes k noFields ++ (conditionBytes c ++ conditionBytes d)) →
         ((kx : List ℕ) → startOf kx i ≡ at →
-        found kx ≡ make (testAt p bs kx depth (i + 1)) (testAt p bs kx depth (endOf kx (i + 1)))) →
-        Agree bs i ix found (two (condition p depth) make (inputAt bs next (i + 1))) (childrenAt (treeAt p bs depth) k at next i ix)
-    both-conditions k found make e f is =
+        testAt p bs kx (suc depth) i ≡ make (testAt p bs kx depth (i + 1)) (testAt p bs kx depth (endOf kx (i + 1)))) →
+        Agree bs i ix (TestFound p bs (suc depth) at i) (two (condition p depth) make (inputAt bs next (i + 1)))
+        (childrenAt (treeAt p bs depth) k at next i ix)
+    both-conditions k make e f spans bytes is =
         rw (two-conditions (treeAt p bs depth) k at next i ix e f)
-        (two-from bs i at ix found (λ kx j. testAt p bs kx depth j) (condition p depth) (treeAt p bs depth true) make next (i + 1) (noted ix i at)
-        h fits n tests began λ kx s t. is kx s)
+        (two-from bs i at ix (TestFound p bs (suc depth) at i) (TestFound p bs depth) (condition p depth) (treeAt p bs depth true) make
+        next (i + 1) (noted ix i at) h fits n tests began λ kx full s t b c middle end m first ends second.
+        record {
+          is = is kx s ∙ rw (first .is, ends, second .is);
+          spans = rw (bytes b c) (spans-then _ _ spans (spans-then _ _ (first .spans) (second .spans)));
+        })
+
+    -- a comparison
+    compared : (k : ℕ) (c : Condition) → parts true k ≡ 0 → parts false k ≡ 0 → Spans bs at next (conditionBytes c) →
+        ((kx : List ℕ) → startOf kx i ≡ at → testAt p bs kx (suc depth) i ≡ c) →
+        Agree bs i ix (TestFound p bs (suc depth) at i) (parsed c (inputAt bs next (i + 1))) (childrenAt (treeAt p bs depth) k at next i ix)
+    compared k c e f spans is = alone k _ c e f λ kx s. record { is = is kx s; spans = spans }
 
     -- a condition's record
     condition-of :
-        (r : Record) → recordAt p bs at ≡ r → (conditionKind (kindOf r) ≡ none → ⊥) →
-        Agree bs i ix (λ kx. testAt p bs kx (suc depth) i)
+        (r : Record) → recordAt p bs at ≡ r → Spans bs at next (recordBytes (kindOf r) (fieldsOf bs r)) → (conditionKind (kindOf r) ≡ none → ⊥) →
+        Agree bs i ix (TestFound p bs (suc depth) at i)
         (known (conditionKind (kindOf r)) (λ what. conditionOf (condition p depth) what (fieldsOf bs r) (inputAt bs next (i + 1))))
         (childrenAt (treeAt p bs depth) (kindOf r) at next i ix)
-    unfolding kindOf conditionKind known conditionOf fieldsOf parts testAt testOf andThen
-    condition-of kind.Skip e there = absurd (there refl)
-    condition-of (kind.Not q a) e there = absurd (there refl)
-    condition-of kind.Sequence e there = absurd (there refl)
-    condition-of kind.If e there = absurd (there refl)
-    condition-of (kind.Qcase q a) e there = absurd (there refl)
-    condition-of (kind.Call q f) e there = absurd (there refl)
-    condition-of (kind.Greater a b) e there = alone 6 _ _ refl refl λ kx s. rw (s, e)
-    condition-of (kind.AtLeast a b) e there = alone 7 _ _ refl refl λ kx s. rw (s, e)
-    condition-of (kind.Equal a b) e there = alone 8 _ _ refl refl λ kx s. rw (s, e)
-    condition-of kind.And e there = both-conditions 9 _ conjunction refl refl λ kx s. rw (s, e)
-    condition-of kind.Or e there = both-conditions 10 _ disjunction refl refl λ kx s. rw (s, e)
-    condition-of kind.Negation e there =
+    unfolding kindOf conditionKind known conditionOf fieldsOf parts testAt testOf andThen conditionBytes
+    condition-of kind.Skip e spans there = absurd (there refl)
+    condition-of (kind.Not q a) e spans there = absurd (there refl)
+    condition-of kind.Sequence e spans there = absurd (there refl)
+    condition-of kind.If e spans there = absurd (there refl)
+    condition-of (kind.Qcase q a) e spans there = absurd (there refl)
+    condition-of (kind.Call q f) e spans there = absurd (there refl)
+    condition-of (kind.Greater a b) e spans there = compared 6 _ refl refl spans λ kx s. rw (s, e)
+    condition-of (kind.AtLeast a b) e spans there = compared 7 _ refl refl spans λ kx s. rw (s, e)
+    condition-of (kind.Equal a b) e spans there = compared 8 _ refl refl spans λ kx s. rw (s, e)
+    condition-of kind.And e spans there = both-conditions 9 conjunction refl refl spans (λ c d. refl) λ kx s. rw (s, e)
+    condition-of kind.Or e spans there = both-conditions 10 disjunction refl refl spans (λ c d. refl) λ kx s. rw (s, e)
+    condition-of kind.Negation e spans there =
         rw (one-condition (treeAt p bs depth) 11 at next i ix refl refl)
-        (condition-first _ _ _ λ c end m mx s₁ q. finish bs i at ix _ _ end m mx h fits n s₁ λ kx s t. rw (s, e, q kx t .is))
+        (condition-first _ _ _ λ c end m mx s₁ q. finish bs i at ix _ _ end m mx h fits n s₁ λ kx full s t.
+        record { is = rw (s, e, q kx full t .is .is); spans = spans-then _ _ spans (q kx full t .is .spans) })
 
     module _ (bodies : Bodies p bs depth) where
+      -- a statement without statements in it
+      leaf : (k : ℕ) (a : Statement) → parts true k ≡ 0 → parts false k ≡ 0 → next ≤ length bs →
+          ((kx : List ℕ) → startOf kx i ≡ at → statementAt p bs kx (suc depth) i ≡ a) →
+          ((kx : List ℕ) → startOf kx i ≡ at → Placed bs kx i next a) →
+          Agree bs i ix (StatementFound p bs (suc depth) at i) (parsed a (inputAt bs next (i + 1))) (childrenAt (treeAt p bs depth) k at next i ix)
+      leaf k a e f inside is placed = alone k _ a e f λ kx s. record { is = is kx s; starts = s; inside = inside; placed = placed kx s }
+
       -- two statements
       both-statements :
-          (k : ℕ) (found : List ℕ → Statement) (make : Statement → Statement → Statement) → parts false k ≡ 2 → parts true k ≡ 0 →
+          (k : ℕ) (make : Statement → Statement → Statement) → parts false k ≡ 2 → parts true k ≡ 0 →
           ((kx : List ℕ) → startOf kx i ≡ at →
-          found kx ≡ make (statementAt p bs kx depth (i + 1)) (statementAt p bs kx depth (endOf kx (i + 1)))) →
-          Agree bs i ix found (two (statement p depth) make (inputAt bs next (i + 1))) (childrenAt (treeAt p bs depth) k at next i ix)
-      both-statements k found make e f is =
+          statementAt p bs kx (suc depth) i ≡ make (statementAt p bs kx depth (i + 1)) (statementAt p bs kx depth (endOf kx (i + 1)))) →
+          ((kx : List ℕ) (end : ℕ) (b c : Statement) → i < length kx → piece bs (startOf kx i) (startOf kx (i + 1)) ≡ piece bs at next →
+          Placed bs kx (i + 1) (startOf kx (endOf kx (i + 1))) b → Placed bs kx (endOf kx (i + 1)) end c → Placed bs kx i end (make b c)) →
+          Agree bs i ix (StatementFound p bs (suc depth) at i) (two (statement p depth) make (inputAt bs next (i + 1)))
+          (childrenAt (treeAt p bs depth) k at next i ix)
+      both-statements k make e f is placed =
           rw (two-statements (treeAt p bs depth) k at next i ix e f)
-          (two-from bs i at ix found (λ kx j. statementAt p bs kx depth j) (statement p depth) (treeAt p bs depth false) make next (i + 1)
-          (noted ix i at) h fits n bodies began λ kx s t. is kx s)
+          (two-from bs i at ix (StatementFound p bs (suc depth) at i) (StatementFound p bs depth) (statement p depth) (treeAt p bs depth false) make
+          next (i + 1) (noted ix i at) h fits n bodies began λ kx full s t b c middle end m first ends second.
+          record {
+            is = is kx s ∙ rw (first .is, ends, second .is);
+            starts = s;
+            inside = second .inside;
+            placed =
+                placed kx end b c (omega arith) (rw (s, first .starts))
+                (rw (ends, second .starts) (first .placed)) (rw ends (second .placed));
+          })
 
       -- a statement's record
       statement-of :
-          (r : Record) → recordAt p bs at ≡ r → (statementKind (kindOf r) ≡ none → ⊥) →
-          Agree bs i ix (λ kx. statementAt p bs kx (suc depth) i)
+          (r : Record) → recordAt p bs at ≡ r → Spans bs at next (recordBytes (kindOf r) (fieldsOf bs r)) → (statementKind (kindOf r) ≡ none → ⊥) →
+          Agree bs i ix (StatementFound p bs (suc depth) at i)
           (known (statementKind (kindOf r))
           (λ what. model.statementOf (condition p depth) (statement p depth) what (fieldsOf bs r) (inputAt bs next (i + 1))))
           (childrenAt (treeAt p bs depth) (kindOf r) at next i ix)
-      unfolding kindOf statementKind known model.statementOf fieldsOf parts statementAt statementOf andThen
-      statement-of kind.Skip e there = alone 0 _ _ refl refl λ kx s. rw (s, e)
-      statement-of (kind.Not q a) e there = alone 1 _ _ refl refl λ kx s. rw (s, e)
-      statement-of kind.Sequence e there = both-statements 2 _ sequence refl refl λ kx s. rw (s, e)
-      statement-of kind.If e there =
+      unfolding kindOf statementKind known model.statementOf fieldsOf parts statementAt statementOf andThen Placed headBytes
+      statement-of kind.Skip e spans there = leaf 0 _ refl refl (spans .inside) (λ kx s. rw (s, e)) λ kx s. rw s (spans-piece _ spans)
+      statement-of (kind.Not q a) e spans there = leaf 1 _ refl refl (spans .inside) (λ kx s. rw (s, e)) λ kx s. rw s (spans-piece _ spans)
+      statement-of kind.Sequence e spans there =
+          both-statements 2 sequence refl refl (λ kx s. rw (s, e)) λ kx end b c l head first second. (l, head ∙ spans-piece _ spans, first, second)
+      statement-of kind.If e spans there =
           rw (condition-and-two (treeAt p bs depth) 3 at next i ix refl refl)
-          (condition-first _ _ _ λ c end m mx s₁ q.
-          two-from bs i at ix _ (λ kx j. statementAt p bs kx depth j) (statement p depth) (treeAt p bs depth false) (if c) end m mx
-          h fits n bodies s₁ λ kx s t. rw (s, e, q kx t .is, q kx t .ends))
-      statement-of (kind.Qcase q a) e there = both-statements 4 _ (qcase _ _) refl refl λ kx s. rw (s, e)
-      statement-of (kind.Call q f) e there = alone 5 _ _ refl refl λ kx s. rw (s, e)
-      statement-of (kind.Greater a b) e there = absurd (there refl)
-      statement-of (kind.AtLeast a b) e there = absurd (there refl)
-      statement-of (kind.Equal a b) e there = absurd (there refl)
-      statement-of kind.And e there = absurd (there refl)
-      statement-of kind.Or e there = absurd (there refl)
-      statement-of kind.Negation e there = absurd (there refl)
+          (condition-first _ _ _ λ c middle m mx s₁ q.
+          two-from bs i at ix _ (StatementFound p bs depth) (statement p depth) (treeAt p bs depth false) (if c) middle m mx
+          h fits n bodies s₁ λ kx full s t yes no from end o first ends second.
+          let test = q kx full t in
+          record {
+            is = rw (s, e, test .is .is, test .ends, first .is, ends, second .is);
+            starts = s;
+            inside = second .inside;
+            placed =
+                (omega arith, rw (s, test .ends, first .starts) (spans-piece _ (spans-then _ _ spans (test .is .spans))),
+                rw (test .ends, ends, second .starts) (first .placed), rw (test .ends, ends) (second .placed));
+          })
+      statement-of (kind.Qcase q a) e spans there =
+          both-statements 4 (qcase _ _) refl refl (λ kx s. rw (s, e)) λ kx end b c l head first second. (l, head ∙ spans-piece _ spans, first, second)
+      statement-of (kind.Call q f) e spans there = leaf 5 _ refl refl (spans .inside) (λ kx s. rw (s, e)) λ kx s. rw s (spans-piece _ spans)
+      statement-of (kind.Greater a b) e spans there = absurd (there refl)
+      statement-of (kind.AtLeast a b) e spans there = absurd (there refl)
+      statement-of (kind.Equal a b) e spans there = absurd (there refl)
+      statement-of kind.And e spans there = absurd (there refl)
+      statement-of kind.Or e spans there = absurd (there refl)
+      statement-of kind.Negation e spans there = absurd (there refl)
 
 -- the kind of a record that was read is the kind byte that was tested
 settled :
-    {A K : Type 0} (bs : List ℕ) (i : ℕ) (ix : List ℕ) (found : List ℕ → A) (sort : ℕ → Option K) (f : K → Parsed A) (x : ℕ → Ran)
-    (k j : ℕ) (what : K) → k ≡ j → sort j ≡ some what → ((sort k ≡ none → ⊥) → Agree bs i ix found (known (sort k) f) (x k)) →
-    Agree bs i ix found (f what) (x j)
+    {A K : Type 0} (bs : List ℕ) (i : ℕ) (ix : List ℕ) (Found : List ℕ → ℕ → A → Type 0) (sort : ℕ → Option K) (f : K → Parsed A) (x : ℕ → Ran)
+    (k j : ℕ) (what : K) → k ≡ j → sort j ≡ some what → ((sort k ≡ none → ⊥) → Agree bs i ix Found (known (sort k) f) (x k)) →
+    Agree bs i ix Found (f what) (x j)
 unfolding known
-settled bs i ix found sort f x k j what q e go =
-    rw e at (subst (λ (m : ℕ). (sort m ≡ none → ⊥) → Agree bs i ix found (known (sort m) f) (x m)) q go (apart (sort j) e))
+settled bs i ix Found sort f x k j what q e go =
+    rw e at (subst (λ (m : ℕ). (sort m ≡ none → ⊥) → Agree bs i ix Found (known (sort m) f) (x m)) q go (apart (sort j) e))
   where
     apart : (o : _) → o ≡ some what → o ≡ none → ⊥
     apart o s t = let z : _≡_ {A = ℕ} 0 1 = cc in omega arith
 
 -- a condition's tree is read at every place as the model reads it from the bytes from there on
-pub condition-agrees : (p : ℕ) (bs : List ℕ) (depth : ℕ) → Tests p bs depth
+pub condition-agrees : (p : ℕ) (bs : List ℕ) → Bytes bs → (depth : ℕ) → Tests p bs depth
 unfolding condition treeAt
-condition-agrees p bs zero at i ix near n =
-    opening-agrees p bs at i ix _ true conditionKind _ _ conditions-sorted λ what e inside small. refuses tooDeep ix
-condition-agrees p bs (suc depth) at i ix near n =
-    opening-agrees p bs at i ix _ true conditionKind _ _ conditions-sorted λ what e inside small.
-    contents-agree p bs at i ix _ (byteAt bs at) (byteAt bs (at + 1)) _ _ inside small near λ r next h f q close.
+condition-agrees p bs ok zero at i ix near n =
+    opening-agrees p bs ok at i ix _ true conditionKind _ _ conditions-sorted λ what e inside small. refuses tooDeep ix
+condition-agrees p bs ok (suc depth) at i ix near n =
+    opening-agrees p bs ok at i ix _ true conditionKind _ _ conditions-sorted λ what e inside small.
+    contents-agree p bs ok at i ix _ _ _ inside small near λ r next h f q close spans.
     settled bs i ix _ conditionKind (λ w. conditionOf (condition p depth) w (fieldsOf bs r) (inputAt bs next (i + 1)))
     (λ k. childrenAt (treeAt p bs depth) k at next i ix) (kindOf r) (byteAt bs (at + 1)) what q e
-    (condition-of p bs depth at i ix h near n next close (condition-agrees p bs depth) r (record-again p bs at r f))
+    (condition-of p bs depth at i ix h near n next close (condition-agrees p bs ok depth) r (record-again p bs at r f) spans)
 
 -- a statement's tree is read at every place as the model reads it from the bytes from there on
-pub statement-agrees : (p : ℕ) (bs : List ℕ) (depth : ℕ) → Bodies p bs depth
+pub statement-agrees : (p : ℕ) (bs : List ℕ) → Bytes bs → (depth : ℕ) → Bodies p bs depth
 unfolding statement treeAt
-statement-agrees p bs zero at i ix near n =
-    opening-agrees p bs at i ix _ false statementKind _ _ statements-sorted λ what e inside small. refuses tooDeep ix
-statement-agrees p bs (suc depth) at i ix near n =
-    opening-agrees p bs at i ix _ false statementKind _ _ statements-sorted λ what e inside small.
-    contents-agree p bs at i ix _ (byteAt bs at) (byteAt bs (at + 1)) _ _ inside small near λ r next h f q close.
+statement-agrees p bs ok zero at i ix near n =
+    opening-agrees p bs ok at i ix _ false statementKind _ _ statements-sorted λ what e inside small. refuses tooDeep ix
+statement-agrees p bs ok (suc depth) at i ix near n =
+    opening-agrees p bs ok at i ix _ false statementKind _ _ statements-sorted λ what e inside small.
+    contents-agree p bs ok at i ix _ _ _ inside small near λ r next h f q close spans.
     settled bs i ix _ statementKind
     (λ w. model.statementOf (condition p depth) (statement p depth) w (fieldsOf bs r) (inputAt bs next (i + 1)))
     (λ k. childrenAt (treeAt p bs depth) k at next i ix) (kindOf r) (byteAt bs (at + 1)) what q e
-    (statement-of p bs depth at i ix h near n next close (condition-agrees p bs depth) (statement-agrees p bs depth) r
-    (record-again p bs at r f))
+    (statement-of p bs depth at i ix h near n next close (condition-agrees p bs ok depth) (statement-agrees p bs ok depth) r
+    (record-again p bs at r f) spans)

@@ -4,12 +4,16 @@ use native.Mathlib.Numerals.{add-one}
 use native.Mathlib.Omega.{arith}
 use mathlib.Core.Path.{_≡_, refl, sym, ap, _∙_}
 use mathlib.Core.List.{List, [], _∷_, map}
+use mir.Syntax.{w8}
+use mir.Val.{Fits}
 use borrow.Author.Needs.{needs}
-use borrow.Author.Tests.{lt-leb, le-leb, eq-eqb, ne-eqb}
+use borrow.Author.Tests.{lt-ltb, le-ltb, lt-leb, le-leb, eq-eqb, ne-eqb}
 use lib.Dec.{leb, eqb}
 use lib.ListN.{length, getD, length-drop}
 use Rattle.limits.specs.Sizes.{bodyCount, rootsAt, indexLength}
+use Rattle.model.proofs.BooleanLaws.{byEq, byLt}
 use Rattle.model.proofs.ReadingLaws.{longestRecord}
+use Rattle.model.proofs.RoundTrip.{Bytes}
 use Rattle.model.specs.Limits.{bytesLeft, mostProcedures, mostRecords, mostDepth, tableStops, wrongEdition, manyProcedures, tableEdition}
 use Rattle.model.specs.Syntax.{Statement, Program}
 use Rattle.model.specs.Reading as model
@@ -19,33 +23,40 @@ use Rattle.model.specs.Answers.{outcome}
 use Rattle.table.specs.declared.Tree.{Tree}
 use Rattle.table.specs.declared.Tree.the-variants as tree
 use Rattle.table.specs.declared.Table.the-variants as answer
-use Rattle.table.specs.Index.{rootOf, statementAt, bodyAt, outcomeRead}
+use Rattle.table.specs.Index.{startOf, rootOf, bodyAt, outcomeRead, Placed, BodiesPlaced, PlacedRead}
 use Rattle.table.specs.TreeReading.{Ran, ran, andThenTree, noted, bodiesAt}
 use Rattle.table.proofs.IndexSlots.{noted-there, noted-other, noted-long, Same, same-then, same-part, same-root}
 use Rattle.table.proofs.IndexedTrees as trees
-use Rattle.table.proofs.IndexedTrees.{Reached, statement-agrees}
+use Rattle.table.proofs.IndexedTrees.{Reached, StatementFound, statement-agrees}
 
--- where the bodies of n procedures from f on were read, from record i on: the index leads to them, and keeps what was noted before
-record Reached-bodies (p : ℕ) (bs : List ℕ) (n f i : ℕ) (ix : List ℕ) (ss : List Statement) (jx : List ℕ) : Type 0 where
+-- where the bodies of n procedures from f on were read, from a place and record i on, up to `at`: the index leads to them, places each up to the next, and
+-- keeps what was noted before
+record Reached-bodies (p : ℕ) (bs : List ℕ) (n f from i : ℕ) (ix : List ℕ) (ss : List Statement) (at : ℕ) (jx : List ℕ) : Type 0 where
   same : Same 0 i ix jx
   roots : (g : ℕ) → g < f → rootOf jx g ≡ rootOf ix g
   finds : ss ≡ map (bodyAt p bs jx) (range n f)
+  long : length jx ≡ indexLength
+  none : n ≡ 0 → at ≡ from
+  inside : 0 < n → at ≤ length bs
+  begins : 0 < n → startOf jx (rootOf jx f) ≡ from
+  placed : (g : ℕ) → f ≤ g → g + 1 < f + n → Placed bs jx (rootOf jx g) (startOf jx (rootOf jx (g + 1))) (bodyAt p bs jx g)
+  last-placed : (g : ℕ) → f ≤ g → g + 1 ≡ f + n → Placed bs jx (rootOf jx g) at (bodyAt p bs jx g)
 
 -- both read them, up to the same place and record, or both refuse with the same number
-data Agree-bodies (p : ℕ) (bs : List ℕ) (n f i : ℕ) (ix : List ℕ) : Parsed (List Statement) → Ran → Type 0 where
-  reads : (ss : List Statement) (at j : ℕ) (jx : List ℕ) → Reached-bodies p bs n f i ix ss jx →
-      Agree-bodies p bs n f i ix (parsed ss (inputAt bs at j)) (ran (tree.Read at j) jx)
-  refuses : (k : ℕ) (jx : List ℕ) → Agree-bodies p bs n f i ix (refused k) (ran (tree.Refused k) jx)
+data Agree-bodies (p : ℕ) (bs : List ℕ) (n f from i : ℕ) (ix : List ℕ) : Parsed (List Statement) → Ran → Type 0 where
+  reads : (ss : List Statement) (at j : ℕ) (jx : List ℕ) → Reached-bodies p bs n f from i ix ss at jx →
+      Agree-bodies p bs n f from i ix (parsed ss (inputAt bs at j)) (ran (tree.Read at j) jx)
+  refuses : (k : ℕ) (jx : List ℕ) → Agree-bodies p bs n f from i ix (refused k) (ran (tree.Refused k) jx)
 
 -- a body, whose root is noted, and then the others
-module _ (p : ℕ) (bs : List ℕ) (n f i : ℕ) (ix : List ℕ) (l : f ≤ mostProcedures) (m : i ≤ mostRecords) (long : length ix ≡ indexLength) where
+module _ (p : ℕ) (bs : List ℕ) (n f from i : ℕ) (ix : List ℕ) (l : f ≤ mostProcedures) (m : i ≤ mostRecords) (full : length ix ≡ indexLength) where
   abbrev rooted : List ℕ
   rooted = noted ix (rootsAt + f) i
 
   others :
       (s : Statement) (end j : ℕ) (jx : List ℕ) (q : Parsed (List Statement)) (r : Ran) →
-      Reached i rooted (λ kx. statementAt p bs kx mostDepth i) s end j jx → Agree-bodies p bs n (f + 1) j jx q r →
-      Agree-bodies p bs (suc n) f i ix (andThen q (λ ss k. parsed (s ∷ ss) k)) r
+      Reached i rooted (StatementFound p bs mostDepth from i) s end j jx → Agree-bodies p bs n (f + 1) end j jx q r →
+      Agree-bodies p bs (suc n) f from i ix (andThen q (λ ss k. parsed (s ∷ ss) k)) r
   unfolding andThen range
   others s end j jx _ _ a (refuses k kx) = refuses k kx
   others s end j jx _ _ a (reads ss at o ox b) =
@@ -57,39 +68,61 @@ module _ (p : ℕ) (bs : List ℕ) (n f i : ℕ) (ix : List ℕ) (l : f ≤ most
             (same-root i f i ix m)
             (same-then 0 i (omega arith) (omega arith) (omega arith) (omega arith) (a .kept .same) (b .same));
         roots = λ g h. b .roots g (omega arith) ∙ a .kept .roots g ∙ noted-other ix (rootsAt + f) i (rootsAt + g) (omega arith);
-        finds = first-and-rest;
+        finds = rw (← add-one f, ← b .finds) (ap (λ t. t ∷ ss) (sym body-is));
+        long = b .long;
+        none = λ e. absurd (omega arith);
+        inside = λ h. byEq n 0 (λ e. rw (b .none e) (found .inside)) (λ ne. b .inside (omega arith));
+        begins = λ h. rw root (found .starts);
+        placed = λ g h k. byEq g f
+            (λ e. rw (e, root, found .is, b .begins (omega arith)) (found .placed))
+            (λ ne. b .placed g (omega arith) (omega arith));
+        last-placed = λ g h k. byEq g f
+            (λ e. rw (e, root, found .is, b .none (omega arith)) (found .placed))
+            (λ ne. b .last-placed g (omega arith) (omega arith));
       })
     where
       root : rootOf ox f ≡ i
-      root = b .roots f (omega arith) ∙ a .kept .roots f ∙ noted-there ix (rootsAt + f) i long (omega arith) (omega arith)
+      root = b .roots f (omega arith) ∙ a .kept .roots f ∙ noted-there ix (rootsAt + f) i full (omega arith) (omega arith)
 
-      first-and-rest : s ∷ ss ≡ map (bodyAt p bs ox) (range (suc n) f)
-      first-and-rest =
-          rw (root, ← add-one f, ← b .finds)
-          (ap (λ t. t ∷ ss) (sym (a .finds ox (same-part i j (omega arith) (omega arith) (b .same)))))
+      found : StatementFound p bs mostDepth from i ox end s
+      found = let more : i < j = a .more in a .finds ox (b .long) (same-part i j (omega arith) (omega arith) (b .same))
+
+      body-is : bodyAt p bs ox f ≡ s
+      body-is = rw root (found .is)
 
   body-and-others :
       (q : Parsed Statement) (r : Ran) (g : Input → Parsed (List Statement)) (h : ℕ → ℕ → List ℕ → Ran) →
-      trees.Agree bs i rooted (λ kx. statementAt p bs kx mostDepth i) q r →
+      trees.Agree bs i rooted (StatementFound p bs mostDepth from i) q r →
       ((end j : ℕ) (jx : List ℕ) → j ≤ mostRecords → end ≤ 2 + longestRecord * j → length jx ≡ indexLength →
-      Agree-bodies p bs n (f + 1) j jx (g (inputAt bs end j)) (h end j jx)) →
-      Agree-bodies p bs (suc n) f i ix (andThen q (λ s j. andThen (g j) (λ ss k. parsed (s ∷ ss) k))) (andThenTree r h)
+      Agree-bodies p bs n (f + 1) end j jx (g (inputAt bs end j)) (h end j jx)) →
+      Agree-bodies p bs (suc n) f from i ix (andThen q (λ s j. andThen (g j) (λ ss k. parsed (s ∷ ss) k))) (andThenTree r h)
   unfolding andThen andThenTree
   body-and-others _ _ g h (trees.refuses k kx) go = refuses k kx
   body-and-others _ _ g h (trees.reads s end j jx a) go =
-      others s end j jx _ _ a (go end j jx (a .few) (a .near) (a .kept .long ∙ noted-long ix (rootsAt + f) i ∙ long))
+      others s end j jx _ _ a (go end j jx (a .few) (a .near) (a .kept .long ∙ noted-long ix (rootsAt + f) i ∙ full))
 
 -- the bodies are read at every place as the model reads them from the bytes from there on
 bodies-agree :
-    (p : ℕ) (bs : List ℕ) (n f at i : ℕ) (ix : List ℕ) → f + n ≤ bodyCount → i ≤ mostRecords → at ≤ 2 + longestRecord * i → length ix ≡ indexLength →
-    Agree-bodies p bs n f i ix (statements p n (inputAt bs at i)) (bodiesAt p bs n f at i ix)
+    (p : ℕ) (bs : List ℕ) → Bytes bs → (n f at i : ℕ) (ix : List ℕ) → f + n ≤ bodyCount → i ≤ mostRecords → at ≤ 2 + longestRecord * i →
+    length ix ≡ indexLength → Agree-bodies p bs n f at i ix (statements p n (inputAt bs at i)) (bodiesAt p bs n f at i ix)
 unfolding statements bodiesAt range
-bodies-agree p bs zero f at i ix l m near long =
-    reads [] at i ix (record { same = record { starts = λ q a b. refl; subtreeEnds = λ q a b. refl }; roots = λ g h. refl; finds = refl })
-bodies-agree p bs (suc n) f at i ix l m near long =
-    body-and-others p bs n f i ix (omega arith) m long _ _ (statements p n) _
-    (statement-agrees p bs mostDepth at i (noted ix (rootsAt + f) i) near (noted-long ix (rootsAt + f) i ∙ long))
-    λ end j jx few close n₁. bodies-agree p bs n (f + 1) end j jx (omega arith) few close n₁
+bodies-agree p bs ok zero f at i ix l m near full =
+    reads [] at i ix
+    (record {
+      same = record { starts = λ q a b. refl; subtreeEnds = λ q a b. refl };
+      roots = λ g h. refl;
+      finds = refl;
+      long = full;
+      none = λ e. refl;
+      inside = λ h. absurd (omega arith);
+      begins = λ h. absurd (omega arith);
+      placed = λ g h k. absurd (omega arith);
+      last-placed = λ g h k. absurd (omega arith);
+    })
+bodies-agree p bs ok (suc n) f at i ix l m near full =
+    body-and-others p bs n f at i ix (omega arith) m full _ _ (statements p n) _
+    (statement-agrees p bs ok mostDepth at i (noted ix (rootsAt + f) i) near (noted-long ix (rootsAt + f) i ∙ full))
+    λ end j jx few close n₁. bodies-agree p bs ok n (f + 1) end j jx (omega arith) few close n₁
 
 -- what the model reads where the bodies were read so
 told : ℕ → List ℕ → ℕ → ℕ → Ran → Parsed (List Statement)
@@ -97,11 +130,28 @@ told p bs n f (ran (tree.Read at j) jx) = parsed (map (bodyAt p bs jx) (range n 
 told p bs n f (ran (tree.Refused k) jx) = refused k
 
 is-told :
-    (p : ℕ) (bs : List ℕ) (n f i : ℕ) (ix : List ℕ) (q : Parsed (List Statement)) (r : Ran) → Agree-bodies p bs n f i ix q r →
+    (p : ℕ) (bs : List ℕ) (n f from i : ℕ) (ix : List ℕ) (q : Parsed (List Statement)) (r : Ran) → Agree-bodies p bs n f from i ix q r →
     q ≡ told p bs n f r
 unfolding told
-is-told p bs n f i ix _ _ (reads ss at j jx b) = ap (λ t. parsed t (inputAt bs at j)) (b .finds)
-is-told p bs n f i ix _ _ (refuses k jx) = refl
+is-told p bs n f from i ix _ _ (reads ss at j jx b) = ap (λ t. parsed t (inputAt bs at j)) (b .finds)
+is-told p bs n f from i ix _ _ (refuses k jx) = refl
+
+-- where they were read, all bodies of a table of p procedures, each is placed: up to the next, or up to the end
+PlacedTo : ℕ → List ℕ → Ran → Type 0
+PlacedTo p bs (ran (tree.Read at j) jx) = length bs ≤ at → BodiesPlaced p bs jx
+PlacedTo p bs (ran (tree.Refused k) jx) = Unit {0}
+
+are-placed :
+    (p : ℕ) (bs : List ℕ) (from i : ℕ) (ix : List ℕ) (q : Parsed (List Statement)) (r : Ran) → Agree-bodies p bs (suc p) 0 from i ix q r →
+    PlacedTo p bs r
+unfolding PlacedTo
+are-placed p bs from i ix _ _ (reads ss at j jx b) = λ most f h.
+    let least : at ≤ length bs = b .inside (omega arith) in
+    let end : length bs ≡ at = omega arith in
+    byLt f p
+    (λ l. rw (lt-ltb f p l) (b .placed f (omega arith) (omega arith)))
+    (λ g. rw (le-ltb f p g, end) (b .last-placed f (omega arith) (omega arith)))
+are-placed p bs from i ix _ _ (refuses k jx) = tt
 
 -- a program is its main statement and its bodies, with no byte left
 whole : Parsed (List Statement) → Parsed Program
@@ -145,6 +195,11 @@ header (a ∷ b ∷ bs) h = refl
 
 -- what is said of each answer
 module _ (bs : List ℕ) (jx : List ℕ) where
+  -- nothing is placed where the table is refused
+  pub placed-none : (k : ℕ) → PlacedRead (answer.Refused k) bs jx
+  unfolding PlacedRead
+  placed-none k = tt
+
   -- 1 where there are fewer than two bytes
   pub outcome-short : length bs < 2 → outcomeRead (answer.Refused tableStops) bs jx ≡ outcome (readTable bs)
   unfolding outcomeRead outcome
@@ -164,16 +219,20 @@ module _ (bs : List ℕ) (jx : List ℕ) where
 
       module _
           (m : getD bs 1 0 ≤ mostProcedures) (ix : List ℕ) (t : Tree) (read : ran t jx ≡ bodiesAt (getD bs 1 0) bs (getD bs 1 0 + 1 - 0) 0 2 0 ix)
-          (long : length ix ≡ indexLength) where
+          (full : length ix ≡ indexLength) (slice : (k : ℕ) → Fits w8 (getD bs k 0)) where
+        agreed : Agree-bodies (getD bs 1 0) bs (suc (getD bs 1 0)) 0 2 0 ix (statements (getD bs 1 0) (suc (getD bs 1 0)) (inputAt bs 2 0))
+            (bodiesAt (getD bs 1 0) bs (suc (getD bs 1 0)) 0 2 0 ix)
+        agreed = bodies-agree (getD bs 1 0) bs (λ k. slice k .fits) (suc (getD bs 1 0)) 0 2 0 ix (omega arith) (omega arith) (omega arith) full
+
+        read-is : ran t jx ≡ bodiesAt (getD bs 1 0) bs (suc (getD bs 1 0)) 0 2 0 ix
+        read-is = let n : getD bs 1 0 + 1 - 0 ≡ suc (getD bs 1 0) = omega arith in rw n at read
+
         -- what the model reads, where the bodies were read so
         read-on : outcome (readTable bs) ≡ outcome (whole (told (getD bs 1 0) bs (suc (getD bs 1 0)) 0 (ran t jx)))
         unfolding provided
         read-on =
-            let n : getD bs 1 0 + 1 - 0 ≡ suc (getD bs 1 0) = omega arith in
-            rw (header bs h, eq-eqb (getD bs 0 0) 1 e, le-leb (getD bs 1 0) mostProcedures m, is-whole, read, n)
-            (ap (λ q. outcome (whole q))
-            (is-told (getD bs 1 0) bs (suc (getD bs 1 0)) 0 0 ix _ _
-            (bodies-agree (getD bs 1 0) bs (suc (getD bs 1 0)) 0 2 0 ix (omega arith) (omega arith) (omega arith) long)))
+            rw (header bs h, eq-eqb (getD bs 0 0) 1 e, le-leb (getD bs 1 0) mostProcedures m, is-whole, read-is)
+            (ap (λ q. outcome (whole q)) (is-told (getD bs 1 0) bs (suc (getD bs 1 0)) 0 2 0 ix _ _ agreed))
 
         -- the refusal of a body
         pub outcome-refused : (k : ℕ) → t ≡ tree.Refused k → outcomeRead (answer.Refused k) bs jx ≡ outcome (readTable bs)
@@ -191,4 +250,9 @@ module _ (bs : List ℕ) (jx : List ℕ) where
           unfolding outcomeRead outcome whole told range provided
           outcome-read-whole l = rw (read-on, z, length-drop end bs, eq-eqb (length bs - end) 0 (omega arith))
 
-pub ruleset tables = (needs, outcome-short, outcome-edition, outcome-many, outcome-refused, outcome-left, outcome-read-whole)
+          -- and places
+          pub placed-whole : length bs ≤ end → PlacedRead (answer.Read (getD bs 1 0)) bs jx
+          unfolding PlacedRead PlacedTo
+          placed-whole l = (rw (← read-is, z) at (are-placed (getD bs 1 0) bs 2 0 ix _ _ agreed)) l
+
+pub ruleset tables = (needs, outcome-short, outcome-edition, outcome-many, outcome-refused, outcome-left, outcome-read-whole, placed-none, placed-whole)

@@ -1,13 +1,17 @@
 -- The index that reading leaves: where each record starts, the record behind its subtree, and the root of each body. With it a table is its own tree.
-use Prim.Native.Nat.{ℕ, zero, suc, _+_}
+use Prim.Native.Nat.{ℕ, zero, suc, _+_, _-_, _≤_, _<_}
+use mathlib.Core.Path.{_≡_}
+use mathlib.Core.Bool.{cond}
 use mathlib.Core.List.{List, map}
-use lib.ListN.{getD}
+use lib.ListN.{length, getD, take, drop}
+use lib.Dec.{ltb}
 use lib.IntN.{pos}
 use Rattle.limits.specs.Sizes.{endsAt, rootsAt}
 use Rattle.model.specs.Limits.{mostDepth}
 use Rattle.model.specs.Syntax.{constant, Condition, greater, atLeast, equal, conjunction, disjunction, negation}
 use Rattle.model.specs.Syntax.{Statement, skip, NOT, sequence, if, qcase, call, Program}
 use Rattle.model.specs.Lists.{range}
+use Rattle.model.specs.Writing.{headBytes}
 use Rattle.model.specs.Answers.{Outcome, gives, refuses}
 use Rattle.records.specs.declared.Record.{Record}
 use Rattle.records.specs.declared.Record.the-variants as kind
@@ -84,3 +88,36 @@ programAt p bs ix = record { main = bodyAt p bs ix 0; procedures = map (bodyAt p
 unfoldable pub outcomeRead : Table → List ℕ → List ℕ → Outcome Program
 outcomeRead (answer.Read p) bs ix = gives (programAt p bs ix)
 outcomeRead (answer.Refused k) bs ix = refuses k
+
+-- the bytes of a table from one place up to another
+abbrev pub piece : List ℕ → ℕ → ℕ → List ℕ
+piece bs from to = take (to - from) (drop from bs)
+
+-- the index places a statement at record i, up to a place: its bytes stand there, and those of the statements in it stand where the index has their
+-- records, one behind the other
+unfoldable pub Placed : List ℕ → List ℕ → ℕ → ℕ → Statement → Type 0
+Placed bs ix i end skip = piece bs (startOf ix i) end ≡ headBytes skip
+Placed bs ix i end (NOT rs a) = piece bs (startOf ix i) end ≡ headBytes (NOT rs a)
+Placed bs ix i end (sequence s t) =
+    (i < length ix) × (piece bs (startOf ix i) (startOf ix (i + 1)) ≡ headBytes (sequence s t)) ×
+    Placed bs ix (i + 1) (startOf ix (endOf ix (i + 1))) s × Placed bs ix (endOf ix (i + 1)) end t
+Placed bs ix i end (if c s t) =
+    (i < length ix) × (piece bs (startOf ix i) (startOf ix (endOf ix (i + 1))) ≡ headBytes (if c s t)) ×
+    Placed bs ix (endOf ix (i + 1)) (startOf ix (endOf ix (endOf ix (i + 1)))) s × Placed bs ix (endOf ix (endOf ix (i + 1))) end t
+Placed bs ix i end (qcase rs a s t) =
+    (i < length ix) × (piece bs (startOf ix i) (startOf ix (i + 1)) ≡ headBytes (qcase rs a s t)) ×
+    Placed bs ix (i + 1) (startOf ix (endOf ix (i + 1))) s × Placed bs ix (endOf ix (i + 1)) end t
+Placed bs ix i end (call rs f) = piece bs (startOf ix i) end ≡ headBytes (call rs f)
+
+-- the place behind the body of f: where the next one starts, or the table's end
+abbrev pub bodyEnd : ℕ → List ℕ → List ℕ → ℕ → ℕ
+bodyEnd p bs ix f = cond (ltb f p) (startOf ix (rootOf ix (f + 1))) (length bs)
+
+-- the index places every body of a table of p procedures, main at 0
+abbrev pub BodiesPlaced : ℕ → List ℕ → List ℕ → Type 0
+BodiesPlaced p bs ix = (f : ℕ) → f ≤ p → Placed bs ix (rootOf ix f) (bodyEnd p bs ix f) (bodyAt p bs ix f)
+
+-- where an answer of the reader says that the table was read, the index that it left places its bodies
+unfoldable pub PlacedRead : Table → List ℕ → List ℕ → Type 0
+PlacedRead (answer.Read p) bs ix = BodiesPlaced p bs ix
+PlacedRead (answer.Refused k) bs ix = Unit {0}

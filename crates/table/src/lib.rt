@@ -4,7 +4,7 @@ ghost use Prim.Native.Nat.{_+_, _-_, _<_};
 ghost use Rattle.model.specs.Limits.{mostRecords};
 ghost use Rattle.model.specs.Reading.{readTable};
 ghost use Rattle.model.specs.Answers.{outcome};
-ghost use Rattle.table.specs.Index.{outcomeRead};
+ghost use Rattle.table.specs.Index.{outcomeRead, PlacedRead};
 ghost use Rattle.table.specs.TreeReading.{ran, noted, wanted, parts, contentsAt, many, refusal, childrenAt, treeAt, bodiesAt};
 use limits::{
     BYTES_LEFT, ENDS_AT, FIRST_CONDITION, INDEX_LENGTH, KINDS, KIND_COUNT, MANY_PROCEDURES, MOST_DEPTH, MOST_PROCEDURES, MOST_RECORDS, PLACE_COUNT,
@@ -194,9 +194,11 @@ fn read_bodies(
 }
 
 // "header 1 (fewer than two bytes), 2, 3", then the main statement and the bodies of procedures 1 to p, then 8 where bytes are left.
-// The index is cleared first. What the answer says, with the index that is left, is what the model reads.
+// The index is cleared first. What the answer says, with the index that is left, is what the model reads, and the index says where in the table each
+// statement stands.
 pub fn read_table(table: &[u8], index: &mut [u16; INDEX_LENGTH]) -> Table
     ensures { λ r. ⌜ outcomeRead r (now (table .entry)) (now (index .exit)) ≡ outcome (readTable (now (table .entry))) ⌝ }
+    ensures { λ r. ⌜ PlacedRead r (now (table .entry)) (now (index .exit)) ⌝ }
 {
     if table.len() < 2 {
         return Table::Refused(TABLE_STOPS);

@@ -3,19 +3,21 @@ use mathlib.Core.Path.{_≡_, refl, sym}
 use mathlib.Core.Bool.{Bool, true, false}
 use mathlib.Core.List.{List}
 use Prim.Native.Nat.{ℕ, zero, suc, _≤_, _<_}
+use native.Mathlib.Omega.{arith}
 use borrow.Author.Needs.{needs}
 use borrow.Author.Tests.{le-leb, lt-leb}
-use Rattle.model.specs.Limits.{mostQubits, leastWorkspace, noRemoval, tooWide, accessFault, shortWorkspace}
+use Rattle.model.specs.Limits.{mostQubits, leastWorkspace, wrongQubits, noRemoval, tooWide, accessFault, shortWorkspace}
 use Rattle.model.specs.Reading.{readTable}
 use Rattle.model.specs.Syntax.{Program}
 use Rattle.model.specs.Answers.{Outcome, gives, refuses, after, require, outcome, number, accepted, verdict}
-use Rattle.table.specs.Index.{programAt, outcomeRead}
+use Rattle.model.proofs.ReadingLaws.{outcome-read}
+use Rattle.table.specs.Index.{programAt, outcomeRead, PlacedRead}
 use Rattle.table.specs.declared.Table.{Table}
 use Rattle.table.specs.declared.Table.the-variants as answer
 use Rattle.reach.specs.CallsInATable.{reachAt, anyLacksIn, anyWideIn}
 use Rattle.faults.specs.RowTable.{faultsAt}
 use Rattle.verdict.specs.declared.Checked.{Checked}
-use Rattle.verdict.specs.VerdictAnswers.{refusalAt, outcomeOf, checkedOutcome}
+use Rattle.verdict.specs.VerdictAnswers.{refusalAt, outcomeOf, checkedOutcome, PlacedChecked}
 use Rattle.verdict.proofs.RefusalOrder.{few-qubits, many-qubits, refused-table, read-table-checked}
 
 -- refusals 10, 11 and 12, or none
@@ -50,7 +52,22 @@ module _ (bs ix : List ℕ) (n : ℕ) (z : n ≡ 0 → ⊥) (h : n ≤ mostQubit
   unfolding outcomeRead
   check-decided p number e q = rw q (read-table-checked bs ix p n z h (rw e at s))
 
-pub ruleset verdicts = (needs, few-qubits, many-qubits, check-refused, check-decided)
+-- the index of a table that was accepted is the reader's; no refusal has number 0
+pub wrong-unplaced : (bs ix : List ℕ) (f : ℕ) → PlacedChecked (record { number = wrongQubits; procedures = f }) bs ix
+unfolding PlacedChecked
+wrong-unplaced bs ix f e = absurd (omega arith)
+
+module _ (bs ix : List ℕ) (a : Table) where
+  pub refused-unplaced : (k f : ℕ) → outcomeRead a bs ix ≡ outcome (readTable bs) → a ≡ answer.Refused k →
+      PlacedChecked (record { number = k; procedures = f }) bs ix
+  unfolding PlacedChecked outcomeRead
+  refused-unplaced k f s e z = let low = rw (← s, e) at (outcome-read bs) in absurd (omega (arith, low .0))
+
+  pub read-placed : (p number : ℕ) → PlacedRead a bs ix → a ≡ answer.Read p → PlacedChecked (record { number = number; procedures = p }) bs ix
+  unfolding PlacedChecked PlacedRead
+  read-placed p number s e z = rw e at s
+
+pub ruleset verdicts = (needs, few-qubits, many-qubits, check-refused, check-decided, wrong-unplaced, refused-unplaced, read-placed)
 
 -- an answer that is accepted or refused
 refused-is : (m : ℕ) (P : Program) (x : Outcome Program) → outcomeOf m P ≡ x → (m ≡ 0 → ⊥) → x ≡ refuses m

@@ -1,11 +1,12 @@
 -- What the verdict's answers say, and the refusals of a table that was read, by its index.
 use Prim.Native.Nat.{ℕ, zero, suc}
+use mathlib.Core.Path.{_≡_}
 use mathlib.Core.Bool.{cond}
 use mathlib.Core.List.{List}
 use Rattle.model.specs.Limits.{noRemoval, tooWide, accessFault, success}
 use Rattle.model.specs.Syntax.{Program}
 use Rattle.model.specs.Answers.{Outcome, gives, refuses}
-use Rattle.table.specs.Index.{programAt}
+use Rattle.table.specs.Index.{programAt, BodiesPlaced}
 use Rattle.reach.specs.CallsInATable.{reachAt, anyLacksIn, anyWideIn}
 use Rattle.faults.specs.RowTable.{faultsAt}
 use Rattle.verdict.specs.declared.Checked.{Checked}
@@ -25,3 +26,7 @@ outcomeOf (suc k) P = refuses (suc k)
 -- what an answer says, with the index that was left
 abbrev pub checkedOutcome : Checked → List ℕ → List ℕ → Outcome Program
 checkedOutcome r bs ix = outcomeOf (r .number) (programAt (r .procedures) bs ix)
+
+-- where a table was accepted, the index that was left places its bodies
+unfoldable pub PlacedChecked : Checked → List ℕ → List ℕ → Type 0
+PlacedChecked r bs ix = r .number ≡ success → BodiesPlaced (r .procedures) bs ix

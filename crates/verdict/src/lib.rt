@@ -2,7 +2,7 @@
 ghost use mathlib.Core.Path.{_≡_};
 ghost use Rattle.model.specs.Answers.{accepted};
 ghost use Rattle.model.specs.Answers as model;
-ghost use Rattle.verdict.specs.VerdictAnswers.{refusalAt, checkedOutcome};
+ghost use Rattle.verdict.specs.VerdictAnswers.{refusalAt, checkedOutcome, PlacedChecked};
 use limits::{ACCESS_FAULT, INDEX_LENGTH, LEAST_WORKSPACE, MATRIX_LENGTH, MOST_N, NO_REMOVAL, SHORT_WORKSPACE, TOO_WIDE, WRONG_QUBITS};
 use table::{Table, read_table};
 use reach::{fill_reach, any_lacks_removal, any_too_wide};
@@ -35,6 +35,7 @@ fn check_program(table: &[u8], index: &[u16], p: u8, n: u8) -> u8
 // "Order: 9; header 1 .., 2, 3; each record ..; 8; 10 over the whole table, then 11, then 12". The index is what walkers of the table need afterwards.
 pub fn check_table(table: &[u8], n: u32, index: &mut [u16; INDEX_LENGTH]) -> Checked
     ensures { λ r. ⌜ checkedOutcome r (now (table .entry)) (now (index .exit)) ≡ accepted (now (table .entry)) n ⌝ }
+    ensures { λ r. ⌜ PlacedChecked r (now (table .entry)) (now (index .exit)) ⌝ }
 {
     if n == 0 {
         return Checked { number: WRONG_QUBITS, procedures: 0 };
