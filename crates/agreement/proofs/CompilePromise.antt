@@ -68,7 +68,7 @@ unfolding circuitRun after require circuit
 run-ends n P a bytes reads word h = rw (reads, lt-ltb word (2 ^ n) h, circuit-ends n P a word h)
 
 -- run answers the end word of an accepted table
-run-answers : (table : List ℕ) (n : ℕ) (P : Program) → accepted table n ≡ gives P → (word workspace : ℕ) → word < 2 ^ n → leastWorkspace ≤ workspace →
+pub run-answers : (table : List ℕ) (n : ℕ) (P : Program) → accepted table n ≡ gives P → (word workspace : ℕ) → word < 2 ^ n → leastWorkspace ≤ workspace →
     run table n word workspace ≡ gives (endWord P n word)
 unfolding run after require
 run-answers table n P accepts word workspace low space = rw (accepts, lt-ltb word (2 ^ n) low, le-leb leastWorkspace workspace space)

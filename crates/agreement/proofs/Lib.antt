@@ -19,3 +19,5 @@ pub mod WellFormedEmission
 pub mod CompilePromise
 pub mod BitsPastTheLastWire
 pub mod PromiseInstances
+pub mod InverseProgram
+pub mod InversePromise
