@@ -7,6 +7,7 @@ use Rattle.model.specs.Limits.{success, blockLength}
 use Rattle.model.specs.Circuit.{Circuit}
 use Rattle.model.specs.Answers.{Outcome, gives, refuses, after, Block}
 use Rattle.model.specs.Demand.{Demand3}
+use Rattle.model.specs.Undoing.{Undoes}
 use Rattle.model.specs.Page.{Band}
 use Rattle.answers.specs.declared.Answer.{Answer}
 use Rattle.answers.specs.declared.CircuitHeader.{CircuitHeader}
@@ -18,13 +19,17 @@ unfoldable pub answerOf : Outcome ℕ → Answer
 answerOf (gives value) = record { number = success; value = value }
 answerOf (refuses k) = record { number = k; value = 0 }
 
--- "compile the circuit's length in bytes"; of a listing, its own
+-- "compile the circuit's length in bytes"; of a listing or an inverse table, its own
 abbrev pub lengthAnswer : Outcome (List ℕ) → Answer
 lengthAnswer o = answerOf (after o (λ bytes. gives (length bytes)))
 
 -- Demand 3: where the number is 0, it holds of "The room's bytes up to the length given"
 abbrev pub Delivered : List ℕ → ℕ → Answer → List ℕ → Type 0
 Delivered table n answer room = answer .number ≡ success → Demand3 table n (take (answer .value) room)
+
+-- document 02, S-5: where the number is 0, the room's bytes up to the length given undo the table
+abbrev pub Inverted : List ℕ → ℕ → Answer → List ℕ → Type 0
+Inverted table n answer room = answer .number ≡ success → Undoes table n (take (answer .value) room)
 
 -- "the circuit reader n, ancillas and gate count"
 abbrev pub refusedHeader : ℕ → CircuitHeader

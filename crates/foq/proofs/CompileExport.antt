@@ -4,8 +4,7 @@ use mathlib.Core.List.{List}
 use Prim.Native.Nat.{ℕ}
 use native.Mathlib.Omega.{arith}
 use borrow.Author.Needs.{needs}
-use lib.ListN.{length, take, drop}
-use lib.Seq.{take-append-seam}
+use lib.ListN.{length}
 use Rattle.model.specs.Answers.{Outcome, gives, refuses, after, number, valueOr, compile, roomAfter}
 use Rattle.model.specs.Demand.{Demand3}
 use Rattle.model.proofs.Acceptance.{Refusal, compile-numbered}
@@ -16,6 +15,7 @@ use Rattle.compile.specs.declared.Compiled.{Compiled}
 use Rattle.compile.specs.EmissionAnswer.{compiledOf}
 use Rattle.compile.specs.AnswerAndRoom.{answered, answeredOf}
 use Rattle.compile.proofs.CompileAnswer.{answer-halves}
+use Rattle.foq.proofs.GivenBytes.{given-bytes}
 
 -- what is exported of an answer
 abbrev exported : Compiled → Answer
@@ -25,11 +25,6 @@ exported-is : (o : Outcome (List ℕ)) → exported (compiledOf o) ≡ lengthAns
 unfolding answerOf after number valueOr
 exported-is (gives bytes) = refl
 exported-is (refuses k) = refl
-
--- the bytes before the rest are those given
-given-bytes : (bytes room : List ℕ) → take (length bytes) (roomAfter (gives bytes) room) ≡ bytes
-unfolding roomAfter
-given-bytes bytes room = take-append-seam bytes (drop (length bytes) room)
 
 delivers : (table : List ℕ) (n space workspace : ℕ) (room : List ℕ) (o : Outcome (List ℕ)) → compile table n space workspace ≡ o →
     Delivered table n (exported (compiledOf o)) (roomAfter o room)

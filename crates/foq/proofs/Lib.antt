@@ -1,1 +1,3 @@
+mod GivenBytes
 mod CompileExport
+mod InverseExport

@@ -1,11 +1,11 @@
 // The functions that a station's host calls. Every number, length and content of a slice has its answer.
 ghost use mathlib.Core.Path.{_≡_};
 ghost use lib.ListN.{length};
-ghost use Rattle.model.specs.Answers.{circuitRead, circuitRun, roomAfter, workspaceAfter};
+ghost use Rattle.model.specs.Answers.{inverseTable, circuitRead, circuitRun, roomAfter, workspaceAfter};
 ghost use Rattle.model.specs.Answers as model;
 ghost use Rattle.model.specs.Listing.{circuitList};
 ghost use Rattle.model.specs.Page.{pageBand, textAfter};
-ghost use Rattle.answers.specs.Structs.{answerOf, lengthAnswer, headerOf, blockAnswer, bandAnswer, Delivered};
+ghost use Rattle.answers.specs.Structs.{answerOf, lengthAnswer, headerOf, blockAnswer, bandAnswer, Delivered, Inverted};
 use answers::{Answer, CircuitBlock, CircuitHeader, PageBand};
 use compile::clear;
 
@@ -43,6 +43,17 @@ pub extern "C" fn foq_compile(table: &[u8], n: u32, room: &mut [u8], workspace: 
 {
     let compiled = compile::compile(table, n, room, workspace);
     Answer { number: compiled.number as u32, value: compiled.length as u64 }
+}
+
+// The inverse: the length of the table that undoes this one, or the refusal's number and 0. The room is written only on success. What is written there
+// is accepted at the same n, running one after the other gives the start word, and inverting again gives the first table's bytes.
+#[no_mangle]
+pub extern "C" fn foq_inverse(table: &[u8], n: u32, room: &mut [u8]) -> Answer
+    ensures { λ r. ⌜ r ≡ lengthAnswer (inverseTable (now (table .entry)) n (length (now (room .entry)))) ⌝ }
+    ensures { λ r. ⌜ now (room .exit) ≡ roomAfter (inverseTable (now (table .entry)) n (length (now (room .entry)))) (now (room .entry)) ⌝ }
+    ensures { λ r. ⌜ Inverted (now (table .entry)) n r (now (room .exit)) ⌝ }
+{
+    inverse::inverse(table, n, room)
 }
 
 // The circuit reader: n, ancillas and gate count, or the refusal's number and zeros.
