@@ -4,8 +4,9 @@
 //! 01: the program table, its meaning, access faults, calls and width, the
 //! emission, the circuit, the refusals with their order, and the listing. Of
 //! document 02 there is the page of a circuit (S-1), which is also read again,
-//! the size of what is left (S-2), a third base of numbers, and the published
-//! circuit size (S-4) in the listing's first line; a circuit can be listed
+//! the size of what is left (S-2), a third base of numbers, the published
+//! circuit size (S-4) in the listing's first line, and the inverse program
+//! (S-5), for which programs are written as tables; a circuit can be listed
 //! without its table.
 //! Words in quotation marks in the comments are the documents' own.
 
@@ -17,10 +18,12 @@ mod calls;
 mod circuit;
 mod emission;
 mod fault;
+mod inverse;
 mod listing;
 mod meaning;
 mod operations;
 mod page;
+mod writing;
 
 pub mod refusal;
 
@@ -30,8 +33,10 @@ pub use circuit::{
     LONGEST_CIRCUIT,
 };
 pub use emission::{emission, Emission, Tally};
+pub use inverse::{inverse, inverse_program};
 pub use listing::{circuit_list, listing};
 pub use meaning::{holds, remaining};
 pub use operations::{compile, plain_verdict, run, verdict, SHORTEST_WORKSPACE};
 pub use page::{gates_on, page};
 pub use table::{read_table, Condition, Number, Program, Statement};
+pub use writing::table_bytes;

@@ -52,7 +52,7 @@ pub(crate) fn judge(program: &Program, n: u8) -> Result<(), u32> {
 
 /// "Order: 9; header 1 (fewer than two bytes), 2, 3; each record [...]; 8; 10
 /// over the whole table, then 11, then 12".
-fn accepted(table: &[u8], n: u32) -> Result<(Program, u8), u32> {
+pub(crate) fn accepted(table: &[u8], n: u32) -> Result<(Program, u8), u32> {
     let n = qubits(n)?;
     let program = read_table(table)?;
     judge(&program, n)?;

@@ -1,4 +1,5 @@
-//! The numbers of "Refusals from the input" and "Refusals from the state".
+//! The numbers of "Refusals from the input" and "Refusals from the state", and
+//! of document 02's answers.
 //!
 //! "Success is number 0"; a refusal is one of the numbers below.
 
@@ -36,3 +37,5 @@ pub const WORKSPACE: u32 = 21;
 pub const WIRE: u32 = 22;
 /// "23 header or next gate would pass the room's end".
 pub const ROOM: u32 = 23;
+/// Document 02, S-5: "24, the table's room is shorter than the source table".
+pub const TABLE_ROOM: u32 = 24;

@@ -95,7 +95,7 @@ impl Program {
 }
 
 /// "Byte 0 is the edition, 1."
-const EDITION: u8 = 1;
+pub(crate) const EDITION: u8 = 1;
 /// "Byte 1 is p, the number of procedures, 0 to 16."
 const MOST_PROCEDURES: u8 = 16;
 /// "At most 255 records".
@@ -104,7 +104,7 @@ const MOST_RECORDS: usize = 255;
 const DEEPEST: usize = 32;
 
 /// "bit 0, removals".
-const REMOVALS: u8 = 1;
+pub(crate) const REMOVALS: u8 = 1;
 /// "bit 1, number a".
 const A: u8 = 2;
 /// "bit 2, number b".
@@ -115,7 +115,7 @@ const PROCEDURE: u8 = 8;
 /// "The permitted map of each kind stands in one table of twelve entries. Bit
 /// 0 is optional for kinds 1, 4 and 5; every other bit is required or
 /// forbidden." An entry is the required bits and the optional ones.
-const MAPS: [(u8, u8); 12] = [
+pub(crate) const MAPS: [(u8, u8); 12] = [
     (0, 0),
     (A, REMOVALS),
     (0, 0),
