@@ -2,10 +2,11 @@
  * foq.h: the functions of libfoq.a, for C11 and C++.
  *
  * A table of bytes holds a FOQ program. foq_verdict says whether it is accepted,
- * foq_run runs it from a basis state, and foq_compile translates it into a
- * circuit, which foq_circuit_read looks through, foq_circuit_run runs,
- * foq_circuit_list lists and foq_page_band draws. Here a program that flips
- * qubit 2 of three is run from the word 5, and so is its circuit:
+ * foq_run runs it from a basis state, foq_inverse writes the table that takes it
+ * back, and foq_compile translates it into a circuit, which foq_circuit_read
+ * looks through, foq_circuit_run runs, foq_circuit_list lists and foq_page_band
+ * draws. Here a program that flips qubit 2 of three is run from the word 5, and
+ * so is its circuit:
  *
  *     #include <stdio.h>
  *     #include "foq.h"
@@ -59,6 +60,7 @@
  *     foq_verdict       30 KiB
  *     foq_run          284 KiB
  *     foq_compile      376 KiB
+ *     foq_inverse       30 KiB
  *     foq_circuit_read   1 KiB
  *     foq_circuit_run    1 KiB
  *     foq_circuit_list   1 KiB
@@ -93,6 +95,7 @@
 #define FOQ_SHORT_WORKSPACE 21u /* a workspace shorter than FOQ_LEAST_WORKSPACE */
 #define FOQ_MANY_WIRES 22u      /* a wire number above FOQ_MOST_WIRES would be taken */
 #define FOQ_NO_ROOM 23u         /* the header, the next gate or a listing does not fit */
+#define FOQ_SHORT_TABLE_ROOM 24u /* a room shorter than the table that is to be inverted */
 
 /*
  * A table is its edition, the number p of procedures, then the main statement
@@ -231,8 +234,8 @@ typedef struct {
 } foq_block;
 
 /*
- * An answer with one value: the end word of a run, or the length of a circuit or
- * of a listing.
+ * An answer with one value: the end word of a run, or the length of a circuit,
+ * of an inverse table or of a listing.
  */
 typedef struct {
     uint32_t number;
@@ -310,6 +313,25 @@ foq_answer foq_run(const uint8_t *table, size_t length, uint32_t n,
 foq_answer foq_compile(const uint8_t *table, size_t length, uint32_t n,
                        uint8_t *room, size_t room_length, uint8_t *workspace,
                        size_t workspace_length);
+
+/*
+ * Writes the inverse of a table into the room, from its first byte on: the table
+ * with the two statements of every sequence turned round, in main and in every
+ * procedure, and everything else kept. Gives its length in bytes, which is the
+ * source table's. What stood behind it stays, and a refusal leaves the whole
+ * room as it was. It takes no workspace.
+ *
+ * It refuses what foq_verdict refuses, with the same number, but for
+ * FOQ_SHORT_WORKSPACE; then comes FOQ_SHORT_TABLE_ROOM, where the room is shorter
+ * than the table. A room exactly as long is enough.
+ *
+ * On success the inverse is accepted for the same n, and takes each run back: for
+ * every start word below 2 to the power n, foq_run on the inverse gives that word
+ * from the end word that foq_run on the table gives, and the other way round.
+ * The inverse of the inverse has exactly the bytes of the table.
+ */
+foq_answer foq_inverse(const uint8_t *table, size_t length, uint32_t n,
+                       uint8_t *room, size_t room_length);
 
 /*
  * Reads a circuit to its end. Gives its header if it is well formed, otherwise

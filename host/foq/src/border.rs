@@ -26,7 +26,8 @@ pub const LEAST_WORKSPACE: usize = 32_768;
 pub struct Answer {
     /// 0 or a refusal's number.
     pub number: u32,
-    /// The end word, or the length of a circuit or of a listing.
+    /// The end word, or the length of a circuit, of an inverse table or of a
+    /// listing.
     pub value: u64,
 }
 
@@ -99,6 +100,13 @@ mod declared {
             workspace: *mut u8,
             workspace_length: usize,
         ) -> Answer;
+        pub fn foq_inverse(
+            table: *const u8,
+            length: usize,
+            n: u32,
+            room: *mut u8,
+            room_length: usize,
+        ) -> Answer;
         pub fn foq_circuit_read(circuit: *const u8, length: usize) -> Circuit;
         pub fn foq_circuit_run(circuit: *const u8, length: usize, word: u64) -> Block;
         pub fn foq_circuit_list(
@@ -168,6 +176,21 @@ pub fn compile(table: &[u8], n: u32, room: &mut [u8], workspace: &mut [u8]) -> A
             room.len(),
             workspace.as_mut_ptr(),
             workspace.len(),
+        )
+    }
+}
+
+/// The inverse of a table on n qubits, into the room.
+#[must_use]
+pub fn inverse(table: &[u8], n: u32, room: &mut [u8]) -> Answer {
+    // SAFETY: as above; the table is only read.
+    unsafe {
+        declared::foq_inverse(
+            table.as_ptr(),
+            table.len(),
+            n,
+            room.as_mut_ptr(),
+            room.len(),
         )
     }
 }

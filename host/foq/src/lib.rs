@@ -10,6 +10,7 @@
 //! | [`verdict`] | accepts a table, or refuses it |
 //! | [`run`] | runs a table from a start word to its end word |
 //! | [`compile`], [`compile_to_vec`] | translates a table into its circuit |
+//! | [`inverse`], [`inverse_to_vec`] | writes the table whose run takes a table's run back |
 //! | [`circuit_read`] | reads a circuit: its qubits, ancillas and gates |
 //! | [`circuit_run`] | runs a circuit from a start word |
 //! | [`circuit_list`], [`circuit_list_to_string`] | lists a circuit, gate by gate |
@@ -216,6 +217,59 @@ pub fn compile_to_vec(table: &[u8], n: u32) -> Result<Vec<u8>, Refusal> {
     let mut room = vec![0; MOST_CIRCUIT];
     let circuit = compile(table, n, &mut room, &mut vec![0; LEAST_WORKSPACE])?;
     Ok(circuit.to_vec())
+}
+
+/// The inverse: the table whose run on n qubits takes a table's run back is
+/// written into the room, whose rest stays as it was; a refusal leaves all of
+/// it. In every sequence the two statements have changed places, and everything
+/// else is kept, so the inverse is as long as the table. Gives the inverse's
+/// bytes within the room.
+///
+/// ```
+/// use foq::{inverse, run, Refusal, LEAST_WORKSPACE};
+///
+/// // Flip qubit 2 where qubit 1 is one, then flip qubit 1.
+/// let table = [
+///     1, 0, 0, 2, 2, 4, 0, 1, 0, 0, 0, 2, 1, 0, 2, 0, 2, 1, 0, 1, 0,
+/// ];
+/// let room = &mut [0; 21];
+/// let back = inverse(&table, 2, room)?;
+/// let workspace = &mut [0; LEAST_WORKSPACE];
+/// for word in 0..4 {
+///     let end = run(&table, 2, word, workspace)?;
+///     assert_eq!(run(back, 2, end, workspace), Ok(word));
+/// }
+/// // Inverting again gives the first table's bytes.
+/// assert_eq!(inverse(back, 2, &mut [0; 21])?, table);
+/// assert_eq!(inverse(&table, 2, &mut [0; 20]), Err(Refusal::SHORT_TABLE_ROOM));
+/// # Ok::<(), Refusal>(())
+/// ```
+///
+/// # Errors
+/// Those of [`verdict`] but [`Refusal::SHORT_WORKSPACE`]; then
+/// [`Refusal::SHORT_TABLE_ROOM`] where the room is shorter than the table.
+pub fn inverse<'a>(table: &[u8], n: u32, room: &'a mut [u8]) -> Result<&'a [u8], Refusal> {
+    let answer = border::inverse(table, n, room);
+    Refusal::unless_success(answer.number)?;
+    let length = usize::try_from(answer.value).expect("a table lies within its room");
+    Ok(&room[..length])
+}
+
+/// The inverse, with a room of its own, as long as the table.
+///
+/// ```
+/// // PAIRS has no sequence: it is its own inverse.
+/// assert_eq!(foq::inverse_to_vec(foq::PAIRS, 3)?, foq::PAIRS);
+/// # Ok::<(), foq::Refusal>(())
+/// ```
+///
+/// # Errors
+/// Those of [`verdict`] but [`Refusal::SHORT_WORKSPACE`].
+pub fn inverse_to_vec(table: &[u8], n: u32) -> Result<Vec<u8>, Refusal> {
+    let mut room = vec![0; table.len()];
+    let length = inverse(table, n, &mut room)?.len();
+    room.truncate(length);
+    Ok(room)
 }
 
 /// The circuit reader.

@@ -1,4 +1,4 @@
-//! The refusals of document 01, by the names of `foq.h`.
+//! The refusals of documents 01 and 02, by the names of `foq.h`.
 
 use std::error::Error;
 use std::fmt::{self, Display, Formatter};
@@ -45,10 +45,11 @@ refusals! {
     SHORT_WORKSPACE = 21, "a workspace shorter than 32,768 bytes";
     MANY_WIRES = 22, "a wire number above 255 would be taken";
     NO_ROOM = 23, "the header or the next gate would pass the end of the room, or of 65,536 bytes, or a text is shorter than its listing";
+    SHORT_TABLE_ROOM = 24, "a room shorter than the table that is to be inverted";
 }
 
 impl Refusal {
-    /// The number, as document 01 has it.
+    /// The number, as documents 01 and 02 have it.
     ///
     /// ```
     /// let refusal = foq::compile_to_vec(&[], 3).unwrap_err();

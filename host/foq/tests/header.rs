@@ -61,7 +61,7 @@ fn the_header_has_the_constants_of_the_definitions() {
     let others = ["KIND_", "MAP_", "BASE_", "GATE_", "ENOUGH_STACK"];
     limits.retain(|name, _| !others.iter().any(|other| name.starts_with(other)));
     assert_eq!(limits, proved());
-    assert_eq!(limits.len(), 32);
+    assert_eq!(limits.len(), 33);
 }
 
 #[test]
@@ -70,7 +70,7 @@ fn the_bindings_have_the_constants_of_the_header() {
     for (name, refusal) in Refusal::ALL {
         assert_eq!(defined[*name], refusal.number());
     }
-    assert_eq!(Refusal::ALL.len(), 17);
+    assert_eq!(Refusal::ALL.len(), 18);
     for (name, length) in [
         ("BLOCK_LENGTH", BLOCK_LENGTH),
         ("LEAST_WORKSPACE", LEAST_WORKSPACE),
