@@ -2,8 +2,8 @@
 //! OpenQASM.
 //!
 //! Nothing here is proved, and nothing that is proved depends on it. What
-//! decides is `libfoq.a`: verdict, run and compile see only a table's bytes, and
-//! listings and pages are its own.
+//! decides is `libfoq.a`: verdict, run, compile and inverse see only a table's
+//! bytes, and listings and pages are its own.
 //!
 //! - [`tree`] holds the tree of a program, [`bytes`] its table, [`text`] its text.
 //! - [`qasm`] turns the listing of a circuit into OpenQASM.

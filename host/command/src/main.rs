@@ -1,9 +1,10 @@
-//! `foq`: verdict, run and circuit of a FOQ program, for people at a shell.
+//! `foq`: verdict, run, circuit and inverse of a FOQ program, for people at a
+//! shell.
 //!
-//! Verdict, run, compile, the circuit run, listings and the bands of a page are
-//! the proved functions of `libfoq.a`. This program stands outside of what is
-//! proved: it reads files, turns texts into tables and listings into OpenQASM,
-//! and says refusals in words.
+//! Verdict, run, compile, inverse, the circuit run, listings and the bands of a
+//! page are the proved functions of `libfoq.a`. This program stands outside of
+//! what is proved: it reads files, turns texts into tables and back and listings
+//! into OpenQASM, and says refusals in words.
 
 #![deny(clippy::unwrap_used, clippy::expect_used, clippy::panic)]
 
@@ -25,7 +26,7 @@ use std::process::ExitCode;
 use word::{word, Form};
 
 const HELP: &str = "\
-foq: verdict, run and circuit of a FOQ program
+foq: verdict, run, circuit and inverse of a FOQ program
 
     foq verdict FILE N           whether the program is accepted on N qubits
     foq run FILE N WORD          the word that a run from WORD ends with
@@ -33,6 +34,7 @@ foq: verdict, run and circuit of a FOQ program
     foq list FILE N              the circuit as a listing
     foq page FILE N              the circuit drawn on a page of 80 columns
     foq qasm FILE N              the circuit in OpenQASM 3
+    foq inverse FILE N [OUT]     the inverse, as a table into OUT or as a text
     foq assemble FILE OUT        the table of a text, into OUT
     foq disassemble FILE         the text of a table
     foq circuit run FILE WORD    the word that a kept circuit ends with
@@ -43,11 +45,13 @@ foq: verdict, run and circuit of a FOQ program
 
 FILE is a table or a text, behind `circuit` what `foq compile` wrote;
 docs/TEXT.md says how a text is written. WORD is decimal, or behind 0x or 0b;
-its lowest bit is qubit 1. A refusal ends with status 1; wrong arguments, a
-wrong text or a file that cannot be read or written with status 2.
+its lowest bit is qubit 1. The inverse is the program whose runs undo those of
+FILE; without OUT its text is printed, as by `foq disassemble`. A refusal ends
+with status 1; wrong arguments, a wrong text or a file that cannot be read or
+written with status 2.
 
-Verdict, run, compile, the run of a circuit, its listing and each band of its
-page are proved. Texts and OpenQASM are not.
+Verdict, run, compile, inverse, the run of a circuit, its listing and each band
+of its page are proved. Texts and OpenQASM are not.
 ";
 
 fn main() -> ExitCode {
@@ -75,6 +79,8 @@ fn command(arguments: &[&OsStr]) -> Result<(), Failure> {
         (Some("list"), &[file, n]) => list(file, &compiled(file, n)?),
         (Some("page"), &[file, n]) => print_page(file, &compiled(file, n)?),
         (Some("qasm"), &[file, n]) => print_qasm(file, &compiled(file, n)?),
+        (Some("inverse"), &[file, n]) => print_text(file, &inverted(file, n)?),
+        (Some("inverse"), &[file, n, out]) => write(out, &inverted(file, n)?),
         (Some("assemble"), &[file, out]) => assemble(file, out),
         (Some("disassemble"), &[file]) => disassemble(file),
         (Some("circuit"), &[what, file]) if what == "list" => list(file, &contents(file)?),
@@ -122,6 +128,12 @@ fn run(file: &OsStr, n: &OsStr, start: &OsStr) -> Result<(), Failure> {
 fn compiled(file: &OsStr, n: &OsStr) -> Result<Vec<u8>, Failure> {
     let n = qubits(n)?;
     foq::compile_to_vec(&Source::read(file)?.table(), n).map_err(refused(file))
+}
+
+/// The table of a program's inverse.
+fn inverted(file: &OsStr, n: &OsStr) -> Result<Vec<u8>, Failure> {
+    let n = qubits(n)?;
+    foq::inverse_to_vec(&Source::read(file)?.table(), n).map_err(refused(file))
 }
 
 /// The listing of a circuit, if it is well formed.
@@ -173,14 +185,20 @@ fn assemble(file: &OsStr, out: &OsStr) -> Result<(), Failure> {
     }
 }
 
-/// `foq disassemble FILE`. Tables that read have a text, accepted or not.
+/// `foq disassemble FILE`.
 fn disassemble(file: &OsStr) -> Result<(), Failure> {
-    let Source::Table(table) = Source::read(file)? else {
-        return Err(usage(file, "is a text already"));
-    };
-    match bytes::decode(&table) {
+    match Source::read(file)? {
+        Source::Table(table) => print_text(file, &table),
+        Source::Text(_) => Err(usage(file, "is a text already")),
+    }
+}
+
+/// `foq disassemble FILE` and `foq inverse FILE N`, with the table's bytes.
+/// Tables that read have a text, accepted or not; an inverse reads.
+fn print_text(file: &OsStr, table: &[u8]) -> Result<(), Failure> {
+    match bytes::decode(table) {
         Some(program) => say(text::print(&program).as_bytes()),
-        None => Err(refused(file)(unreadable(&table))),
+        None => Err(refused(file)(unreadable(table))),
     }
 }
 

@@ -1,7 +1,7 @@
 //! The program `foq` at work: what it prints and writes, and its exit status.
 
 use foq_generator::circuits::circuit_of;
-use foq_generator::tables::{two_in_sequence, without_removal};
+use foq_generator::tables::{every_kind, two_in_sequence, without_removal};
 use foq_generator::PAIRS;
 use std::fs::{self, File};
 use std::path::{Path, PathBuf};
@@ -136,6 +136,45 @@ fn texts_and_tables_are_turned_into_each_other() {
     assert_eq!(foq(&["disassemble", &wide]).status.code(), Some(0));
 }
 
+/// The table of a text that was printed.
+fn assembled(name: &str, text: &[u8]) -> Vec<u8> {
+    let text = file(&format!("{name}.txt"), text);
+    let out = fresh(&format!("{name}.foq"));
+    prints(&["assemble", &text, out.to_str().unwrap()], b"");
+    fs::read(&out).unwrap()
+}
+
+#[test]
+fn tables_and_texts_are_inverted_alike() {
+    let subtractor = fs::read(example("subtractor.foq")).unwrap();
+    let text = foq(&["disassemble", &example("subtractor.foq")]).stdout;
+    for adder in &[example("adder.foq"), example("adder.foq.txt")] {
+        let out = fresh("inverted_adder.foq");
+        prints(&["inverse", adder, "7", out.to_str().unwrap()], b"");
+        assert_eq!(fs::read(&out).unwrap(), subtractor);
+        prints(&["inverse", adder, "7"], &text);
+    }
+    assert_eq!(assembled("printed_inverse", &text), subtractor);
+}
+
+#[test]
+fn inverting_again_gives_the_bytes_back() {
+    let there = &file("there.foq", &every_kind());
+    let back = fresh("back.foq");
+    let back = back.to_str().unwrap();
+    prints(&["inverse", there, "5", back], b"");
+    assert_ne!(fs::read(back).unwrap(), every_kind());
+    let end = foq(&["run", there, "5", "0b01101"]).stdout;
+    let end = str::from_utf8(&end).unwrap().trim();
+    assert_ne!(end, "0b01101");
+    prints(&["run", back, "5", end], b"0b01101\n");
+    let text = foq(&["inverse", back, "5"]).stdout;
+    assert_eq!(assembled("there_again", &text), every_kind());
+    // A file may be replaced by its own inverse.
+    prints(&["inverse", back, "5", back], b"");
+    assert_eq!(fs::read(back).unwrap(), every_kind());
+}
+
 #[test]
 fn help_is_printed() {
     let output = foq(&["--help"]);
@@ -148,6 +187,7 @@ fn help_is_printed() {
         "list",
         "page",
         "qasm",
+        "inverse",
         "assemble",
         "disassemble",
         "circuit run",
@@ -182,6 +222,9 @@ fn refusals_end_with_status_1_in_words() {
     refused(&["qasm", wide, "3"], "refusal 11: ");
     let long = &example("chained_substring.foq");
     refused(&["compile", long, "32"], "refusal 23: ");
+    refused(&["inverse", pairs, "33"], "pairs.foq: refusal 9: ");
+    refused(&["inverse", kind, "3"], "refusal 4: ");
+    refused(&["inverse", wide, "3"], "refusal 11: ");
     refused(&["page", long, "32"], "refusal 23: ");
     for what in ["list", "page", "qasm"] {
         let words = "pairs.foq: refusal 14: the circuit is not well formed";
@@ -193,12 +236,14 @@ fn refusals_end_with_status_1_in_words() {
 }
 
 #[test]
-fn a_refused_compile_writes_no_file() {
+fn a_refused_compile_or_inverse_writes_no_file() {
     let fault = &file("fault.txt", b":: q[4] *= NOT;");
     let out = fresh("not_written");
     let words = "fault.txt: refusal 12: a NOT or qcase on a position outside its list";
-    refused(&["compile", fault, "3", out.to_str().unwrap()], words);
-    assert!(!out.exists());
+    for command in ["compile", "inverse"] {
+        refused(&[command, fault, "3", out.to_str().unwrap()], words);
+        assert!(!out.exists(), "{command}");
+    }
 }
 
 /// Asserts that `foq` ends with words on its arguments or its text.
@@ -215,6 +260,10 @@ fn wrong_arguments_end_with_status_2() {
     misused(
         &["run", pairs, "3"],
         "run takes other arguments: foq run FILE N WORD; ",
+    );
+    misused(
+        &["inverse", pairs],
+        "inverse takes other arguments: foq inverse FILE N [OUT]; ",
     );
     misused(
         &["circuit", pairs],
@@ -237,6 +286,7 @@ fn files_that_cannot_be_read_or_written_end_with_status_2() {
     misused(&["verdict", missing, "3"], "missing/file: ");
     let pairs = &example("pairs.foq.txt");
     misused(&["compile", pairs, "3", missing], "missing/file: ");
+    misused(&["inverse", pairs, "3", missing], "missing/file: ");
     misused(&["assemble", pairs, missing], "missing/file: ");
 }
 

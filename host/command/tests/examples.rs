@@ -62,6 +62,7 @@ fn text_table_listing_and_page_say_the_same() {
         "pairs",
         "palindrome",
         "reversal",
+        "subtractor",
         "two_ones",
     ];
     assert_eq!(names, known.map(String::from).into());
@@ -146,21 +147,81 @@ fn chained_substring_flips_behind_001_and_later_11() {
     });
 }
 
+/// An addition of two numbers and a carry, as words of n qubits.
+struct Addition {
+    n: u32,
+    /// The numbers as pairs of bits, zeros, and the carry that comes in.
+    unadded: u64,
+    /// The same pairs, and behind them the sum.
+    added: u64,
+    /// How people write it.
+    shown: String,
+}
+
+/// The addition of k pairs of bits, the lowest first, and a carry.
+fn addition(k: u32, pairs: u64, carry: u64) -> Addition {
+    let n = 3 * k + 1;
+    let bit = |place: u32| pairs >> place & 1;
+    let a: u64 = (0..k).map(|place| bit(2 * place) << place).sum();
+    let b: u64 = (0..k).map(|place| bit(2 * place + 1) << place).sum();
+    let sum = a + b + carry;
+    // The lowest bit of the sum is the last qubit.
+    let last = (0..=k).map(|place| (sum >> place & 1) << (n - 1 - place));
+    Addition {
+        n,
+        unadded: pairs + (carry << (n - 1)),
+        added: pairs + last.sum::<u64>(),
+        shown: format!("{a} + {b} + {carry}"),
+    }
+}
+
+/// Every addition of numbers of at most three bits.
+fn additions() -> Vec<Addition> {
+    let of_length = |k: u32| {
+        let pairs = 0..1u64 << (2 * k);
+        pairs.flat_map(move |pairs| [0, 1].map(|carry| addition(k, pairs, carry)))
+    };
+    (0..=3).flat_map(of_length).collect()
+}
+
 #[test]
 fn adder_adds() {
     let table = table("adder");
-    for k in 0..=3 {
-        let n = 3 * k + 1;
-        for (pairs, carry) in (0..1 << (2 * k)).flat_map(|pairs| [(pairs, 0), (pairs, 1)]) {
-            let bit = |place: u32| pairs >> place & 1;
-            let a: u64 = (0..k).map(|place| bit(2 * place) << place).sum();
-            let b: u64 = (0..k).map(|place| bit(2 * place + 1) << place).sum();
-            let sum = a + b + carry;
-            // The lowest bit of the sum is the last qubit.
-            let shown = (0..=k).map(|place| (sum >> place & 1) << (n - 1 - place));
-            let expected = pairs + shown.sum::<u64>();
-            let start = pairs + (carry << (n - 1));
-            assert_eq!(end(&table, n, start), expected, "{a} + {b} + {carry}");
+    for case in additions() {
+        let end = end(&table, case.n, case.unadded);
+        assert_eq!(end, case.added, "{}", case.shown);
+    }
+}
+
+#[test]
+fn subtractor_subtracts() {
+    let table = table("subtractor");
+    for case in additions() {
+        let end = end(&table, case.n, case.added);
+        assert_eq!(end, case.unadded, "{}", case.shown);
+    }
+}
+
+#[test]
+fn subtractor_is_the_inverse_of_the_adder() {
+    let (adder, subtractor) = (table("adder"), table("subtractor"));
+    let room = adder.len();
+    for n in 1..=32 {
+        let inverse = foq_reference::inverse(&adder, n, room);
+        assert_eq!(inverse.as_ref(), Ok(&subtractor), "n {n}");
+        assert_eq!(foq::inverse_to_vec(&adder, n).as_ref(), Ok(&subtractor));
+        assert_eq!(foq::inverse_to_vec(&subtractor, n).as_ref(), Ok(&adder));
+    }
+}
+
+#[test]
+fn adder_and_subtractor_undo_each_other() {
+    let (adder, subtractor) = (table("adder"), table("subtractor"));
+    for n in 1..=10 {
+        for word in 0..1 << n {
+            let [added, subtracted] = [&adder, &subtractor].map(|table| end(table, n, word));
+            assert_eq!(end(&subtractor, n, added), word, "n {n}, {word}");
+            assert_eq!(end(&adder, n, subtracted), word, "n {n}, {word}");
         }
     }
 }

@@ -102,6 +102,73 @@ fn what_does_not_read_is_told_apart() {
     assert_reached(&counts, &[("reads", 10_000), ("does not read", 10_000)]);
 }
 
+/// A statement with the two parts of each sequence turned round.
+fn turned(statement: &Statement) -> Statement {
+    let part = |part: &Statement| Box::new(turned(part));
+    match statement {
+        Statement::Sequence(first, second) => Statement::Sequence(part(second), part(first)),
+        Statement::If(condition, yes, no) => Statement::If(condition.clone(), part(yes), part(no)),
+        Statement::Qcase(qubit, zero, one) => {
+            Statement::Qcase(qubit.clone(), part(zero), part(one))
+        }
+        Statement::Skip | Statement::Not(_) | Statement::Call { .. } => statement.clone(),
+    }
+}
+
+/// Checks the inverse of a table, where it is accepted on 4 qubits: its text
+/// comes back, and says the table's tree with its sequences turned round.
+fn check_inverse(table: &[u8], counts: &mut Counts) {
+    let Ok(inverse) = foq::inverse_to_vec(table, 4) else {
+        count(counts, "refused on 4 qubits", true);
+        return;
+    };
+    let there = decode(table).unwrap();
+    let back = Program {
+        main: turned(&there.main),
+        bodies: there.bodies.iter().map(turned).collect(),
+    };
+    assert_eq!(decode(&inverse).as_ref(), Some(&back), "{table:02x?}");
+    comes_back(&back, &inverse);
+    count(counts, "inverted", true);
+    count(counts, "inverted to another table", inverse != table);
+}
+
+#[test]
+fn inverses_come_back() {
+    let mut random = Random::from_seed(3);
+    let mut counts = Counts::new();
+    for _ in 0..2_000 {
+        for shape in [SMALL, MERGING, LARGE] {
+            let careful = foq_generator::tree::encode(&program(&mut random, &shape));
+            let wild = foq_generator::tree::encode(&wild_program(&mut random, &shape));
+            for table in [careful, wild] {
+                check_inverse(&table, &mut counts);
+            }
+        }
+    }
+    let least = [
+        ("inverted", 6_000),
+        ("inverted to another table", 5_000),
+        ("refused on 4 qubits", 5_000),
+    ];
+    assert_reached(&counts, &least);
+}
+
+#[test]
+fn inverses_at_a_limit_come_back() {
+    let mut counts = Counts::new();
+    let tables = [
+        every_kind(),
+        sixteen_in_turn(),
+        deepest(leaning_left),
+        deepest(leaning_right),
+    ];
+    for table in &tables {
+        check_inverse(table, &mut counts);
+    }
+    assert_reached(&counts, &[("inverted to another table", 4)]);
+}
+
 /// A comparison.
 fn compare() -> Condition {
     Condition::Compare(
