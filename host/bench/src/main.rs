@@ -1,14 +1,15 @@
-//! Times of the product beside the second interpreter's: verdict, run and
-//! compile of a table, reading, running and listing a circuit and drawing its
-//! page. Run and compile ask for the verdict first, and run, listing and page of
-//! a circuit read it first. Both sides are timed in turn in each of many rounds;
-//! what is printed is the median, in microseconds a call. A ratio of 1.00 or
-//! less means that the product is no slower. Behind that stands how circuits
-//! grow with n.
+//! Times of the product beside the second interpreter's: verdict, run, compile
+//! and inverse of a table, reading, running and listing a circuit and drawing
+//! its page. Run, compile and inverse ask for the verdict first, and run, listing
+//! and page of a circuit read it first. Both sides are timed in turn in each of
+//! many rounds; what is printed is the median, in microseconds a call. A ratio of
+//! 1.00 or less means that the product is no slower. Behind that stands how
+//! circuits grow with n.
 
 mod compiling;
 mod drawing;
 mod growth;
+mod inverting;
 mod listing;
 mod rows;
 mod sequential;
@@ -224,6 +225,7 @@ fn main() {
     );
     print_tables();
     compiling::print();
+    inverting::print();
     for case in circuit_cases() {
         assert_circuits_agree(&case);
         print_circuit(&case);

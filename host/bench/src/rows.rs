@@ -28,6 +28,23 @@ pub fn print_rest<const CALLS: usize>(
     println!("{title:44}{product:12.2}{second:12.2}");
 }
 
+/// Prints the medians of what one pair of calls takes longer than another, as
+/// parts of what a third pair takes.
+pub fn print_parts<const CALLS: usize>(
+    title: &str,
+    rounds: &[Round<CALLS>],
+    whole: [usize; 2],
+    part: [usize; 2],
+    of: [usize; 2],
+) {
+    let [product, second] = [0, 1].map(|side| {
+        median(rounds, |round| {
+            (round[whole[side]] - round[part[side]]) / round[of[side]]
+        })
+    });
+    println!("{title:44}{product:12.2}{second:12.2}");
+}
+
 /// Prints how many megabytes a second both give, at so many bytes a call.
 pub fn print_rates<const CALLS: usize>(
     title: &str,
