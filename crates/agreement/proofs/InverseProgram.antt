@@ -10,7 +10,7 @@ use lib.Dec.{ltb}
 use Rattle.model.specs.Syntax.{Statement, skip, NOT, sequence, if, qcase, call, Program, count, body}
 use Rattle.model.specs.Lists.{qubits, remaining, touched, holds}
 use Rattle.model.specs.Faults.{CallFaults, callFaults, faults, callFaultsWithin, enough, programFaults}
-use Rattle.model.specs.Meaning.{State, bit, stateOf, wordOf, CallDoes, callDoes, does, callDoesWithin, endState, endWord}
+use Rattle.model.specs.Meaning.{State, stateOf, wordOf, CallDoes, callDoes, does, callDoesWithin, endState, endWord}
 use Rattle.model.specs.Reach.{calls, reachesBelow, recursive, lacksRemoval, width, anyLacksRemoval, anyTooWide}
 use Rattle.model.specs.Inverse.{inverse, inverseProgram}
 use Rattle.model.proofs.BooleanLaws.{byBool, any-same}

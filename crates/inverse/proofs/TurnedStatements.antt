@@ -1,12 +1,12 @@
 -- What is copied of a table that was read is the inverse program, written.
-use mathlib.Core.Path.{_≡_, refl, sym, ap, _∙_, subst}
+use mathlib.Core.Path.{_≡_, refl, sym, ap, _∙_}
 use mathlib.Core.List.{List, [], _∷_, _++_, map, append-assoc, append-nil}
-use Prim.Native.Nat.{ℕ, zero, suc, _+_, _≤_, _<_}
+use Prim.Native.Nat.{ℕ, zero, suc, _+_, _≤_}
 use native.Mathlib.Nat.{add-zero}
 use native.Mathlib.Omega.{arith}
-use lib.ListN.{length, length-map, take}
+use lib.ListN.{length-map, take}
 use Rattle.model.specs.Limits.{tableEdition, mostDepth}
-use Rattle.model.specs.Syntax.{Condition, Statement, Program, count}
+use Rattle.model.specs.Syntax.{Condition, Statement, count}
 use Rattle.model.specs.Reading.{Input, parsed, readTable}
 use Rattle.model.specs.Lists.{range}
 use Rattle.model.specs.Writing.{headBytes, statementBytes, statementsBytes, writeTable}
@@ -16,11 +16,11 @@ use Rattle.model.proofs.WrittenTables.{table-written}
 use Rattle.records.specs.declared.Record.{Record}
 use Rattle.records.specs.declared.Record.the-variants as kind
 use Rattle.records.specs.Fields.{recordAt}
-use Rattle.table.specs.Index.{startOf, endOf, statementOf, testAt, statementAt, bodyAt, programAt, piece, Placed, BodiesPlaced}
+use Rattle.table.specs.Index.{startOf, statementOf, testAt, statementAt, bodyAt, programAt, Placed, BodiesPlaced}
 use Rattle.step.specs.Steps.{stepOf}
 use Rattle.step.proofs.RecordsPastTheEnd.{next-in}
 use Rattle.reach.specs.CallsInATable.{partsOf}
-use Rattle.inverse.specs.TurnedRecords.{inOrder, turnedOf, turnedAt, turnedBody, turnedBelow, turnedTable}
+use Rattle.inverse.specs.TurnedRecords.{inOrder, turnedOf, turnedAt, turnedBelow, turnedTable}
 
 -- a record by its kind, where its parts are copied as their inverses
 module _ (bs ix : List ℕ) (test : ℕ → Condition) (part : ℕ → Statement) (turned : ℕ → ℕ → List ℕ)

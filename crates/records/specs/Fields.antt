@@ -6,7 +6,7 @@ use mathlib.Core.Bool.{Bool, true, false, cond}
 use mathlib.Core.List.{List, [], _∷_}
 use lib.ListN.{length, getD}
 use lib.Dec.{ltb, leb, eqb}
-use lib.IntN.{ℤ, pos}
+use lib.IntN.{ℤ}
 use Rattle.limits.specs.Sizes.{placeCount, kindCount}
 use Rattle.model.specs.Limits.{mostRemovals, tableStops, wrongField}
 use Rattle.model.specs.Syntax as syntax

@@ -1,15 +1,14 @@
 -- Bytes that stand in a table from one place up to another; those of a record whose fields were read are the record, written again.
-use Prim.Native.Nat.{ℕ, zero, suc, _+_, _-_, _≤_, _<_}
+use Prim.Native.Nat.{ℕ, suc, _+_, _-_, _≤_}
 use native.Mathlib.Numerals.{add-one}
 use native.Mathlib.Omega.{arith}
-use mathlib.Core.Path.{_≡_, refl, sym, ap, _∙_}
+use mathlib.Core.Path.{_≡_, sym, ap, _∙_}
 use mathlib.Core.Bool.{true}
-use mathlib.Core.List.{List, [], _∷_, _++_, append-assoc}
-use lib.ListN.{length, take, drop, length-append, length-drop}
+use mathlib.Core.List.{List, _∷_, _++_, append-assoc}
+use lib.ListN.{length, drop, length-append, length-drop}
 use lib.Seq.{take-append-seam, drop-cons}
-use Rattle.model.specs.Reading.{Input, inputAt, Parsed, parsed, Fields, fields, permitted}
+use Rattle.model.specs.Reading.{inputAt, parsed, Fields, fields, permitted}
 use Rattle.model.specs.Writing.{recordBytes}
-use Rattle.model.proofs.ReadingLaws.{Reads, Anyhow}
 use Rattle.model.proofs.RoundTrip.{Bytes}
 use Rattle.model.proofs.WrittenTables.{bytes-drop, record-written}
 use Rattle.records.specs.Fields.{byteAt}
