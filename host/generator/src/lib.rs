@@ -15,6 +15,7 @@
 //! - [`published`] holds programs of source 002, [`emissions`] tables whose
 //!   emission is at a limit, and [`merged_lists`] makes programs whose circuits
 //!   are mostly swaps.
+//! - [`steps`] makes programs of many sequences, in which the order matters.
 //! - [`circuits`] makes well-formed circuits, and circuits of given gates.
 //! - [`damage`] spoils bytes.
 
@@ -28,6 +29,7 @@ pub mod numbers;
 pub mod programs;
 pub mod published;
 pub mod size_left;
+pub mod steps;
 pub mod tables;
 pub mod tree;
 

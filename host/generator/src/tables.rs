@@ -72,7 +72,8 @@ pub fn eight_removals() -> Vec<u8> {
     let removed = vec![Constant(1); 8];
     let zero = Statement::Not(removed.clone(), Constant(1));
     let one = Statement::Call(removed, 1);
-    let main = qcase(vec![SizePlus(0); 8], Constant(1), zero, one);
+    let last = (0..8).map(|back| SizePlus(-back)).collect();
+    let main = qcase(last, Constant(1), zero, one);
     table(main, &[Statement::Skip])
 }
 
