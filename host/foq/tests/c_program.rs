@@ -6,7 +6,7 @@ mod programs;
 
 use counts::{assert_reached, count, Counts};
 use foq::border::{self, Answer, Band};
-use foq::{circuit_read, circuit_run, compile_to_vec, run, verdict, Refusal};
+use foq::{circuit_read, circuit_run, compile_to_vec, inverse_to_vec, run, verdict, Refusal};
 use foq::{LEAST_WORKSPACE, MOST_BAND, MOST_CIRCUIT, MOST_LISTING, PAIRS};
 use foq_generator::circuits::{circuit, circuit_of, crowded_circuit, longest_listing, sizes};
 use foq_generator::damage::damaged;
@@ -18,7 +18,7 @@ use foq_generator::tables::{
 };
 use foq_generator::tree::{encode, not, table, Number, Statement};
 use foq_generator::Random;
-use foq_reference::{circuit_list, page, read_circuit};
+use foq_reference::{circuit_list, inverse, page, read_circuit};
 use programs::{compiled, example, flags, output, page_example, printed, scratch};
 use programs::{C11, CPP, SANITIZED};
 use std::collections::{BTreeMap, BTreeSet};
@@ -230,6 +230,18 @@ fn page_lines(circuit: &[u8]) -> String {
     }
 }
 
+/// What the tool is to print of a table's inverse: what the second interpreter
+/// writes.
+fn inverse_line(table: &[u8], n: u32) -> String {
+    match inverse(table, n, table.len()) {
+        Ok(inverse) => {
+            let bytes = inverse.iter().map(|byte| format!(" {byte:02x}"));
+            format!("inverse{}\n", bytes.collect::<String>())
+        }
+        Err(number) => format!("refused {number}\n"),
+    }
+}
+
 /// What the tool is to print of a table.
 fn table_lines(table: &[u8], n: u32, word: u64) -> String {
     let workspace = &mut vec![1; LEAST_WORKSPACE];
@@ -248,7 +260,7 @@ fn table_lines(table: &[u8], n: u32, word: u64) -> String {
         }
         Err(refusal) => refused_line(refusal),
     };
-    judged + &ran + &compiled
+    judged + &ran + &inverse_line(table, n) + &compiled
 }
 
 /// The tool, as C and as C++.
@@ -312,10 +324,43 @@ fn the_tool_shows_tables_as_the_bindings_do() {
     assert!(circuits >= 40);
     let all = [1, 2, 3, 4, 5, 6, 7, 8, 9, 10, 11, 12, 13, 22, 23];
     assert!(refusals.keys().eq(&all));
-    let worked = "accepted\nend word 4\ncircuit of 49 bytes\n3 qubits, 3 ancillas, 9 gates\n\
+    let worked = "accepted\nend word 4\n\
+        inverse 01 01 08 05 01 00 03 06 06 01 00 00 00 01 00 02 04 00 01 00 02 04 00 02 00 \
+        09 05 02 00 01 00 00 01 00 01 00 00 02 04 00 02 00 00 00 09 05 02 00 01 00 00 01 00 \
+        01 02 01 00 01 00\n\
+        circuit of 49 bytes\n3 qubits, 3 ancillas, 9 gates\n\
         3 3 15\n1 X 4\n2 X 5 -1 -2 +4\n3 X 6 +1 +2 +4\n4 X 5 +6\n5 X 3 +5\n6 X 5 +6\n\
         7 X 6 +1 +2 +4\n8 X 5 -1 -2 +4\n9 X 4\nwires 001000\n";
     tools.assert_print(&["table", "/dev/stdin", "3", "0x0"], PAIRS, worked);
+}
+
+/// A kept inverse is shown as a table, which takes the run back.
+#[test]
+fn the_tool_keeps_inverses_that_take_runs_back() {
+    let tools = Tools::compiled("inverse-tool");
+    let file = scratch("tool.inverse");
+    let name = file.to_str().unwrap();
+    let (mut taken_back, mut refusals) = (0, Numbers::new());
+    for (table, n, word) in tables() {
+        let line = inverse_line(&table, n);
+        count_refusals(&line, &mut refusals);
+        let qubits = n.to_string();
+        let arguments = ["inverse", "/dev/stdin", &qubits];
+        tools.assert_print(&arguments, &table, &line);
+        let Ok(end) = run(&table, n, word, &mut vec![1; LEAST_WORKSPACE]) else {
+            continue;
+        };
+        tools.assert_print(&[&arguments[..], &[name]].concat(), &table, &line);
+        let inverse = fs::read(&file).unwrap();
+        assert_eq!(inverse_to_vec(&table, n).as_ref(), Ok(&inverse));
+        let shown = table_lines(&inverse, n, end);
+        assert!(shown.starts_with(&format!("accepted\nend word {word}\n")));
+        tools.assert_print(&["table", name, &qubits, &end.to_string()], &[], &shown);
+        taken_back += usize::from(inverse != table);
+    }
+    println!("{taken_back} runs taken back by another table, refusals {refusals:?}");
+    assert!(taken_back >= 40);
+    assert!(refusals.keys().eq(&[1, 2, 3, 4, 5, 6, 7, 8, 9, 10, 11, 12]));
 }
 
 #[test]
@@ -365,6 +410,12 @@ fn the_tool_refuses_wrong_arguments() {
         &["circuit", "/dev/stdin", "18446744073709551616"],
         &["circuit", "/dev/stdin", "0", "0"],
         &["circuit", "/nowhere", "0"],
+        &["inverse", "/dev/stdin"],
+        &["inverse", "/dev/stdin", "x"],
+        &["inverse", "/dev/stdin", "4294967296"],
+        &["inverse", "/dev/stdin", "3", "/nowhere/table"],
+        &["inverse", "/dev/stdin", "3", "/dev/null", "0"],
+        &["inverse", "/nowhere", "3"],
         &["page"],
         &["page", "/dev/stdin", "0"],
         &["page", "/nowhere"],
@@ -385,12 +436,22 @@ struct Case {
     word: u64,
     room: usize,
     workspace: usize,
+    inverse: usize,
     place: u64,
     text: usize,
     listing: usize,
 }
 
 impl Case {
+    /// A table with a room for its inverse; all others are lent nothing.
+    fn of_inverse(bytes: Vec<u8>, n: u32, inverse: usize) -> Case {
+        Case {
+            n,
+            inverse,
+            ..Case::of_circuit(bytes, 0, 0, 0)
+        }
+    }
+
     /// A circuit: the functions of tables are lent nothing, and for a listing
     /// there is no text.
     fn of_circuit(bytes: Vec<u8>, word: u64, place: u64, text: usize) -> Case {
@@ -400,6 +461,7 @@ impl Case {
             word,
             room: 0,
             workspace: 0,
+            inverse: 0,
             place,
             text,
             listing: 0,
@@ -422,12 +484,14 @@ impl Case {
             word,
             room,
             workspace,
+            inverse,
             place,
             text,
             listing,
         } = self;
         let length = bytes.len();
-        let line = format!("{n} {word} {room} {workspace} {place} {text} {listing} {length}\n");
+        let of_table = format!("{n} {word} {room} {workspace} {inverse}");
+        let line = format!("{of_table} {place} {text} {listing} {length}\n");
         [line.as_bytes(), bytes].concat()
     }
 
@@ -436,6 +500,14 @@ impl Case {
         let mut room = vec![2; self.room];
         let workspace = &mut vec![1; self.workspace];
         let answer = border::compile(&self.bytes, self.n, &mut room, workspace);
+        room.truncate(answer.value as usize);
+        (answer, room)
+    }
+
+    /// The answer of a call for the inverse, and what stands in its room.
+    fn inverted(&self) -> (Answer, Vec<u8>) {
+        let mut room = vec![2; self.inverse];
+        let answer = border::inverse(&self.bytes, self.n, &mut room);
         room.truncate(answer.value as usize);
         (answer, room)
     }
@@ -458,15 +530,24 @@ impl Case {
         (answer, text)
     }
 
+    /// What the functions of tables say: the beginning of a line, and the bytes
+    /// of the circuit and of the inverse.
+    fn of_table(&self) -> (String, [Vec<u8>; 2]) {
+        let workspace = &mut vec![1; self.workspace];
+        let judged = border::verdict(&self.bytes, self.n, workspace);
+        let ran = border::run(&self.bytes, self.n, self.word, workspace);
+        let (compiled, circuit) = self.compiled();
+        let (inverted, inverse) = self.inverted();
+        let answers = [ran, compiled, inverted];
+        let answers = answers.map(|Answer { number, value }| format!(" | {number} {value}"));
+        (judged.to_string() + &answers.concat(), [circuit, inverse])
+    }
+
     /// What the program is to print.
     fn expected(&self) -> Vec<u8> {
-        let (bytes, n, word) = (&self.bytes, self.n, self.word);
-        let workspace = &mut vec![1; self.workspace];
-        let judged = border::verdict(bytes, n, workspace);
-        let ran = border::run(bytes, n, word, workspace);
-        let (compiled, circuit) = self.compiled();
-        let header = border::circuit_read(bytes);
-        let block = border::circuit_run(bytes, word);
+        let (of_table, [circuit, inverse]) = self.of_table();
+        let header = border::circuit_read(&self.bytes);
+        let block = border::circuit_run(&self.bytes, self.word);
         let bits: String = block
             .bits
             .iter()
@@ -475,11 +556,7 @@ impl Case {
         let (band, text) = self.band();
         let (listed, listing) = self.listed();
         let line = format!(
-            "{judged} | {} {} | {} {} | {} {} {} {} | {} {} {} {bits} | {} {} {} | {} {}\n",
-            ran.number,
-            ran.value,
-            compiled.number,
-            compiled.value,
+            "{of_table} | {} {} {} {} | {} {} {} {bits} | {} {} {} | {} {}\n",
             header.number,
             header.qubits,
             header.ancillas,
@@ -493,9 +570,12 @@ impl Case {
             listed.number,
             listed.value,
         );
-        [line.as_bytes(), &circuit, &text, &listing].concat()
+        [line.as_bytes(), &circuit, &inverse, &text, &listing].concat()
     }
 }
+
+/// The longest slice that the border program takes, a text for a listing apart.
+const LONGEST_SLICE: usize = 1 << 17;
 
 /// Workspaces and rooms to try a table with: each workspace beside a long
 /// room, and each room, about the length of the circuit too, beside a
@@ -507,6 +587,24 @@ fn lengths(circuit: usize) -> Vec<(usize, usize)> {
     rooms.extend([circuit.saturating_sub(1), circuit, circuit + 1]);
     let rooms = rooms.into_iter().map(|room| (room, LEAST_WORKSPACE));
     spaces.into_iter().chain(rooms).collect()
+}
+
+/// Rooms to try an inverse with: none, one byte, about the table's length, and a
+/// long one.
+fn inverse_rooms(table: usize) -> BTreeSet<usize> {
+    let about = [table.saturating_sub(1), table, table + 1];
+    let mut rooms = BTreeSet::from([0, 1, LONGEST_SLICE]);
+    rooms.extend(about.map(|room| room.min(LONGEST_SLICE)));
+    rooms
+}
+
+/// Tables with many rooms for their inverses.
+fn inverse_cases() -> Vec<Case> {
+    let cases = tables().into_iter().flat_map(|(table, n, _)| {
+        let rooms = inverse_rooms(table.len()).into_iter();
+        rooms.map(move |room| Case::of_inverse(table.clone(), n, room))
+    });
+    cases.collect()
 }
 
 /// The places of a page's bands.
@@ -593,6 +691,7 @@ fn cases() -> Vec<Case> {
                 word,
                 room,
                 workspace,
+                inverse: 100,
                 place: 0,
                 text: MOST_BAND,
                 listing: 100,
@@ -601,6 +700,7 @@ fn cases() -> Vec<Case> {
     }
     let circuits = circuits().into_iter();
     cases.extend(circuits.map(|(bytes, word)| Case::of_circuit(bytes, word, 0, MOST_BAND)));
+    cases.extend(inverse_cases());
     cases.extend(band_cases());
     cases.extend(listing_cases());
     cases
@@ -689,10 +789,42 @@ fn assert_listings_reached(cases: &[Case]) {
     assert_reached(&counts, &least);
 }
 
+/// Asserts that calls for an inverse of each sort are among the cases.
+fn assert_inverses_reached(cases: &[Case]) {
+    let (mut counts, mut numbers) = (Counts::new(), Numbers::new());
+    for case in cases {
+        let (room, length) = (case.inverse, case.bytes.len());
+        let (answer, inverse) = case.inverted();
+        let (inverted, short) = (answer.number == 0, answer.number == 24);
+        let fault = answer.number == 12;
+        *numbers.entry(answer.number).or_default() += 1;
+        count(&mut counts, "turned", inverted && inverse != case.bytes);
+        count(&mut counts, "exact", inverted && room == length);
+        count(&mut counts, "one more", inverted && room == length + 1);
+        count(&mut counts, "longest", inverted && room == LONGEST_SLICE);
+        count(&mut counts, "one less", short && room + 1 == length);
+        count(&mut counts, "null", short && room == 0);
+        count(&mut counts, "12 in a short room", fault && room < length);
+    }
+    let least = [
+        ("turned", 200),
+        ("exact", 70),
+        ("one more", 70),
+        ("longest", 70),
+        ("one less", 70),
+        ("null", 70),
+        ("12 in a short room", 30),
+    ];
+    assert_reached(&counts, &least);
+    let all = [0, 1, 2, 3, 4, 5, 6, 7, 8, 9, 10, 11, 12, 24];
+    assert!(numbers.keys().eq(&all), "{numbers:?}");
+}
+
 #[test]
 fn every_function_answers_at_the_border_as_the_bindings_say() {
     let cases = cases();
     println!("{} cases", cases.len());
+    assert_inverses_reached(&cases);
     assert_bands_reached(&cases);
     assert_listings_reached(&cases);
     for (compiler, name) in [

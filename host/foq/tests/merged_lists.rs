@@ -5,6 +5,7 @@
 //! test counts the circuits and the later calls of the classes that it is meant
 //! to reach, so that it cannot run empty.
 
+mod calls;
 mod compiled;
 mod counts;
 mod later_calls;

@@ -102,7 +102,7 @@ fn the_deepest_tables_take_the_stack_that_the_header_says() {
         }
     }
     println!("{most:?}");
-    assert_eq!(most.len(), 7);
+    assert_eq!(most.len(), 8);
     for (function, taken) in most {
         let (kib, said) = (taken.div_ceil(1024), said()[&*function]);
         // Another compiler may lay out the frames a little differently.

@@ -15,16 +15,16 @@ use foq_generator::damage::{damaged, single_changes, truncations};
 use foq_generator::programs::{program, wild_program, Shape, LARGE, MERGING, SMALL};
 use foq_generator::tables::{
     closed_through_a_call, deepest, eight_removals, every_kind, full, leaning_left, leaning_right,
-    negations, nested_classes, one_in_each_branch, sixteen_in_turn, two_in_sequence, two_in_turn,
+    nested_classes, one_in_each_branch, sixteen_in_turn, two_in_sequence, two_in_turn,
     without_removal,
 };
 use foq_generator::tree::{
-    call, case, choose, encode, longer_than, not, sequence, table, Condition, Number, Statement,
+    call, choose, encode, longer_than, not, sequence, table, Condition, Number, Statement,
 };
 use foq_generator::{Random, PAIRS};
 use foq_reference::{plain_verdict, SHORTEST_WORKSPACE};
 use lent::{Workspace, LENGTHS};
-use limits::CONSTANTS;
+use limits::{trees, CONSTANTS};
 use Number::{Constant, SizePlus};
 
 /// Asks the product and the second interpreter, and counts the answers.
@@ -351,34 +351,6 @@ fn the_plain_look_for_faults_agrees_on_few_qubits() {
     }
     let least = [(0, 6_000), (10, 1_000), (11, 300), (12, 2_000)];
     assert_reached(&both.verdicts, &least);
-}
-
-/// Trees of this depth on 32 qubits: sequences, ifs and qcases that lean to
-/// either side, and conditions of every kind.
-fn trees(depth: usize) -> Vec<Statement> {
-    let skip = || Statement::Skip;
-    let grown = |step: &dyn Fn(Statement, i16) -> Statement| {
-        (1..depth).fold(skip(), |inner, turn| step(inner, turn as i16))
-    };
-    let asks = |condition| choose(condition, skip(), skip());
-    let conditions = |join: &dyn Fn(Condition) -> Condition| {
-        asks((2..depth).fold(longer_than(1), |inner, _| join(inner)))
-    };
-    let short = || Box::new(longer_than(1));
-    vec![
-        leaning_left(depth, skip()),
-        leaning_right(depth, skip()),
-        grown(&|inner, _| choose(longer_than(0), inner, skip())),
-        grown(&|inner, _| choose(longer_than(32), skip(), inner)),
-        // Qubits 32 down to 1, so that each is closed once.
-        grown(&|inner, turn| case(33 - turn, inner, skip())),
-        grown(&|inner, turn| case(33 - turn, skip(), inner)),
-        asks(negations(depth - 1)),
-        conditions(&|inner| Condition::And(Box::new(inner), short())),
-        conditions(&|inner| Condition::And(short(), Box::new(inner))),
-        conditions(&|inner| Condition::Or(Box::new(inner), short())),
-        conditions(&|inner| Condition::Or(short(), Box::new(inner))),
-    ]
 }
 
 #[test]

@@ -2,6 +2,7 @@
 //! document 01 asks for at each. Both are found without an emission: calls by a
 //! walk through the program, swaps by looking at every wire for a qubit.
 
+use crate::calls::reached_from;
 use foq_reference::{holds, remaining, Program, Statement};
 
 /// A later call to a body.
@@ -76,25 +77,6 @@ fn calls(statement: &Statement, list: &[u8]) -> Vec<(usize, Vec<u8>)> {
     }
 }
 
-/// Every procedure that a statement calls, in any branch.
-fn called(statement: &Statement) -> Vec<usize> {
-    match statement {
-        Statement::Skip | Statement::Not { .. } => Vec::new(),
-        Statement::Call { procedure, .. } => vec![*procedure],
-        Statement::Sequence(first, second)
-        | Statement::Qcase {
-            zero: first,
-            one: second,
-            ..
-        }
-        | Statement::If {
-            yes: first,
-            no: second,
-            ..
-        } => [called(first), called(second)].concat(),
-    }
-}
-
 /// A walk through the chains of an accepted program.
 struct Walk<'p> {
     program: &'p Program,
@@ -134,28 +116,13 @@ impl Walk<'_> {
     }
 }
 
-/// The procedures that this one reaches.
-fn reached_from(program: &Program, procedure: usize) -> Vec<usize> {
-    let mut reached = called(&program.bodies[procedure - 1]);
-    let mut next = 0;
-    while let Some(&via) = reached.get(next) {
-        for to in called(&program.bodies[via - 1]) {
-            if !reached.contains(&to) {
-                reached.push(to);
-            }
-        }
-        next += 1;
-    }
-    reached
-}
-
 /// The later calls of an accepted program on n qubits, each as often as its
 /// chain is emitted.
 pub fn later_calls(program: &Program, n: u8) -> Vec<LaterCall> {
-    let procedures = 1..=program.bodies.len();
+    let bodies = program.bodies.iter();
     let mut walk = Walk {
         program,
-        reached: procedures.map(|of| reached_from(program, of)).collect(),
+        reached: bodies.map(|body| reached_from(program, body)).collect(),
         met: Vec::new(),
     };
     let all: Vec<u8> = (1..=n).collect();

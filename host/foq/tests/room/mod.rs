@@ -20,8 +20,8 @@ impl Room {
         call: impl FnOnce(&mut [u8]) -> T,
     ) -> T {
         let look = |before: &[u8], after: &[u8]| {
-            let (circuit, rest) = after.split_at(written.len());
-            assert!(circuit == written);
+            let (front, rest) = after.split_at(written.len());
+            assert!(front == written);
             assert!(rest == &before[written.len()..]);
         };
         self.0.lend(length, call, look)
