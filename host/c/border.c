@@ -1,22 +1,23 @@
 /*
  * Calls every function once for each case on standard input. A case is a line
- * "N WORD ROOM WORKSPACE PLACE TEXT LISTING LENGTH" and that many bytes, which
- * are taken as a table and as a circuit. TEXT is the length of a text for a band,
+ * "N WORD ROOM WORKSPACE INVERSE PLACE TEXT LISTING LENGTH" and that many bytes,
+ * which are taken as a table and as a circuit. ROOM is the length of a room for a
+ * circuit, INVERSE of one for an inverse; TEXT is the length of a text for a band,
  * LISTING of one for a listing. What is printed is a line
  *
- *     verdict | number end-word | number length | number qubits ancillas gates |
- *     number data ancillas bits-in-hexadecimal | number length next |
- *     number length
+ *     verdict | number end-word | number length | number length |
+ *     number qubits ancillas gates | number data ancillas bits-in-hexadecimal |
+ *     number length next | number length
  *
- * and behind it the bytes that compile wrote, those of a band and those of a
- * listing.
+ * and behind it the bytes that compile wrote, those of an inverse, those of a band
+ * and those of a listing.
  *
  * A slice stands just before a fence, so that reading or writing past its end
  * stops the program, and so does writing into the table or circuit. An empty
  * slice is null. The bytes before a slice, a refused room or text, a text that
- * is too short for its band, and what follows a circuit, a band or a listing must
- * stay as they are, a workspace must come back as zeros: otherwise the program
- * stops too.
+ * is too short for its band, and what follows a circuit, an inverse, a band or a
+ * listing must stay as they are, a workspace must come back as zeros: otherwise
+ * the program stops too.
  */
 #define _DEFAULT_SOURCE
 #include <string.h>
@@ -36,7 +37,8 @@ typedef struct {
     uint8_t *start, *end;
 } memory;
 
-static memory for_bytes, for_room, for_workspace, for_band, for_listing;
+static memory for_bytes, for_room, for_workspace, for_inverse, for_band,
+    for_listing;
 
 /* Memory of this length before a fence. */
 static memory before_a_fence(size_t most)
@@ -113,6 +115,17 @@ static size_t call_compile(const uint8_t *table, size_t length, uint32_t n,
     return answer.value;
 }
 
+/* Gives the length of the inverse, which then stands in its room. */
+static size_t call_inverse(const uint8_t *table, size_t length, uint32_t n,
+                           size_t room)
+{
+    foq_answer answer =
+        foq_inverse(table, length, n, lent(for_inverse, room), room);
+    expect_written(for_inverse, room, answer.value);
+    printf(" | %" PRIu32 " %" PRIu64, answer.number, answer.value);
+    return answer.value;
+}
+
 static void call_circuit(const uint8_t *circuit, size_t length, uint64_t word)
 {
     foq_circuit header = foq_circuit_read(circuit, length);
@@ -164,25 +177,30 @@ int main(void)
 {
     uint32_t n;
     uint64_t word, place;
-    size_t room, space, text, listing, length;
+    size_t room, space, inverse, text, listing, length;
     for_bytes = before_a_fence(MOST);
     for_room = before_a_fence(MOST);
     for_workspace = before_a_fence(MOST);
+    for_inverse = before_a_fence(MOST);
     for_band = before_a_fence(MOST);
     for_listing = before_a_fence(FOQ_MOST_LISTING);
-    while (scanf("%" SCNu32 " %" SCNu64 " %zu %zu %" SCNu64 " %zu %zu %zu", &n,
-                 &word, &room, &space, &place, &text, &listing, &length) == 8) {
+    while (scanf("%" SCNu32 " %" SCNu64 " %zu %zu %zu %" SCNu64 " %zu %zu %zu", &n,
+                 &word, &room, &space, &inverse, &place, &text, &listing,
+                 &length) == 9) {
         expect(getchar() == '\n' && room <= MOST && space <= MOST &&
-                   text <= MOST && listing <= FOQ_MOST_LISTING && length <= MOST,
+                   inverse <= MOST && text <= MOST &&
+                   listing <= FOQ_MOST_LISTING && length <= MOST,
                "a case is not one");
         const uint8_t *bytes = read_bytes(length);
         call_verdict(bytes, length, n, space);
         call_run(bytes, length, n, word, space);
         size_t compiled = call_compile(bytes, length, n, room, space);
+        size_t inverted = call_inverse(bytes, length, n, inverse);
         call_circuit(bytes, length, word);
         size_t drawn = call_page_band(bytes, length, place, text);
         size_t listed = call_circuit_list(bytes, length, listing);
         fwrite(for_room.end - room, 1, compiled, stdout);
+        fwrite(for_inverse.end - inverse, 1, inverted, stdout);
         fwrite(for_band.end - text, 1, drawn, stdout);
         fwrite(for_listing.end - listing, 1, listed, stdout);
     }

@@ -1,10 +1,12 @@
 /*
  * Shows what a table does on n qubits, from a start word: the verdict, the run,
- * and the circuit with its own run, wire 1 leftmost.
+ * the inverse, which is the table that takes the run back, in hexadecimal, and
+ * the circuit with its own run, wire 1 leftmost.
  *
  *     $ foq_tool table pairs.foq 3 0 pairs.circuit
  *     accepted
  *     end word 4
+ *     inverse 01 01 08 05 01 00 ..
  *     circuit of 49 bytes
  *     3 qubits, 3 ancillas, 9 gates
  *     3 3 15
@@ -24,6 +26,11 @@
  *        1----o---+---------------+---o-------
  *     ..
  *
+ * And the inverse can be kept, to be shown as a table itself:
+ *
+ *     $ foq_tool inverse adder.foq 4 subtractor.foq
+ *     inverse 01 01 08 05 01 00 ..
+ *
  * The listing, which begins with n, the ancillas and the size, is printed as
  * foq_circuit_list gives it. Where a function refuses, the line is "refused" and
  * its number.
@@ -40,6 +47,8 @@
 #define LONGEST_TABLE (2 + FOQ_MOST_RECORDS * LONGEST_RECORD + 2)
 
 static uint8_t table[LONGEST_TABLE];
+/* For the inverse, which is as long as its table. */
+static uint8_t inverse_table[LONGEST_TABLE];
 /* One byte more than a circuit can have: what is longer is refused too. */
 static uint8_t circuit[FOQ_MOST_CIRCUIT + 1];
 /* For a listing or, which is shorter, a band. */
@@ -98,15 +107,33 @@ static void show_page(size_t length)
     } while (place != 0);
 }
 
-static void write_circuit(const char *name, size_t length)
+static void write_file(const char *name, const uint8_t *bytes, size_t length)
 {
     FILE *file = fopen(name, "wb");
-    if (file == NULL || fwrite(circuit, 1, length, file) != length ||
+    if (file == NULL || fwrite(bytes, 1, length, file) != length ||
         fclose(file) != 0)
         fail(name);
 }
 
-/* Prints the verdict, the run and the circuit, and keeps it in a file, if any. */
+/* Prints the inverse, and keeps it in a file, if any. */
+static void show_inverse(size_t length, uint32_t n, const char *file)
+{
+    foq_answer inverse =
+        foq_inverse(table, length, n, inverse_table, sizeof inverse_table);
+    if (!succeeds(inverse.number))
+        return;
+    fputs("inverse", stdout);
+    for (size_t place = 0; place < inverse.value; place++)
+        printf(" %02x", inverse_table[place]);
+    putchar('\n');
+    if (file != NULL)
+        write_file(file, inverse_table, inverse.value);
+}
+
+/*
+ * Prints the verdict, the run, the inverse and the circuit, and keeps the circuit
+ * in a file, if any.
+ */
 static void show_table(size_t length, uint32_t n, uint64_t word, const char *file)
 {
     if (succeeds(foq_verdict(table, length, n, workspace, sizeof workspace)))
@@ -115,6 +142,7 @@ static void show_table(size_t length, uint32_t n, uint64_t word, const char *fil
         foq_run(table, length, n, word, workspace, sizeof workspace);
     if (succeeds(run.number))
         printf("end word %" PRIu64 "\n", run.value);
+    show_inverse(length, n, NULL);
     foq_answer compiled = foq_compile(table, length, n, circuit, sizeof circuit,
                                       workspace, sizeof workspace);
     if (!succeeds(compiled.number))
@@ -122,7 +150,7 @@ static void show_table(size_t length, uint32_t n, uint64_t word, const char *fil
     printf("circuit of %" PRIu64 " bytes\n", compiled.value);
     show_circuit(compiled.value, word);
     if (file != NULL)
-        write_circuit(file, compiled.value);
+        write_file(file, circuit, compiled.value);
 }
 
 int main(int count, char **arguments)
@@ -135,6 +163,12 @@ int main(int count, char **arguments)
         show_table(length, (uint32_t)n, word, arguments[5]);
         return EXIT_SUCCESS;
     }
+    if ((count == 4 || count == 5) && strcmp(arguments[1], "inverse") == 0 &&
+        read_number(arguments[3], UINT32_MAX, &n)) {
+        size_t length = read_file(arguments[2], table, sizeof table);
+        show_inverse(length, (uint32_t)n, arguments[4]);
+        return EXIT_SUCCESS;
+    }
     if (count == 4 && strcmp(arguments[1], "circuit") == 0 &&
         read_number(arguments[3], UINT64_MAX, &word)) {
         show_circuit(read_file(arguments[2], circuit, sizeof circuit), word);
@@ -145,6 +179,7 @@ int main(int count, char **arguments)
         return EXIT_SUCCESS;
     }
     fputs("usage: foq_tool table FILE N WORD [CIRCUIT]\n"
+          "       foq_tool inverse FILE N [TABLE]\n"
           "       foq_tool circuit FILE WORD\n"
           "       foq_tool page FILE\n",
           stderr);

@@ -23,6 +23,8 @@
 
 static uint8_t table[FOQ_MOST_CIRCUIT];
 static uint8_t circuit[FOQ_MOST_CIRCUIT];
+/* For the inverse, which is as long as its table. */
+static uint8_t room[sizeof table];
 static uint8_t text[FOQ_MOST_LISTING];
 static uint8_t workspace[FOQ_LEAST_WORKSPACE];
 static size_t table_length, circuit_length;
@@ -51,6 +53,12 @@ static void *compile(void *unused)
     circuit_length = foq_compile(table, table_length, n, circuit, sizeof circuit,
                                  workspace, sizeof workspace)
                          .value;
+    return unused;
+}
+
+static void *inverse(void *unused)
+{
+    foq_inverse(table, table_length, n, room, sizeof room);
     return unused;
 }
 
@@ -117,6 +125,7 @@ int main(int count, char **arguments)
     } functions[] = {{"foq_verdict", verdict},
                      {"foq_run", run},
                      {"foq_compile", compile},
+                     {"foq_inverse", inverse},
                      {"foq_circuit_read", circuit_read},
                      {"foq_circuit_run", circuit_run},
                      {"foq_circuit_list", circuit_list},

@@ -18,6 +18,8 @@ pub struct Class {
     pub verdict: u32,
     /// The number that compile gives, with a room that is always enough.
     pub compile: u32,
+    /// The number that inverse gives, with a room as long as the table.
+    pub inverse: u32,
     /// The number that the run of the table or circuit gives.
     pub run: u32,
     /// The circuit's length or, where there is none, the table's.
@@ -73,6 +75,11 @@ const DIRT: u8 = 0xA5;
 /// Bytes on either side of what is lent.
 const MARGIN: usize = 64;
 
+/// Whether nothing was written here.
+fn unchanged(bytes: &[u8]) -> bool {
+    bytes.iter().all(|&byte| byte == DIRT)
+}
+
 /// Lends dirty bytes out of the midst of others, which must stay as they are.
 /// Gives the answer and the bytes afterwards.
 fn lend<T>(length: usize, call: impl FnOnce(&mut [u8]) -> T) -> Result<(T, Vec<u8>), Difference> {
@@ -80,7 +87,6 @@ fn lend<T>(length: usize, call: impl FnOnce(&mut [u8]) -> T) -> Result<(T, Vec<u
     let answer = call(&mut bytes[MARGIN..][..length]);
     let after = bytes.split_off(MARGIN + length);
     let lent = bytes.split_off(MARGIN);
-    let unchanged = |bytes: &[u8]| bytes.iter().all(|&byte| byte == DIRT);
     same("bytes around", unchanged(&bytes) && unchanged(&after), true)?;
     Ok((answer, lent))
 }
@@ -112,18 +118,23 @@ fn run(product: &impl Operations, table: &Table) -> Result<Answer, Difference> {
     same("run", ours, expected::answer(theirs))
 }
 
-/// What compile gives: a number, and the circuit where that is 0.
-struct Compiled {
+/// What is written into a room: a number, and the bytes where that is 0.
+struct Written {
     number: u32,
-    circuit: Vec<u8>,
+    bytes: Vec<u8>,
+}
+
+impl Written {
+    fn new(given: Result<Vec<u8>, u32>) -> Written {
+        Written {
+            number: given.as_ref().err().copied().unwrap_or(0),
+            bytes: given.unwrap_or_default(),
+        }
+    }
 }
 
 /// Compiles into a room of this length.
-fn compile(
-    product: &impl Operations,
-    table: &Table,
-    length: usize,
-) -> Result<Compiled, Difference> {
+fn compile(product: &impl Operations, table: &Table, length: usize) -> Result<Written, Difference> {
     let Table { bytes, n, .. } = table;
     let (ours, room) = lend(length, |room| {
         with_workspace(table.workspace, |workspace| {
@@ -131,14 +142,38 @@ fn compile(
         })
     })?;
     let theirs = foq_reference::compile(bytes, *n, length, table.workspace);
-    let number = theirs.as_ref().map_or_else(|number| *number, |_| 0);
-    let circuit = theirs.unwrap_or_default();
-    let value = circuit.len() as u64;
-    same("compile", ours?, Answer { number, value })?;
-    let (written, rest) = room.split_at(circuit.len());
-    same("circuit", written, &circuit[..])?;
-    same("room's rest", rest.iter().all(|&byte| byte == DIRT), true)?;
-    Ok(Compiled { number, circuit })
+    same("compile", ours?, expected::written(&theirs))?;
+    let theirs = Written::new(theirs);
+    let (written, rest) = room.split_at(theirs.bytes.len());
+    same("circuit", written, &theirs.bytes[..])?;
+    same("room's rest", unchanged(rest), true)?;
+    Ok(theirs)
+}
+
+/// Inverts a table into a room of this length.
+fn invert_into(
+    product: &impl Operations,
+    table: &Table,
+    length: usize,
+) -> Result<Written, Difference> {
+    let Table { bytes, n, .. } = table;
+    let (ours, room) = lend(length, |room| product.inverse(bytes, *n, room))?;
+    let theirs = foq_reference::inverse(bytes, *n, length);
+    same("inverse", ours, expected::written(&theirs))?;
+    let theirs = Written::new(theirs);
+    let (written, rest) = room.split_at(theirs.bytes.len());
+    same("inverse's table", written, &theirs.bytes[..])?;
+    same("inverse's rest", unchanged(rest), true)?;
+    Ok(theirs)
+}
+
+/// Inverts a table into a room of the length at hand, into one that lacks a byte,
+/// and into one that is just long enough.
+fn invert(product: &impl Operations, table: &Table) -> Result<Written, Difference> {
+    let length = table.bytes.len();
+    invert_into(product, table, table.room)?;
+    invert_into(product, table, length.saturating_sub(1))?;
+    invert_into(product, table, length)
 }
 
 /// Reads a circuit. Gives its gates, where it is well formed.
@@ -172,8 +207,7 @@ fn list_into(
     let listing = theirs.unwrap_or_default();
     let (put, rest) = text.split_at(listing.len());
     same_text("circuit list's text", put, &listing)?;
-    let unchanged = rest.iter().all(|&byte| byte == DIRT);
-    same("circuit list's rest", unchanged, true)?;
+    same("circuit list's rest", unchanged(rest), true)?;
     Ok(listing.len())
 }
 
@@ -252,26 +286,51 @@ fn runs_alike(
     Ok(ran)
 }
 
+/// The inverse of a table takes its run back, from the end word to the start
+/// word.
+fn run_back(
+    product: &impl Operations,
+    table: &Table,
+    inverse: Vec<u8>,
+    end: u64,
+) -> Result<(), Difference> {
+    let back = Table {
+        bytes: inverse,
+        word: end,
+        ..table.clone()
+    };
+    let ran = run(product, &back)?;
+    same("run back", ran, expected::answer(Ok(table.word)))?;
+    Ok(())
+}
+
 /// A table is judged, compiled into a room that is always enough and into one of
-/// the length at hand, and run. Where it has a circuit it is also compiled into
-/// a room of just that length and of one byte less, and the circuit is listed
-/// and drawn. Where its circuit does not fit it is not run: that could take for
-/// ever.
+/// the length at hand, inverted and run. Where it has a circuit it is also
+/// compiled into a room of just that length and of one byte less, its run is
+/// taken back, and the circuit is listed and drawn. Where its circuit does not
+/// fit it is not run: that could take for ever.
 fn compare_table(product: &impl Operations, table: &Table) -> Result<Class, Difference> {
     let judged = verdict(product, table)?;
-    let Compiled { number, circuit } = compile(product, table, LONGEST_CIRCUIT)?;
+    let compiled = compile(product, table, LONGEST_CIRCUIT)?;
     compile(product, table, table.room)?;
+    let inverted = invert(product, table)?;
     let mut class = Class {
         is_table: true,
         verdict: judged,
-        compile: number,
+        compile: compiled.number,
+        inverse: inverted.number,
         length: magnitude(table.bytes.len()),
         ..Class::default()
     };
-    if number == 0 {
+    if compiled.number == 0 {
+        let circuit = compiled.bytes;
         compile(product, table, circuit.len())?;
         compile(product, table, circuit.len() - 1)?;
-        class.run = runs_alike(product, table, &circuit)?.number;
+        let ran = runs_alike(product, table, &circuit)?;
+        if ran.number == 0 {
+            run_back(product, table, inverted.bytes, ran.value)?;
+        }
+        class.run = ran.number;
         list(product, &circuit)?;
         draw(product, &circuit)?;
         class = class.with_circuit(&circuit, read(product, &circuit)?);

@@ -5,8 +5,8 @@ use std::fmt::{self, Display, Formatter};
 /// A table or a circuit, with the numbers that go beside it.
 #[derive(Clone, Debug, PartialEq, Eq)]
 pub enum Input {
-    /// For verdict, run, compile and the listing program; its circuit for all
-    /// others.
+    /// For verdict, run, compile, inverse and the listing program; its circuit
+    /// for all others.
     Table(Table),
     /// For the circuit reader, the circuit run, the listing and the page.
     Circuit(Circuit),

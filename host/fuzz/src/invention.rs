@@ -6,6 +6,7 @@ use foq_generator::circuits::{circuit, crowded_circuit, sizes};
 use foq_generator::damage::damaged;
 use foq_generator::programs::{program, wild_program, LARGE, MERGING, SMALL};
 use foq_generator::size_left::{program_by_size_left, reversal, wild_program_by_size_left};
+use foq_generator::steps::program_of_steps;
 use foq_generator::tables::{
     deepest, eight_removals, every_kind, leaning_left, leaning_right, nested_classes,
     one_in_each_branch, sixteen_in_turn, two_in_turn,
@@ -87,13 +88,14 @@ fn with_numbers(random: &mut Random, bytes: Vec<u8>, n: u32) -> Table {
 #[must_use]
 pub fn fresh_table(random: &mut Random) -> Table {
     let n = qubits(random);
-    let bytes = match random.below(18) {
+    let bytes = match random.below(20) {
         0..4 => encode(&program(random, &SMALL)),
         4..8 => encode(&program(random, &MERGING)),
         8..10 => encode(&program(random, &LARGE)),
         10..15 => encode(&program_by_size_left(random, n)),
         15 => encode(&wild_program(random, &SMALL)),
         16 => encode(&wild_program_by_size_left(random)),
+        17 | 18 => encode(&program_of_steps(random, n)),
         _ => known_tables()[random.below(12)].clone(),
     };
     with_numbers(random, bytes, n)

@@ -27,6 +27,8 @@ use operations::Operations;
 pub struct Tried {
     /// Tables.
     pub tables: u64,
+    /// Tables that are accepted: each has an inverse.
+    pub inverted: u64,
     /// Tables that gave a circuit.
     pub compiled: u64,
     /// Circuits.
@@ -45,6 +47,7 @@ impl Tried {
     fn count(&mut self, class: Class) {
         if class.is_table {
             self.tables += 1;
+            self.inverted += u64::from(class.inverse == 0);
             self.compiled += u64::from(class.compile == 0);
             self.drawn += u64::from(class.compile == 0);
         } else {

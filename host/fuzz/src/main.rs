@@ -3,8 +3,8 @@
 //!
 //!     $ fuzz 60 1
 //!     seed 1, 60 seconds, .. classes of answers:
-//!     .. tables, of which .. gave a circuit and .. were listed; .. circuits;
-//!     .. pages, and as many listings of circuits
+//!     .. tables, of which .. were inverted, .. gave a circuit and .. were listed;
+//!     .. circuits; .. pages, and as many listings of circuits
 //!     no mismatch
 //!
 //! On a mismatch it prints the input, made as small as it went, and what
@@ -49,13 +49,14 @@ fn main() -> ExitCode {
 fn print_counts(tried: &Tried) {
     let Tried {
         tables,
+        inverted,
         compiled,
         circuits,
         listed,
         drawn,
         ..
     } = tried;
-    print!("{tables} tables, of which {compiled} gave a circuit ");
-    println!("and {listed} were listed; {circuits} circuits;");
-    println!("{drawn} pages, and as many listings of circuits");
+    print!("{tables} tables, of which {inverted} were inverted, ");
+    println!("{compiled} gave a circuit and {listed} were listed;");
+    println!("{circuits} circuits; {drawn} pages, and as many listings of circuits");
 }

@@ -5,7 +5,7 @@ use std::io::Write;
 use std::path::PathBuf;
 use std::process::{Command, Stdio};
 
-/// The eight operations, as C sees them. A test that plants a fault changes one.
+/// The nine operations, as C sees them. A test that plants a fault changes one.
 pub trait Operations {
     /// The verdict on a table.
     fn verdict(&self, table: &[u8], n: u32, workspace: &mut [u8]) -> u32 {
@@ -20,6 +20,11 @@ pub trait Operations {
     /// The circuit of a table, into the room.
     fn compile(&self, table: &[u8], n: u32, room: &mut [u8], workspace: &mut [u8]) -> Answer {
         border::compile(table, n, room, workspace)
+    }
+
+    /// The inverse of a table, into the room.
+    fn inverse(&self, table: &[u8], n: u32, room: &mut [u8]) -> Answer {
+        border::inverse(table, n, room)
     }
 
     /// The circuit reader.

@@ -5,7 +5,7 @@ use foq::border::{self, Answer, Band, Block, Circuit};
 use foq::circuit_list_to_string;
 use foq_fuzz::input::Input;
 use foq_fuzz::operations::{Operations, Product};
-use foq_fuzz::trees::trees;
+use foq_fuzz::trees::{trees, Tree};
 use foq_fuzz::{fuzz, Tried};
 use foq_reference::{circuit_bytes, read_circuit, Action};
 
@@ -134,6 +134,99 @@ impl Operations for Forgetful {
     }
 }
 
+/// Exchanges the two statements of this sequence or qcase, whose first one is the
+/// next of the trees.
+fn exchange(table: &mut [u8], trees: &[Tree], place: usize) {
+    let first = &trees[place + 1].range;
+    table[first.start..trees[place].range.end].rotate_left(first.len());
+}
+
+/// Exchanges the branches of an inverse's first qcase.
+struct Crossed;
+
+impl Operations for Crossed {
+    fn inverse(&self, table: &[u8], n: u32, room: &mut [u8]) -> Answer {
+        let answer = border::inverse(table, n, room);
+        let written = &mut room[..answer.value as usize];
+        let trees = trees(written);
+        if let Some(place) = trees.iter().position(|tree| tree.kind == 4) {
+            exchange(written, &trees, place);
+        }
+        answer
+    }
+}
+
+/// Turns no sequence round that stands in another one.
+struct Shallow;
+
+impl Operations for Shallow {
+    fn inverse(&self, table: &[u8], n: u32, room: &mut [u8]) -> Answer {
+        let answer = border::inverse(table, n, room);
+        if answer.number == 0 {
+            room[..table.len()].copy_from_slice(table);
+            let trees = trees(table);
+            let mut behind = 0;
+            for (place, tree) in trees.iter().enumerate() {
+                if tree.kind == 2 && tree.range.start >= behind {
+                    exchange(room, &trees, place);
+                    behind = tree.range.end;
+                }
+            }
+        }
+        answer
+    }
+}
+
+/// Turns main alone round, and keeps the bodies as they are.
+struct Halfway;
+
+impl Operations for Halfway {
+    fn inverse(&self, table: &[u8], n: u32, room: &mut [u8]) -> Answer {
+        let answer = border::inverse(table, n, room);
+        if answer.number == 0 {
+            let bodies = trees(table)[0].range.end..table.len();
+            room[bodies.clone()].copy_from_slice(&table[bodies]);
+        }
+        answer
+    }
+}
+
+/// Refuses a room that is too short before an access fault.
+struct Rash;
+
+impl Operations for Rash {
+    fn inverse(&self, table: &[u8], n: u32, room: &mut [u8]) -> Answer {
+        let mut answer = border::inverse(table, n, room);
+        if answer.number == 12 && room.len() < table.len() {
+            answer.number = 24;
+        }
+        answer
+    }
+}
+
+/// Writes the edition into a room that is too short.
+struct Eager;
+
+impl Operations for Eager {
+    fn inverse(&self, table: &[u8], n: u32, room: &mut [u8]) -> Answer {
+        let answer = border::inverse(table, n, room);
+        if answer.number == 24 {
+            room.iter_mut().take(1).for_each(|byte| *byte = table[0]);
+        }
+        answer
+    }
+}
+
+/// Wants a room that is longer than the table.
+struct Picky;
+
+impl Operations for Picky {
+    fn inverse(&self, table: &[u8], n: u32, room: &mut [u8]) -> Answer {
+        let shorter = room.len().saturating_sub(1);
+        border::inverse(table, n, &mut room[..shorter])
+    }
+}
+
 /// Reads a circuit with a byte too many.
 struct Careless;
 
@@ -253,6 +346,12 @@ fn planted_faults_are_found() {
     assert_found_within(&Astray, "circuit", 49);
     assert_found(&Untidy, "room's rest");
     assert_found(&Forgetful, "workspace");
+    assert_found(&Crossed, "inverse's table");
+    assert_found(&Shallow, "inverse's table");
+    assert_found(&Halfway, "inverse's table");
+    assert_found(&Rash, "inverse");
+    assert_found(&Eager, "inverse's rest");
+    assert_found(&Picky, "inverse");
     assert_found(&Careless, "circuit read");
     assert_found(&Short, "circuit run");
     assert_found(&Outdated, "circuit list");
