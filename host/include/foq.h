@@ -329,6 +329,10 @@ foq_answer foq_compile(const uint8_t *table, size_t length, uint32_t n,
  * every start word below 2 to the power n, foq_run on the inverse gives that word
  * from the end word that foq_run on the table gives, and the other way round.
  * The inverse of the inverse has exactly the bytes of the table.
+ *
+ * Calls stand in another order in it, so its circuit may take more or fewer
+ * ancillas than the table's: foq_compile can refuse one of the two with
+ * FOQ_MANY_WIRES and not the other.
  */
 foq_answer foq_inverse(const uint8_t *table, size_t length, uint32_t n,
                        uint8_t *room, size_t room_length);
