@@ -1,4 +1,4 @@
--- Number 0 exactly where document 01 accepts: one law for each public operation, for every input. A refusal has a number from 1 to 24.
+-- Number 0 exactly where documents 01 and 02 accept: one law for each public operation, for every input. A refusal has a number from 1 to 24.
 use mathlib.Core.Path.{_≡_, refl, sym, subst}
 use mathlib.Core.Logic.{_↔_}
 use mathlib.Core.Bool.{Bool, true, false, not, _&&_}
@@ -30,7 +30,7 @@ use Rattle.model.proofs.OutcomeLaws.{not-both, gives-same, required, ga
 use Rattle.model.proofs.ReadingLaws.{WasRead, outcome-read}
 use Rattle.model.proofs.RoundTrip.{Bytes, WellFormed, read-write, read-wellFormed, write-read}
 
--- a number that document 01 has for a refusal
+-- a number that document 01 or 02 has for a refusal
 abbrev pub Refusal : ℕ → Type 0
 Refusal k = (1 ≤ k) × (k ≤ shortTableRoom)
 

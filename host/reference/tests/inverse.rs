@@ -4,9 +4,12 @@
 //! written by hand; those of random tables are turned a second time here, by
 //! their bytes alone. Programs written as tables are read again.
 
+#[path = "../../foq/tests/calls/mod.rs"]
+mod calls;
 mod judged;
 mod met;
-mod places;
+#[path = "../../foq/tests/sequences/mod.rs"]
+mod sequences;
 
 use foq_generator::damage::{damaged, single_changes, truncations};
 use foq_generator::programs::{program, wild_program, Shape, LARGE, MERGING, SMALL};
@@ -24,7 +27,7 @@ use foq_reference::{
 };
 use judged::{bytes, judged, WORKSPACE};
 use met::{add, assert_met, Counts};
-use places::places;
+use sequences::classes;
 use std::collections::BTreeSet;
 use std::ops::RangeInclusive;
 use Number::{Constant, LeftPlus, SizePlus};
@@ -564,7 +567,7 @@ fn check_every_word(table: &[u8], most: u32) -> BTreeSet<&'static str> {
         });
     }
     if shown.contains("accepted") {
-        shown.extend(places(&read_table(table).unwrap()));
+        shown.extend(classes(&read_table(table).unwrap(), most));
     }
     shown
 }
@@ -590,12 +593,11 @@ fn random_tables_are_undone_on_every_word() {
         ("other bytes", 3_000),
         ("same run", 3_000),
         ("another run", 350),
-        ("whole main", 250),
-        ("whole body", 800),
-        ("in a sequence", 1_000),
-        ("in an if", 1_500),
-        ("in a qcase", 1_500),
-        ("never reached", 700),
+        ("sequence in a sequence", 1_000),
+        ("sequence in an if", 1_500),
+        ("sequence in a qcase", 1_500),
+        ("sequence in a branch not chosen", 100),
+        ("sequence that main never comes to", 700),
     ];
     assert_met(&counts, &least);
 }
