@@ -1,7 +1,7 @@
 -- What the proofs of several functions, and of callers, use.
 pub mod LoopsOverWires
+mod WireSets
 mod WellFormedGate
-mod WellFormedControls
 mod GateCheckLaws
 pub mod WireListReading
 pub mod GateReading

@@ -1,17 +1,17 @@
 -- Walking `count` bytes from a place on: what the code's loops over wires keep.
-use mathlib.Core.Path.{_≡_, refl, sym}
-use mathlib.Core.Bool.{Bool, true, false}
+use mathlib.Core.Path.{_≡_, refl, sym, ap, _∙_}
+use mathlib.Core.Bool.{Bool, true, false, not, _&&_, _||_, and-true}
 use mathlib.Core.List.{List, [], _∷_}
-use Prim.Native.Nat.{ℕ, zero, suc, _+_, _-_, _≤_, _<_}
+use Prim.Native.Nat.{ℕ, zero, suc, _+_, _-_, _≤_, _<_, min}
 use native.Mathlib.Numerals.{add-one, sub-one}
 use native.Mathlib.Omega.{arith}
 use borrow.Author.Needs.{needs}
-use borrow.Author.Tests.{eq-eqb, ne-eqb, lt-ltb, le-ltb, le-leb, lt-leb}
-use lib.ListN.{length, getD, drop-of-length-le}
-use lib.Seq.{drop-cons, take-nil}
-use Rattle.model.specs.Lists.{member}
-use Rattle.circuit.specs.GatesInBytes.{part}
-use Rattle.circuit.specs.GateChecks.{ascendsFrom}
+use lib.ListN.{length, getD, drop, length-drop, drop-of-length-le}
+use lib.Seq.{drop-cons, take-nil, take-all}
+use Rattle.model.proofs.BooleanLaws.{byLt}
+use Rattle.circuit.specs.declared.WireList.{WireList}
+use Rattle.circuit.specs.GatesInBytes.{part, listIn, endOf}
+use Rattle.circuit.specs.GateChecks.{misfits, listFits}
 
 -- a part that is not empty begins with the byte at its place
 pub part-step : (bs : List ℕ) (at left : ℕ) → 0 < left → at < length bs → part bs at left ≡ getD bs at 0 ∷ part bs (at + 1) (left - 1)
@@ -26,49 +26,66 @@ part-none bs at (suc n) l = absurd (omega arith)
 pub part-past : (bs : List ℕ) (at left : ℕ) → length bs ≤ at → part bs at left ≡ []
 part-past bs at left h = rw (drop-of-length-le bs h) (take-nil left)
 
--- what the loop of `contains` keeps: whether the whole part has the wire is whether what is left of it has
-module _ (bs : List ℕ) (at left wire : ℕ) (whole : Bool) (inv : whole ≡ member wire (part bs at left)) where
-  pub contains-none : left ≤ 0 → false ≡ whole
-  unfolding member
-  contains-none l = rw (inv, part-none bs at left l)
+-- what is left up to an end that stands in the bytes
+pub left-step : (bs : List ℕ) (at end : ℕ) → at < end → end ≤ length bs → part bs at (end - at) ≡ getD bs at 0 ∷ part bs (at + 1) (end - (at + 1))
+left-step bs at end l h =
+    let e : end - at - 1 ≡ end - (at + 1) = omega arith in
+    rw (part-step bs at (end - at) (omega arith) (omega arith), e)
 
-  pub contains-past : length bs ≤ at → false ≡ whole
-  unfolding member
-  contains-past h = rw (inv, part-past bs at left h)
+pub left-none : (bs : List ℕ) (at end : ℕ) → end ≤ at → part bs at (end - at) ≡ []
+left-none bs at end h = part-none bs at (end - at) (omega arith)
 
-  module _ (l : 0 < left) (h : at < length bs) where
-    pub contains-found : getD bs at 0 ≡ wire → true ≡ whole
-    unfolding member
-    contains-found e = rw (inv, part-step bs at left l h, eq-eqb wire (getD bs at 0) (sym e))
+-- a list is what is left from its place up to its end
+pub left-all : (bs : List ℕ) (l : WireList) → part bs (l .from) (endOf bs l - l .from) ≡ listIn bs l
+left-all bs l = byLt (length bs) (l .from + l .count)
+    (λ k. let m : min (length bs) (l .from + l .count) ≡ length bs = omega arith in
+    let n : length (drop (l .from) bs) ≤ length bs - l .from = rw (length-drop (l .from) bs) (omega arith) in
+    let o : length (drop (l .from) bs) ≤ l .count = rw (length-drop (l .from) bs) (omega arith) in
+    rw m (take-all (length bs - l .from) (drop (l .from) bs) n ∙ sym (take-all (l .count) (drop (l .from) bs) o)))
+    (λ k. let m : min (length bs) (l .from + l .count) - l .from ≡ l .count = omega arith in rw m)
 
-    pub contains-next : (getD bs at 0 ≡ wire → ⊥) → whole ≡ member wire (part bs (at + 1) (left - 1))
-    unfolding member
-    contains-next f = rw (inv, part-step bs at left l h, ne-eqb wire (getD bs at 0) (λ e. f (sym e)))
+-- the ways out of `list_fits`; its loop keeps: what follows the first wire fits exactly where no wire was bad and what is left fits
+module _ (most u v : ℕ) where
+  pub fits-next : (bs : List ℕ) (at end : ℕ) (bad x whole : Bool) →
+      whole ≡ not bad && listFits (getD bs (at - 1) 0) most u v (part bs at (end - at)) → at < end → end ≤ length bs →
+      x ≡ misfits (getD bs (at - 1) 0) most u v (getD bs at 0) →
+      whole ≡ not (bad || x) && listFits (getD bs (at + 1 - 1) 0) most u v (part bs (at + 1) (end - (at + 1)))
+  unfolding listFits
+  fits-next bs at end bad x whole inv l h is =
+      let e : at + 1 - 1 ≡ at = omega arith in
+      rw (inv, left-step bs at end l h, ← is, e) 
+      (by bad x (listFits (getD bs at 0) most u v (part bs (at + 1) (end - (at + 1)))))
+    where
+      by : (a b c : Bool) → not a && (not b && c) ≡ not (a || b) && c
+      by true b c = refl
+      by false b c = refl
 
--- what the loop of `ascending` keeps
-module _ (bs : List ℕ) (at left low most : ℕ) (whole : Bool) (inv : whole ≡ ascendsFrom low most (part bs at left)) where
-  pub ascending-none : left ≤ 0 → true ≡ whole
-  unfolding ascendsFrom
-  ascending-none l = rw (inv, part-none bs at left l)
+  module _ (bs : List ℕ) (l : WireList) where
+    pub fits-empty : l .count ≡ 0 → true ≡ listFits 0 most u v (listIn bs l)
+    unfolding listFits
+    fits-empty e = rw (part-none bs (l .from) (l .count) (omega arith))
 
-  pub ascending-past : length bs ≤ at → true ≡ whole
-  unfolding ascendsFrom
-  ascending-past h = rw (inv, part-past bs at left h)
+    module _ (end : ℕ) (is : end ≡ endOf bs l) where
+      listed : listIn bs l ≡ part bs (l .from) (end - l .from)
+      listed = rw is (sym (left-all bs l))
 
-  module _ (l : 0 < left) (h : at < length bs) where
-    pub ascending-low : getD bs at 0 ≤ low → false ≡ whole
-    unfolding ascendsFrom
-    ascending-low e = rw (inv, part-step bs at left l h, le-ltb low (getD bs at 0) e)
+      pub fits-none : end ≤ l .from → true ≡ listFits 0 most u v (listIn bs l)
+      unfolding listFits
+      fits-none h = rw (listed, left-none bs (l .from) end h)
 
-    module _ (a : low < getD bs at 0) where
-      pub ascending-high : most < getD bs at 0 → false ≡ whole
-      unfolding ascendsFrom
-      ascending-high e = rw (inv, part-step bs at left l h, lt-ltb low (getD bs at 0) a, lt-leb (getD bs at 0) most e)
+      module _ (h : l .from < end) (x : Bool) (p : x ≡ misfits 0 most u v (getD bs (l .from) 0)) where
+        pub fits-bad : x ≡ true → false ≡ listFits 0 most u v (listIn bs l)
+        unfolding listFits
+        fits-bad e = rw (listed, left-step bs (l .from) end h (omega arith), ← p, e)
 
-      pub ascending-next : getD bs at 0 ≤ most → whole ≡ ascendsFrom (getD bs at 0) most (part bs (at + 1) (left - 1))
-      unfolding ascendsFrom
-      ascending-next e = rw (inv, part-step bs at left l h, lt-ltb low (getD bs at 0) a, le-leb (getD bs at 0) most e)
+        pub fits-all : (bad : Bool) (at : ℕ) → x ≡ false → end ≤ at →
+            listFits (getD bs (l .from + 1 - 1) 0) most u v (part bs (l .from + 1) (end - (l .from + 1)))
+              ≡ not bad && listFits (getD bs (at - 1) 0) most u v (part bs at (end - at)) →
+            not bad ≡ listFits 0 most u v (listIn bs l)
+        unfolding listFits
+        fits-all bad at e g inv =
+            let f : l .from + 1 - 1 ≡ l .from = omega arith in
+            rw (listed, left-step bs (l .from) end h (omega arith), ← p, e)
+            (sym (rw (f, left-none bs at end g, and-true (not bad)) at inv))
 
-pub ruleset contained = (needs, contains-none, contains-past, contains-found, contains-next)
-
-pub ruleset ascended = (needs, ascending-none, ascending-past, ascending-low, ascending-high, ascending-next)
+pub ruleset fitting = (needs, fits-next, fits-empty, fits-none, fits-bad, fits-all)

@@ -2,32 +2,44 @@
 use Prim.Native.Nat.{ℕ}
 use mathlib.Core.Bool.{Bool, true, false, not, _&&_, _||_}
 use mathlib.Core.List.{List, [], _∷_}
-use lib.Dec.{ltb, leb}
-use Rattle.model.specs.Lists.{member}
+use lib.ListN.{getD, set, replicate}
+use lib.Dec.{eqb, ltb, leb}
+use Rattle.limits.specs.Sizes.{wireCount}
 
--- the wires ascend from above `low` to at most `most`
-unfoldable pub ascendsFrom : ℕ → ℕ → List ℕ → Bool
-ascendsFrom low most [] = true
-ascendsFrom low most (w ∷ l) = ltb low w && leb w most && ascendsFrom w most l
+-- a wire that is not above `low`, is above `most`, or is one of the gate's own wires u and v
+abbrev pub misfits : ℕ → ℕ → ℕ → ℕ → ℕ → Bool
+misfits low most u v w = leb w low || ltb most w || eqb u w || eqb v w
 
--- do the two lists share a wire?
-unfoldable pub meets : List ℕ → List ℕ → Bool
-meets [] m = false
-meets (w ∷ l) m = member w m || meets l m
+-- the wires of a list ascend from above `low` to at most `most`, and neither u nor v is one of them
+unfoldable pub listFits : ℕ → ℕ → ℕ → ℕ → List ℕ → Bool
+listFits low most u v [] = true
+listFits low most u v (w ∷ l) = not (misfits low most u v w) && listFits w most u v l
 
--- the controls of a gate: the wires of each list ascend from above `low` to at most `most`, and no wire is in both
-unfoldable pub controlsWellFormed : ℕ → ℕ → List ℕ → List ℕ → Bool
-controlsWellFormed low most ones zeros = ascendsFrom low most ones && ascendsFrom low most zeros && not (meets ones zeros)
+-- each wire of a list is put into a set
+unfoldable pub markAll : List ℕ → List Bool → List Bool
+markAll [] s = s
+markAll (w ∷ l) s = markAll l (set s w true)
 
--- a wire of the gate beside its controls: 1 to `most`, and in neither list
-unfoldable pub free : ℕ → List ℕ → List ℕ → ℕ → Bool
-free most ones zeros w = leb 1 w && leb w most && not (member w ones) && not (member w zeros)
+-- the wires of a list as a set: true at the number of each
+unfoldable pub setOf : List ℕ → List Bool
+setOf l = markAll l (replicate wireCount false)
 
--- a swap's second wire: above the first, and free too; a NOT has none
-unfoldable pub paired : ℕ → Bool → List ℕ → List ℕ → ℕ → ℕ → Bool
-paired most true ones zeros u v = ltb u v && free most ones zeros v
-paired most false ones zeros u v = true
+-- is a wire of the list in the set?
+unfoldable pub anyIn : List Bool → List ℕ → Bool
+anyIn s [] = false
+anyIn s (w ∷ l) = getD s w false || anyIn s l
+
+-- a gate's own wires are 1 to `most`, and a swap's second is above its first
+unfoldable pub placed : ℕ → Bool → ℕ → ℕ → Bool
+placed most true u v = leb 1 u && ltb u v && leb v most
+placed most false u v = leb 1 u && leb u most
+
+-- the last of them: a NOT has one
+abbrev pub lastWire : Bool → ℕ → ℕ → ℕ
+lastWire true u v = v
+lastWire false u v = u
 
 -- a NOT on u, or a swap of u and v, under controls
 unfoldable pub checked : ℕ → Bool → List ℕ → List ℕ → ℕ → ℕ → Bool
-checked most swaps ones zeros u v = controlsWellFormed 0 most ones zeros && free most ones zeros u && paired most swaps ones zeros u v
+checked most swaps ones zeros u v =
+    placed most swaps u v && listFits 0 most u (lastWire swaps u v) ones && listFits 0 most u (lastWire swaps u v) zeros && not (anyIn (setOf zeros) ones)

@@ -1,5 +1,5 @@
 -- What the code's places say in the terms of document 01's definitions: a place in the bytes as an input, a gate's places as a gate.
-use Prim.Native.Nat.{ℕ}
+use Prim.Native.Nat.{ℕ, _+_, min}
 use mathlib.Core.Bool.{Bool, true, false}
 use mathlib.Core.List.{List, []}
 use lib.ListN.{length, take, drop}
@@ -37,6 +37,10 @@ fills (refused k) = false
 -- the wires of a list that stands in the bytes
 abbrev pub listIn : List ℕ → WireList → List ℕ
 listIn bs l = part bs (l .from) (l .count)
+
+-- the place behind its last byte
+abbrev pub endOf : List ℕ → WireList → ℕ
+endOf bs l = min (length bs) (l .from + l .count)
 
 unfoldable pub listParsed : List ℕ → ListRead → Parsed (List ℕ)
 listParsed bs (Wires l) = parsed (listIn bs l) (inputAt bs (l .next))

@@ -2,17 +2,16 @@
 ghost use mathlib.Core.Path.{_≡_};
 ghost use mathlib.Core.List.{[]};
 ghost use Prim.Native.Nat.{_+_, _*_};
-ghost use Rattle.model.specs.Lists.{member};
 ghost use Rattle.model.specs.Circuit.{wireList, readGate, readGates, gateIsWellFormed};
 ghost use Rattle.model.specs.Reading.{optional};
 ghost use Rattle.model.specs.Answers.{circuitRead};
-ghost use Rattle.circuit.specs.GatesInBytes.{part, inputAt, settled, fills, listIn, listParsed, gateIn, gateParsed, gateChecked, gateEnd, gateWritten};
-ghost use Rattle.circuit.specs.GateChecks.{ascendsFrom, free, controlsWellFormed};
+ghost use Rattle.circuit.specs.GatesInBytes.{inputAt, settled, fills, listIn, endOf, listParsed, gateIn, gateParsed, gateChecked, gateEnd, gateWritten};
+ghost use Rattle.circuit.specs.GateChecks.{misfits, listFits, setOf, anyIn, placed, lastWire};
 ghost use Rattle.circuit.specs.Header.{circuitAfter};
 ghost use Rattle.answers.specs.Structs.{headerOf, refusedHeader};
 ghost use Rattle.model.specs.Limits.{notWellFormed};
 use answers::CircuitHeader;
-use limits::{CIRCUIT_EDITION, HEADER_LENGTH, MOST_CIRCUIT, MOST_QUBITS, MOST_WIRES, NOT_WELL_FORMED};
+use limits::{CIRCUIT_EDITION, HEADER_LENGTH, MOST_CIRCUIT, MOST_QUBITS, MOST_WIRES, NOT_WELL_FORMED, WIRE_COUNT};
 
 pub mod write;
 
@@ -56,126 +55,130 @@ pub enum GateRead {
     NoGate,
 }
 
-// Is the wire among `count` wires from a place on?
-fn contains(bytes: &[u8], from: usize, count: usize, wire: u8) -> bool
-    ensures { λ r. ⌜ r ≡ member wire (part (now (bytes .entry)) from count) ⌝ }
+// The place behind the last byte of a list that stands in the bytes.
+pub fn end_of(bytes: &[u8], list: WireList) -> usize
+    ensures { λ r. ⌜ r ≡ endOf (now (bytes .entry)) list ⌝ }
 {
-    let mut at = from;
-    let mut left = count;
-    while 0 < left {
-        if bytes.len() <= at {
-            return false;
-        }
-        if bytes[at] == wire {
-            return true;
-        }
+    let length = bytes.len();
+    if length < list.from {
+        return length;
+    }
+    if length - list.from < list.count {
+        return length;
+    }
+    list.from + list.count
+}
+
+// Is a wire at or below the one before it, above `most`, or one of the gate's own wires u and v?
+fn misfits(low: u8, wire: u8, most: u8, u: u8, v: u8) -> bool
+    ensures { λ r. ⌜ r ≡ misfits low most u v wire ⌝ }
+{
+    (wire <= low) | (most < wire) | (u == wire) | (v == wire)
+}
+
+// Do the wires of a list ascend from 1 to `most`, without u and v? No test ends the loop: so many wires are tested at once.
+fn list_fits(bytes: &[u8], list: WireList, most: u8, u: u8, v: u8) -> bool
+    ensures { λ r. ⌜ r ≡ listFits 0 most u v (listIn (now (bytes .entry)) list) ⌝ }
+{
+    if list.count == 0 {
+        return true;
+    }
+    let from = list.from;
+    let end = end_of(bytes, list);
+    if end <= from {
+        return true;
+    }
+    if misfits(0, bytes[from], most, u, v) {
+        return false;
+    }
+    let mut bad = false;
+    let mut at = from + 1;
+    while at < end {
+        bad |= misfits(bytes[at - 1], bytes[at], most, u, v);
         at += 1;
-        left -= 1;
     }
-    false
+    !bad
 }
 
-// Do the wires ascend from above `floor` to at most `most`?
-pub fn ascending(bytes: &[u8], from: usize, count: usize, floor: u8, most: u8) -> bool
-    ensures { λ r. ⌜ r ≡ ascendsFrom floor most (part (now (bytes .entry)) from count) ⌝ }
+// The wires of a list as a set: true at the number of each.
+fn set_of(bytes: &[u8], list: WireList) -> [bool; WIRE_COUNT]
+    ensures { λ r. ⌜ r ≡ setOf (listIn (now (bytes .entry)) list) ⌝ }
 {
-    let mut low = floor;
-    let mut at = from;
-    let mut left = count;
-    while 0 < left {
-        if bytes.len() <= at {
-            return true;
-        }
-        let wire = bytes[at];
-        if wire <= low {
-            return false;
-        }
-        if most < wire {
-            return false;
-        }
-        low = wire;
+    let end = end_of(bytes, list);
+    let mut set = [false; WIRE_COUNT];
+    let mut at = list.from;
+    while at < end {
+        set[bytes[at] as usize] = true;
         at += 1;
-        left -= 1;
     }
-    true
+    set
 }
 
-// Do the wires of each list ascend from 1 to `most`, with no wire in both?
-// Both lists are walked at once, the lower of their next wires first: each must be above the one before.
-fn controls_well_formed(bytes: &[u8], ones: WireList, zeros: WireList, most: u8) -> bool
-    ensures { λ r. ⌜ r ≡ controlsWellFormed 0 most (listIn (now (bytes .entry)) ones) (listIn (now (bytes .entry)) zeros) ⌝ }
+// Is a wire of the first list in the second? The second becomes a set, in which each wire of the first is looked up.
+fn share(bytes: &[u8], first: WireList, second: WireList) -> bool
+    ensures { λ r. ⌜ r ≡ anyIn (setOf (listIn (now (bytes .entry)) second)) (listIn (now (bytes .entry)) first) ⌝ }
 {
-    let mut low = 0;
-    let mut one = ones.from;
-    let mut ones_left = ones.count;
-    let mut zero = zeros.from;
-    let mut zeros_left = zeros.count;
-    while 0 < ones_left {
-        if zeros_left == 0 {
-            return ascending(bytes, one, ones_left, low, most);
-        }
-        if bytes.len() <= zero {
-            return ascending(bytes, one, ones_left, low, most);
-        }
-        if bytes.len() <= one {
-            return ascending(bytes, zero, zeros_left, low, most);
-        }
-        let on_one = bytes[one];
-        let on_zero = bytes[zero];
-        if on_one < on_zero {
-            if on_one <= low {
-                return false;
-            }
-            low = on_one;
-            one += 1;
-            ones_left -= 1;
-        } else {
-            if on_zero <= low {
-                return false;
-            }
-            low = on_zero;
-            zero += 1;
-            zeros_left -= 1;
-        }
+    if first.count == 0 {
+        return false;
     }
-    ascending(bytes, zero, zeros_left, low, most)
+    if second.count == 0 {
+        return false;
+    }
+    let set = set_of(bytes, second);
+    let end = end_of(bytes, first);
+    let mut shared = false;
+    let mut at = first.from;
+    while at < end {
+        shared |= set[bytes[at] as usize];
+        at += 1;
+    }
+    shared
 }
 
-// Is the wire 1 to `most`, and in neither list?
-fn is_free(bytes: &[u8], ones: WireList, zeros: WireList, most: u8, wire: u8) -> bool
-    ensures { λ r. ⌜ r ≡ free most (listIn (now (bytes .entry)) ones) (listIn (now (bytes .entry)) zeros) wire ⌝ }
+// Are the gate's own wires 1 to `most`, and a swap's target its lower wire?
+fn placed(gate: GateAt, most: u8) -> bool
+    ensures { λ r. ⌜ r ≡ placed most (gate .swaps) (gate .target) (gate .second) ⌝ }
 {
-    if wire == 0 {
+    if gate.target == 0 {
         return false;
     }
-    if most < wire {
+    if !gate.swaps {
+        return gate.target <= most;
+    }
+    if gate.second <= gate.target {
         return false;
     }
-    if contains(bytes, ones.from, ones.count, wire) {
-        return false;
+    gate.second <= most
+}
+
+// The last of the gate's own wires.
+fn last_wire(gate: GateAt) -> u8
+    ensures { λ r. ⌜ r ≡ lastWire (gate .swaps) (gate .target) (gate .second) ⌝ }
+{
+    if gate.swaps {
+        gate.second
+    } else {
+        gate.target
     }
-    !contains(bytes, zeros.from, zeros.count, wire)
 }
 
 // "Counts are at least 1, wires ascend, no wire occurs twice in a gate, a swap's target is its lower wire."
 fn well_formed(bytes: &[u8], gate: GateAt, most: u8) -> bool
     ensures { λ r. ⌜ r ≡ gateIsWellFormed most (gateIn (now (bytes .entry)) gate) ⌝ }
 {
+    if !placed(gate, most) {
+        return false;
+    }
     let ones = gate.ones;
     let zeros = gate.zeros;
-    if !controls_well_formed(bytes, ones, zeros, most) {
+    let last = last_wire(gate);
+    if !list_fits(bytes, ones, most, gate.target, last) {
         return false;
     }
-    if !is_free(bytes, ones, zeros, most, gate.target) {
+    if !list_fits(bytes, zeros, most, gate.target, last) {
         return false;
     }
-    if !gate.swaps {
-        return true;
-    }
-    if gate.second <= gate.target {
-        return false;
-    }
-    is_free(bytes, ones, zeros, most, gate.second)
+    !share(bytes, ones, zeros)
 }
 
 // "count and wires", where the list's bit stands in the map; otherwise no wire.

@@ -1,6 +1,6 @@
 -- The ways out of the functions that let a gate act.
 use mathlib.Core.Path.{_≡_, refl, sym, ap, _∙_}
-use mathlib.Core.Bool.{Bool, true, false, not, _&&_, Bool·beq}
+use mathlib.Core.Bool.{Bool, true, false, not, _&&_, _||_, Bool·beq, and-true}
 use mathlib.Core.List.{List, [], _∷_}
 use Prim.Native.Nat.{ℕ, _+_, _-_, _≤_, _<_}
 use borrow.Author.Needs.{needs}
@@ -12,10 +12,11 @@ use Rattle.wires.specs.StateOfABlock.{stateIn, inState}
 use Rattle.wires.specs.declared.Wires.{Wires}
 use Rattle.wires.proofs.BlocksAndStates.{IsBlock}
 use Rattle.wires.proofs.WireOperations.{is-block, same-state}
-use Rattle.circuit.specs.GatesInBytes.{part, listIn, controlsIn, gateWith, gateIn}
+use Rattle.circuit.specs.GatesInBytes.{part, listIn, endOf, controlsIn, gateWith, gateIn}
+use Rattle.circuit.specs.declared.WireList.{WireList}
 use Rattle.circuit.specs.declared.GateAt.{GateAt}
 use Rattle.circuit_run.specs.RunAnswers.{allHold}
-use Rattle.circuit.proofs.LoopsOverWires.{part-step, part-none, part-past}
+use Rattle.circuit.proofs.LoopsOverWires.{left-step, left-none, left-all}
 
 -- no wire: each of them holds the bit asked for
 hold-nil : (asked : Bool) (s : State) → allHold asked [] s ≡ true
@@ -37,23 +38,32 @@ hold-cons false w l s = by (s w)
     by true = refl
     by false = refl
 
--- what the loop of `all_hold` keeps: whether all the wires hold the bit is whether those that are left do
-module _ (bs : List ℕ) (at left : ℕ) (asked : Bool) (bits : List ℕ) (whole : Bool)
-    (inv : whole ≡ allHold asked (part bs at left) (stateIn bits)) where
-  pub hold-none : left ≤ 0 → true ≡ whole
-  hold-none l = rw (inv, part-none bs at left l, hold-nil asked (stateIn bits))
+-- what the loop of `all_hold` keeps: all the wires hold the bit exactly where none so far was wrong and those that are left do
+module _ (bs : List ℕ) (at end : ℕ) (asked : Bool) (bits : List ℕ) (wrong : Bool) where
+  pub hold-next : (whole : Bool) → whole ≡ not wrong && allHold asked (part bs at (end - at)) (stateIn bits) → at < end → end ≤ length bs →
+      (has : Bool) → has ≡ stateIn bits (getD bs at 0) →
+      whole ≡ not (wrong || not (Bool·beq has asked)) && allHold asked (part bs (at + 1) (end - (at + 1))) (stateIn bits)
+  hold-next whole inv l h has is =
+      rw (
+        inv,
+        left-step bs at end l h,
+        hold-cons asked (getD bs at 0) (part bs (at + 1) (end - (at + 1))) (stateIn bits),
+        ← is,
+      )
+      (by wrong (Bool·beq has asked) (allHold asked (part bs (at + 1) (end - (at + 1))) (stateIn bits)))
+    where
+      by : (a b c : Bool) → not a && (b && c) ≡ not (a || not b) && c
+      by true b c = refl
+      by false true c = refl
+      by false false c = refl
 
-  pub hold-past : length bs ≤ at → true ≡ whole
-  hold-past h = rw (inv, part-past bs at left h, hold-nil asked (stateIn bits))
+  pub hold-all : (l : WireList) → end ≡ endOf bs l →
+      allHold asked (part bs (l .from) (end - l .from)) (stateIn bits) ≡ not wrong && allHold asked (part bs at (end - at)) (stateIn bits) →
+      end ≤ at → not wrong ≡ allHold asked (listIn bs l) (stateIn bits)
+  hold-all l is inv h =
+      sym (rw (is, left-all bs l, ← is, left-none bs at end h, hold-nil asked (stateIn bits), and-true (not wrong)) at inv)
 
-  module _ (l : 0 < left) (h : at < length bs) (has : Bool) (is : has ≡ stateIn bits (getD bs at 0)) where
-    pub hold-other : Bool·beq has asked ≡ false → false ≡ whole
-    hold-other e = rw (inv, part-step bs at left l h, hold-cons asked (getD bs at 0) (part bs (at + 1) (left - 1)) (stateIn bits), ← is, e)
-
-    pub hold-next : Bool·beq has asked ≡ true → whole ≡ allHold asked (part bs (at + 1) (left - 1)) (stateIn bits)
-    hold-next e = rw (inv, part-step bs at left l h, hold-cons asked (getD bs at 0) (part bs (at + 1) (left - 1)) (stateIn bits), ← is, e)
-
-pub ruleset held = (needs, not-true, not-false, hold-none, hold-past, hold-other, hold-next)
+pub ruleset held = (needs, hold-next, hold-all)
 
 -- the ways out of `fires`
 module _ (bs : List ℕ) (g : GateAt) (bits : List ℕ) (first : Bool) (is : first ≡ allHold true (listIn bs (g .ones)) (stateIn bits)) where

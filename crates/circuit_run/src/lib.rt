@@ -4,13 +4,14 @@ ghost use Rattle.model.specs.Gates.{fires, act};
 ghost use Rattle.model.specs.Circuit.{readGates};
 ghost use Rattle.model.specs.Answers.{circuitRun};
 ghost use Rattle.wires.specs.StateOfABlock.{stateIn, inState};
-ghost use Rattle.circuit.specs.GatesInBytes.{part, inputAt, gateIn, controlsIn};
+ghost use Rattle.circuit.specs.GatesInBytes.{inputAt, listIn, gateIn, controlsIn};
 ghost use Rattle.circuit_run.specs.RunAnswers.{allHold, wiresAtEnd, ranOf, endAnswer};
 ghost use Rattle.answers.specs.Structs.{refusedBlock, blockAnswer};
 use answers::CircuitBlock;
 use circuit::GateAt;
 use circuit::GateRead;
 use circuit::HeaderRead;
+use circuit::WireList;
 use limits::{BLOCK_LENGTH, HEADER_LENGTH, HIGH_BIT, NOT_WELL_FORMED};
 use wires::{fits, Wires};
 
@@ -20,35 +21,28 @@ pub struct Ran {
     pub wires: Wires,
 }
 
-// Does each of `count` wires from a place on hold the bit asked for?
-fn all_hold(bytes: &[u8], from: usize, count: usize, asked: bool, wires: Wires) -> bool
-    ensures { λ r. ⌜ r ≡ allHold asked (part (now (bytes .entry)) from count) (stateIn (wires .bits)) ⌝ }
+// Does each wire of a list hold the bit asked for? No test ends the loop.
+fn all_hold(bytes: &[u8], list: WireList, asked: bool, bits: &[u8; BLOCK_LENGTH]) -> bool
+    ensures { λ r. ⌜ r ≡ allHold asked (listIn (now (bytes .entry)) list) (stateIn (now (bits .entry))) ⌝ }
 {
-    let mut at = from;
-    let mut left = count;
-    while 0 < left {
-        if bytes.len() <= at {
-            return true;
-        }
-        if wires::holds(wires, bytes[at]) != asked {
-            return false;
-        }
+    let end = circuit::end_of(bytes, list);
+    let mut wrong = false;
+    let mut at = list.from;
+    while at < end {
+        wrong |= wires::holds(bits, bytes[at]) != asked;
         at += 1;
-        left -= 1;
     }
-    true
+    !wrong
 }
 
 // "every controlled wire holds the bit asked for"
 fn fires(bytes: &[u8], gate: GateAt, wires: Wires) -> bool
     ensures { λ r. ⌜ r ≡ fires (controlsIn (now (bytes .entry)) gate) (stateIn (wires .bits)) ⌝ }
 {
-    let ones = gate.ones;
-    if !all_hold(bytes, ones.from, ones.count, true, wires) {
+    if !all_hold(bytes, gate.ones, true, &wires.bits) {
         return false;
     }
-    let zeros = gate.zeros;
-    all_hold(bytes, zeros.from, zeros.count, false, wires)
+    all_hold(bytes, gate.zeros, false, &wires.bits)
 }
 
 // "a NOT flips its target and a swap exchanges its two wires; otherwise the gate changes nothing"

@@ -6,13 +6,14 @@ use mathlib.Core.List.{List, map}
 use Prim.Native.Nat.{ℕ, zero, suc, _+_, _-_, _*_, _/_, _%_, _^_, _≤_, _<_}
 use native.Mathlib.Nat.{mod-lt, zero-lt-suc}
 use native.Mathlib.Omega.{arith}
-use borrow.Author.Needs.{length-unmapped}
+use borrow.Author.Needs.{needs, length-unmapped}
+use borrow.Author.Tests.{eq-eqb, ne-eqb}
 use mir.Syntax.{w8}
 use mir.Val.{Fits}
 use lib.Dec.{eqb}
 use lib.ListN.{length, getD, set, length-set, replicate, length-replicate, getD-replicate, List·getD-eq-default}
-use lib.Seq.{getD-set-same, getD-set-other}
-use lib.Bits.{bitAnd, bitXor, and-mask, mask-lt}
+use lib.Seq.{getD-set-same, getD-set-other, ext-getD}
+use lib.Bits.{bitAnd, bitXor, and-mask, mask-lt, xor-zero-r}
 use Rattle.limits.specs.Sizes.{blockBits}
 use Rattle.model.specs.Limits.{blockLength}
 use Rattle.model.specs.Meaning.{State, bit, flipped, stateOf}
@@ -21,7 +22,7 @@ use Rattle.model.specs.Circuit.{blockOf}
 use Rattle.model.proofs.BooleanLaws.{byEq, byLt, not-not}
 use Rattle.model.proofs.GateLaws.{flipped-same, flipped-other, exchange-left, exchange-right, exchange-other, renamed-at}
 use Rattle.wires.specs.declared.Wires.{Wires}
-use Rattle.wires.specs.StateOfABlock.{stateIn, wiresOf, inState}
+use Rattle.wires.specs.StateOfABlock.{stateIn, wiresOf, inState, flippedIn}
 use Rattle.model.proofs.WordBits.{zero-bit, past-bit, tested, flip-same, flip-other, shifted}
 use Rattle.wires.proofs.ByteBits.{flip-byte, byte-bit}
 use Rattle.wires.proofs.BlocksAndStates.{IsBlock, state-at, state-zero, block-wire, block-is, block-of-state, same-block}
@@ -105,14 +106,57 @@ module _ (wires : Wires) where
   flips-none w h e = ap (beside wires)
     (sym (block-is (wires .bits) h (flipped w now) (λ v l m. flipped-other now w v (λ q. omega arith))))
 
-  -- the bit of a wire, flipped
-  pub flips-bit : (w : ℕ) → IsBlock (wires .bits) → w ≢ 0 → w < 256
-      → beside wires (set (wires .bits) ((w - 1) / 8) (bitXor (getD (wires .bits) ((w - 1) / 8) 0) ((1 * 2 ^ ((w - 1) % 8)) % 256)))
-      ≡ inState (flipped w now) wires
-  flips-bit w h n l = ap (beside wires)
+-- the ways out of `flipped_in`
+pub flipped-here : (i byte mask : ℕ) → i ≡ byte → mask ≡ flippedIn i byte mask
+flipped-here i byte mask e = rw (eq-eqb i byte e)
+
+pub flipped-not : (i byte mask : ℕ) → i ≢ byte → 0 ≡ flippedIn i byte mask
+flipped-not i byte mask n = rw (ne-eqb i byte n)
+
+-- the wires with the first i bytes of a flip stored
+pub record Flipping (before : Wires) (byte mask i : ℕ) (after : Wires) : Type 0 where
+  pub long : length (after .bits) ≡ blockLength
+  pub below : (j : ℕ) → j < i → getD (after .bits) j 0 ≡ bitXor (getD (before .bits) j 0) (flippedIn j byte mask)
+  pub above : (j : ℕ) → i ≤ j → getD (after .bits) j 0 ≡ getD (before .bits) j 0
+  pub counts : after ≡ beside before (after .bits)
+
+module _ (wires : Wires) (byte mask : ℕ) where
+  -- no byte yet
+  pub flip-none : IsBlock (wires .bits) → Flipping wires byte mask 0 wires
+  flip-none h = record { long = h .long; below = λ j l. absurd (omega arith); above = λ j l. refl; counts = refl }
+
+  module _ (i : ℕ) (after : Wires) (f : Flipping wires byte mask i after) where
+    -- one byte more
+    pub flip-byte-more : i < blockLength → (x : ℕ) → x ≡ flippedIn i byte mask →
+        Flipping wires byte mask (i + 1) (beside after (set (after .bits) i (bitXor (getD (after .bits) i 0) x)))
+    flip-byte-more l x is = record
+      { long = length-set (after .bits) i _ ∙ f .long
+      ; below = λ j m. byEq j i
+          (λ e. rw (e, getD-set-same (after .bits) i (bitXor (getD (after .bits) i 0) x) 0 (rw (f .long) l), f .above i (omega arith), is))
+          (λ n. getD-set-other (after .bits) i j _ 0 n ∙ f .below j (omega arith))
+      ; above = λ j m. getD-set-other (after .bits) i j _ 0 (λ e. omega arith) ∙ f .above j (omega arith)
+      ; counts = rw (f .counts) }
+
+    -- all bytes: one of them is flipped in
+    flip-all : IsBlock (wires .bits) → byte < blockLength → blockLength ≤ i → after ≡ beside wires (set (wires .bits) byte (bitXor (getD (wires .bits) byte 0) mask))
+    flip-all h l g = f .counts ∙ ap (beside wires) (ext-getD 0 (after .bits) (set (wires .bits) byte (bitXor (getD (wires .bits) byte 0) mask))
+        (f .long ∙ sym (length-set (wires .bits) byte _ ∙ h .long))
+        (λ j m. let k : j < blockLength = rw (f .long) at m in f .below j (omega arith) ∙ byEq j byte
+          (λ e. rw (e, ← flipped-here byte byte mask refl, getD-set-same (wires .bits) byte (bitXor (getD (wires .bits) byte 0) mask) 0 (rw (h .long) l)))
+          (λ n. rw (← flipped-not j byte mask n, getD-set-other (wires .bits) byte j (bitXor (getD (wires .bits) byte 0) mask) 0 n)
+            (xor-zero-r (getD (wires .bits) j 0)))))
+
+-- the bit of a wire, flipped
+pub flips-bit : (wires : Wires) (w : ℕ) → IsBlock (wires .bits) → w ≢ 0 → w < 256 → (i : ℕ) (after : Wires) → blockLength ≤ i
+    → Flipping wires ((w - 1) / 8) ((1 * 2 ^ ((w - 1) % 8)) % 256) i after → after ≡ inState (flipped w (now wires)) wires
+flips-bit wires w h n l i after g f =
+    flip-all wires ((w - 1) / 8) ((1 * 2 ^ ((w - 1) % 8)) % 256) i after f h (omega arith) g
+    ∙ ap (beside wires)
     (ap (λ (m : ℕ). set (wires .bits) ((w - 1) / 8) (bitXor (getD (wires .bits) ((w - 1) / 8) 0) m)) (shifted 8 ((w - 1) % 8) (omega arith))
     ∙ flip-bytes (wires .bits) h (w - 1) (omega arith)
-    ∙ ap (λ (v : ℕ). blockOf (flipped v now)) (sym (before w n)))
+    ∙ ap (λ (v : ℕ). blockOf (flipped v (now wires))) (sym (before w n)))
+
+pub ruleset flipping = (needs, is-block, flips-none, flip-none, flip-byte-more, flips-bit)
 
 -- ---- swap
 

@@ -1,7 +1,8 @@
 -- The block of bytes that the wires of a running circuit are, read as a state.
 use Prim.Native.Nat.{ℕ, zero, suc, _/_, _%_}
-use mathlib.Core.Bool.{false}
+use mathlib.Core.Bool.{Bool, true, false}
 use mathlib.Core.List.{List}
+use lib.Dec.{eqb}
 use lib.ListN.{getD}
 use Rattle.model.specs.Meaning.{State, bit}
 use Rattle.model.specs.Circuit.{blockOf}
@@ -18,3 +19,12 @@ wiresOf n ancillas s = record { bits = blockOf s; «data» = n; ancillas = ancil
 -- the wires in another state, with the same counts
 abbrev pub inState : State → Wires → Wires
 inState s wires = wiresOf (wires .«data») (wires .ancillas) s
+
+-- a number where a test holds, otherwise 0
+abbrev pub onlyIf : Bool → ℕ → ℕ
+onlyIf true n = n
+onlyIf false n = 0
+
+-- the bits to flip in byte i, where one bit of one byte is to be flipped
+abbrev pub flippedIn : ℕ → ℕ → ℕ → ℕ
+flippedIn i byte bit = onlyIf (eqb i byte) bit
