@@ -17,8 +17,8 @@ use Rattle.model.proofs.BooleanLaws.{byLt}
 use Rattle.model.proofs.RoundTrip.{write-length}
 use Rattle.agreement.proofs.FirstMisfit.{fits-wires}
 use Rattle.circuit.specs.GatesToWrite.{headerBytes}
-use Rattle.table.specs.Index.{programAt}
-use Rattle.reach.specs.CallsInATable.{reachAt}
+use Rattle.decoded.specs.DecodedTable.{procedureCount, programAt}
+use Rattle.widths.specs.KeptWidths.{WidthsKnown}
 use Rattle.events.specs.declared.Emit.{Emit}
 use Rattle.events.specs.Scan.{Progress, progress, emitOf, roomOf, emissionEnd, wireOf}
 use Rattle.events.proofs.ScanOfEvents.{emission-status, emission-ends, emission-within}
@@ -115,12 +115,12 @@ given-answer P n room header e = rw (le-leb headerLength (usable (length room)) 
 
 -- an emission into a text, of which as much is used as the room has of use: its number is that of the definitions, and where that is 0 the circuit
 -- stands in the text
-module _ {bs ix m : List ℕ} {p n : ℕ} (room text : List ℕ) {ws : List ℕ} {a : Emit} (text₁ : List ℕ) {ws₁ : List ℕ} (long : length text ≡ mostCircuit)
-    (A : Emits bs ix m p n (take (usable (length room)) text) ws a (take (usable (length room)) text₁) ws₁)
-    (few : p ≤ mostProcedures) (reach : m ≡ reachAt p bs ix) (small : n ≤ mostQubits) (space : slotsLength ≤ length ws)
+module _ {prog : List ℕ} {n : ℕ} (room text : List ℕ) {slots : List ℕ} {a : Emit} (text₁ : List ℕ) {slots₁ : List ℕ} (long : length text ≡ mostCircuit)
+    (A : Emits prog n (take (usable (length room)) text) slots a (take (usable (length room)) text₁) slots₁)
+    (few : procedureCount prog ≤ mostProcedures) (widths : WidthsKnown prog) (small : n ≤ mostQubits) (space : slotsLength ≤ length slots)
     (header : headerLength ≤ usable (length room)) where
   abbrev P : Program
-  P = programAt p bs ix
+  P = programAt prog
 
   abbrev end : ℕ
   end = usable (length room)
@@ -135,7 +135,7 @@ module _ {bs ix m : List ℕ} {p n : ℕ} (room text : List ℕ) {ws : List ℕ}
   front-header = let e = same-room in omega arith
 
   emitted-status : a .status ≡ fit end headerLength (emission P n)
-  emitted-status = ap (λ (x : Progress). emitOf x .status) (use-main A few reach small space .0) ∙ emission-status P n (take end text) front-header
+  emitted-status = ap (λ (x : Progress). emitOf x .status) (use-main A few widths small space .0) ∙ emission-status P n (take end text) front-header
     ∙ ap (λ (v : ℕ). fit v headerLength (emission P n)) same-room
 
   module _ (ok : a .status ≡ 0) where
@@ -146,7 +146,7 @@ module _ {bs ix m : List ℕ} {p n : ℕ} (room text : List ℕ) {ws : List ℕ}
     front-fits = rw same-room emitted-fits
 
     emitted-all : progress a (take end text₁) ≡ progress (emissionEnd P n) (sets (take end text) headerLength (bytes P n))
-    emitted-all = use-main A few reach small space .0 ∙ emission-ends P n (take end text) front-header front-fits
+    emitted-all = use-main A few widths small space .0 ∙ emission-ends P n (take end text) front-header front-fits
 
     emitted-end : a ≡ emissionEnd P n
     emitted-end = ap emitOf emitted-all
@@ -206,38 +206,38 @@ pub circuit-put : (n : ℕ) (st : Emit) (text room : List ℕ) (a : ℕ) (text�
 circuit-put n st text room a text₁ room₁ low put copied = rw (copied, put, low)
 
 -- the way out of `emit_front`: what was lent comes back at its place
-pub front-emitted : {bs ix m : List ℕ} {p n : ℕ} (end : ℕ) (text : List ℕ) {ws : List ℕ} {a : Emit} (back rest : List ℕ) {ws₁ : List ℕ} →
-    end ≤ length text → length back ≡ length (take (end - 0) text) → Emits bs ix m p n (take (end - 0) text) ws a back ws₁ →
-    Emits bs ix m p n (take end text) ws a (take end (back ++ rest)) ws₁
+pub front-emitted : {prog : List ℕ} {n : ℕ} (end : ℕ) (text : List ℕ) {slots : List ℕ} {a : Emit} (back rest : List ℕ) {slots₁ : List ℕ} →
+    end ≤ length text → length back ≡ length (take (end - 0) text) → Emits prog n (take (end - 0) text) slots a back slots₁ →
+    Emits prog n (take end text) slots a (take end (back ++ rest)) slots₁
 front-emitted end text back rest h same A =
     let none : end - 0 ≡ end = omega arith in
     let long : length back ≡ end = same ∙ ap (λ (v : ℕ). length (take v text)) none ∙ length-take-le end text h in
     rw (take-at back rest end long) (rw none at A)
 
 -- the way out of `emit_text`
-pub text-emitted : {bs ix m : List ℕ} {p n room end : ℕ} (text : List ℕ) {ws : List ℕ} {a : Emit} (text₁ : List ℕ) {ws₁ : List ℕ} →
-    length text ≡ mostCircuit → end ≡ usable room → Emits bs ix m p n (take end text) ws a (take end text₁) ws₁ →
-    EmitsText bs ix m p n room ws a text₁ ws₁
-text-emitted text text₁ long e A = into-text text long (rw e at A)
+pub text-emitted : {prog : List ℕ} {n room end : ℕ} (text : List ℕ) {slots : List ℕ} {a : Emit} (text₁ : List ℕ) {slots₁ : List ℕ} →
+    length text ≡ mostCircuit → length slots ≡ slotsLength → end ≡ usable room → Emits prog n (take end text) slots a (take end text₁) slots₁ →
+    EmitsText prog n room a text₁
+text-emitted text {slots = slots} text₁ {slots₁ = slots₁} long space e A = into-text text slots slots₁ long (omega arith) (rw e at A)
 
 -- the ways out of `compile_emission`
-module _ {bs ix m : List ℕ} {p n : ℕ} {room ws : List ℕ} where
-  pub no-header : length room < headerLength → Compiles bs ix m p n room ws (record { number = noRoom; length = 0 }) room ws
+module _ {prog : List ℕ} {n : ℕ} {room : List ℕ} where
+  pub no-header : length room < headerLength → Compiles prog n room (record { number = noRoom; length = 0 }) room
   unfolding emissionAnswer require number valueOr roomAfter
-  no-header h = walks-once (λ few reach small space.
+  no-header h = walks-once (λ few widths small.
     let e = lt-leb headerLength (usable (length room)) (omega arith) in (rw e, rw e))
 
-module _ {bs ix m : List ℕ} {p n : ℕ} {room ws : List ℕ} {a : Emit} {text₁ ws₁ : List ℕ} where
-  pub text-refused : headerLength ≤ length room → EmitsText bs ix m p n (length room) ws a text₁ ws₁ → (a .status ≡ 0 → ⊥) →
-      Compiles bs ix m p n room ws (record { number = a .status; length = 0 }) room ws₁
-  text-refused h (into-text text long A) z = walks-once (λ few reach small space.
+module _ {prog : List ℕ} {n : ℕ} {room : List ℕ} {a : Emit} {text₁ : List ℕ} where
+  pub text-refused : headerLength ≤ length room → EmitsText prog n (length room) a text₁ → (a .status ≡ 0 → ⊥) →
+      Compiles prog n room (record { number = a .status; length = 0 }) room
+  text-refused h (into-text text slots slots₁ long space A) z = walks-once (λ few widths small.
     let header : headerLength ≤ usable (length room) = omega arith in
-    refused-answer (programAt p bs ix) n (a .status) room header (emitted-status room text text₁ long A few reach small space header) z)
+    refused-answer (programAt prog) n (a .status) room header (emitted-status room text text₁ long A few widths small space header) z)
 
-  pub text-delivered : {room₁ : List ℕ} → headerLength ≤ length room → EmitsText bs ix m p n (length room) ws a text₁ ws₁ → a .status ≡ 0 →
-      room₁ ≡ delivered n a text₁ room → Compiles bs ix m p n room ws (record { number = 0; length = a .used }) room₁ ws₁
-  text-delivered {room₁ = room₁} h (into-text text long A) z e = walks-once (λ few reach small space.
+  pub text-delivered : {room₁ : List ℕ} → headerLength ≤ length room → EmitsText prog n (length room) a text₁ → a .status ≡ 0 →
+      room₁ ≡ delivered n a text₁ room → Compiles prog n room (record { number = 0; length = a .used }) room₁
+  text-delivered {room₁ = room₁} h (into-text text slots slots₁ long space A) z e = walks-once (λ few widths small.
     let header : headerLength ≤ usable (length room) = omega arith in
-    emitted-answer room text text₁ long A few reach small space header z room₁ e)
+    emitted-answer room text text₁ long A few widths small space header z room₁ e)
 
 pub ruleset delivering = (needs, ancillas-none, no-header, text-refused, text-delivered, circuit-put, front-emitted, text-emitted)

@@ -11,8 +11,8 @@ use Rattle.model.specs.Syntax.{Program}
 use Rattle.model.specs.Emission.{emission}
 use Rattle.model.specs.Answers.{Outcome, require, fitted, fit, circuit, usable, number, valueOr, roomAfter}
 use Rattle.circuit.specs.GatesToWrite.{headerBytes}
-use Rattle.table.specs.Index.{programAt}
-use Rattle.reach.specs.CallsInATable.{reachAt}
+use Rattle.decoded.specs.DecodedTable.{procedureCount, programAt}
+use Rattle.widths.specs.KeptWidths.{WidthsKnown}
 use Rattle.events.specs.declared.Emit.{Emit}
 use Rattle.events.specs.Scan.{wireOf}
 use Rattle.emit.specs.WalkPromises.{Emits}
@@ -26,18 +26,18 @@ emissionAnswer P n room = require (leb headerLength (usable room)) noRoom (fitte
 abbrev pub compiledOf : Outcome (List ℕ) → Compiled
 compiledOf o = record { number = number o; length = length (valueOr [] o) }
 
--- main emitted into the front of a text, as much of it as a room of that length has of use
-pub data EmitsText (bs ix m : List ℕ) (p n room : ℕ) (ws : List ℕ) (r : Emit) (text₁ ws₁ : List ℕ) : Type 0 where
-  into-text : (text : List ℕ) → length text ≡ mostCircuit → Emits bs ix m p n (take (usable room) text) ws r (take (usable room) text₁) ws₁ →
-      EmitsText bs ix m p n room ws r text₁ ws₁
+-- main emitted into the front of a text, as much of it as a room of that length has of use, with slots for all wires
+pub data EmitsText (prog : List ℕ) (n room : ℕ) (r : Emit) (text₁ : List ℕ) : Type 0 where
+  into-text : (text slots slots₁ : List ℕ) → length text ≡ mostCircuit → slotsLength ≤ length slots →
+      Emits prog n (take (usable room) text) slots r (take (usable room) text₁) slots₁ → EmitsText prog n room r text₁
 
 -- the room behind a circuit that fits: the header is put into the text, and the used bytes of the text into the room
 abbrev pub delivered : ℕ → Emit → List ℕ → List ℕ → List ℕ
 delivered n st text room = sets room 0 (take (st .used) (sets text 0 (headerBytes n (wireOf (st .highest - n)) (st .gates))))
 
 -- the number, the length and the room of the answer
-pub data Compiles (bs ix m : List ℕ) (p n : ℕ) (room ws : List ℕ) (r : Compiled) (room₁ ws₁ : List ℕ) : Type 0 where
-  walks-once : (p ≤ mostProcedures → m ≡ reachAt p bs ix → n ≤ mostQubits → slotsLength ≤ length ws →
-      (r ≡ compiledOf (emissionAnswer (programAt p bs ix) n (length room)))
-      × (room₁ ≡ roomAfter (emissionAnswer (programAt p bs ix) n (length room)) room)) →
-      Compiles bs ix m p n room ws r room₁ ws₁
+pub data Compiles (prog : List ℕ) (n : ℕ) (room : List ℕ) (r : Compiled) (room₁ : List ℕ) : Type 0 where
+  walks-once : (procedureCount prog ≤ mostProcedures → WidthsKnown prog → n ≤ mostQubits →
+      (r ≡ compiledOf (emissionAnswer (programAt prog) n (length room)))
+      × (room₁ ≡ roomAfter (emissionAnswer (programAt prog) n (length room)) room)) →
+      Compiles prog n room r room₁

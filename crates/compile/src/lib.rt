@@ -5,7 +5,6 @@ ghost use lib.ListN.{length, take};
 ghost use lib.Seq.{sets};
 ghost use Rattle.model.specs.Answers as model;
 ghost use Rattle.model.specs.Answers.{workspaceAfter};
-ghost use Rattle.reach.specs.CallsInATable.{reachAt};
 ghost use Rattle.events.specs.Scan.{wireOf};
 ghost use Rattle.emit.specs.WalkPromises.{Emits};
 ghost use Rattle.compile.specs.EmissionAnswer.{EmitsText, delivered, Compiles};
@@ -13,8 +12,7 @@ ghost use Rattle.compile.specs.AnswerAndRoom.{answered, answeredOf};
 use circuit::write::put_header;
 use events::{Emit, usable, wire};
 use emit::emit_main;
-use limits::{HEADER_LENGTH, INDEX_LENGTH, LEAST_WORKSPACE, MATRIX_LENGTH, MOST_CIRCUIT, MOST_N, NO_ROOM, SHORT_WORKSPACE, WRONG_QUBITS};
-use reach::fill_reach;
+use limits::{HEADER_LENGTH, LEAST_WORKSPACE, MOST_CIRCUIT, MOST_N, NO_ROOM, PROGRAM_LENGTH, SHORT_WORKSPACE, SLOTS_LENGTH, WRONG_QUBITS};
 use verdict::check_table;
 
 // What compile answers: 0 or the number that refuses, and the circuit's length in bytes.
@@ -62,46 +60,31 @@ fn put_circuit(n: u8, emitted: Emit, text: &mut [u8; MOST_CIRCUIT], room: &mut [
 }
 
 // An emission into the front of a text.
-fn emit_front(
-    table: &[u8], index: &[u16], p: u8, matrix: &[u8; MATRIX_LENGTH], n: u8,
-    end: usize, text: &mut [u8], ws: &mut [u8],
-) -> Emit
+fn emit_front(program: &[u32; PROGRAM_LENGTH], n: u8, end: usize, text: &mut [u8], slots: &mut [u64; SLOTS_LENGTH]) -> Emit
     requires { ⌜ end ≤ length (now text) ⌝ }
-    ensures { λ r. ⌜ Emits (now (table .entry)) (now (index .entry)) (now (matrix .entry)) p n (take end (now (text .entry))) (now (ws .entry))
-        r (take end (now (text .exit))) (now (ws .exit)) ⌝ }
+    ensures { λ r. ⌜ Emits (now (program .entry)) n (take end (now (text .entry))) (now (slots .entry))
+        r (take end (now (text .exit))) (now (slots .exit)) ⌝ }
 {
-    emit_main(table, index, p, matrix, n, &mut text[0..end], ws)
+    emit_main(program, n, &mut text[0..end], slots)
 }
 
-// An emission into a text, of which as much is used as a room of that length has of use.
-fn emit_text(
-    table: &[u8], index: &[u16], p: u8, matrix: &[u8; MATRIX_LENGTH], n: u8,
-    room: usize, text: &mut [u8; MOST_CIRCUIT], ws: &mut [u8],
-) -> Emit
-    ensures { λ r. ⌜ EmitsText (now (table .entry)) (now (index .entry)) (now (matrix .entry)) p n room (now (ws .entry))
-        r (now (text .exit)) (now (ws .exit)) ⌝ }
+// An emission into a text, of which as much is used as a room of that length has of use. Its slots are its own: nobody reads them afterwards.
+fn emit_text(program: &[u32; PROGRAM_LENGTH], n: u8, room: usize, text: &mut [u8; MOST_CIRCUIT]) -> Emit
+    ensures { λ r. ⌜ EmitsText (now (program .entry)) n room r (now (text .exit)) ⌝ }
 {
-    emit_front(table, index, p, matrix, n, usable(room), &mut text[..], ws)
+    let mut slots = [0u64; SLOTS_LENGTH];
+    emit_front(program, n, usable(room), &mut text[..], &mut slots)
 }
 
 // An emission goes into a text of its own, and from there into the room where it fits. "The room is written only on success, its rest unchanged."
-fn compile_emission(
-    table: &[u8],
-    index: &[u16],
-    p: u8,
-    matrix: &[u8; MATRIX_LENGTH],
-    n: u8,
-    room: &mut [u8],
-    ws: &mut [u8],
-) -> Compiled
-    ensures { λ r. ⌜ Compiles (now (table .entry)) (now (index .entry)) (now (matrix .entry)) p n (now (room .entry)) (now (ws .entry))
-        r (now (room .exit)) (now (ws .exit)) ⌝ }
+fn compile_emission(program: &[u32; PROGRAM_LENGTH], n: u8, room: &mut [u8]) -> Compiled
+    ensures { λ r. ⌜ Compiles (now (program .entry)) n (now (room .entry)) r (now (room .exit)) ⌝ }
 {
     if room.len() < HEADER_LENGTH {
         return Compiled { number: NO_ROOM, length: 0 };
     }
     let mut text = [0u8; MOST_CIRCUIT];
-    let emitted = emit_text(table, index, p, matrix, n, room.len(), &mut text, ws);
+    let emitted = emit_text(program, n, room.len(), &mut text);
     let status = emitted.status;
     if status != 0 {
         return Compiled { number: status, length: 0 };
@@ -110,36 +93,25 @@ fn compile_emission(
     Compiled { number: 0, length: emitted.used }
 }
 
-// The circuit of a table that was checked and accepted, by its index.
-fn compile_checked(table: &[u8], index: &[u16; INDEX_LENGTH], p: u8, n: u8, room: &mut [u8], workspace: &mut [u8]) -> Compiled
-    ensures { λ r. ⌜ Compiles (now (table .entry)) (now (index .entry)) (reachAt p (now (table .entry)) (now (index .entry))) p n
-        (now (room .entry)) (now (workspace .entry)) r (now (room .exit)) (now (workspace .exit)) ⌝ }
-{
-    let mut matrix = [0u8; MATRIX_LENGTH];
-    fill_reach(table, &index[..], p, &mut matrix);
-    compile_emission(table, &index[..], p, &matrix, n, room, workspace)
-}
-
 // "9; header 1 .., 2, 3; each record ..; 8; 10 over the whole table, then 11, then 12; .. 21. Then 23 for the header, then 22 or 23 at the first ancilla
-// or gate that does not fit."
-fn translate(table: &[u8], n: u32, room: &mut [u8], workspace: &mut [u8]) -> Compiled
+// or gate that does not fit.", for a workspace of that length.
+fn translate(table: &[u8], n: u32, room: &mut [u8], space: usize) -> Compiled
     ensures { λ r. ⌜ answered r (now (room .exit)) ≡
-        answeredOf (model.compile (now (table .entry)) n (length (now (room .entry))) (length (now (workspace .entry)))) (now (room .entry)) ⌝ }
+        answeredOf (model.compile (now (table .entry)) n (length (now (room .entry))) space) (now (room .entry)) ⌝ }
 {
-    let mut index = [0u16; INDEX_LENGTH];
-    let checked = check_table(table, n, &mut index);
-    let number = checked.number;
+    let mut program = [0u32; PROGRAM_LENGTH];
+    let number = check_table(table, n, &mut program);
     if number != 0 {
         return Compiled { number, length: 0 };
     }
-    if workspace.len() < LEAST_WORKSPACE {
+    if space < LEAST_WORKSPACE {
         return Compiled { number: SHORT_WORKSPACE, length: 0 };
     }
     // An accepted table has no more qubits than the limit: this way is never taken, and lets n be a byte.
     if MOST_N < n {
         return Compiled { number: WRONG_QUBITS, length: 0 };
     }
-    compile_checked(table, &index, checked.procedures, n as u8, room, workspace)
+    compile_emission(&program, n as u8, room)
 }
 
 // "all of it is zero afterwards, at any length"
@@ -159,7 +131,7 @@ pub fn compile(table: &[u8], n: u32, room: &mut [u8], workspace: &mut [u8]) -> C
         answeredOf (model.compile (now (table .entry)) n (length (now (room .entry))) (length (now (workspace .entry)))) (now (room .entry)) ⌝ }
     ensures { λ r. ⌜ now (workspace .exit) ≡ workspaceAfter (now (workspace .entry)) ⌝ }
 {
-    let compiled = translate(table, n, room, workspace);
+    let compiled = translate(table, n, room, workspace.len());
     clear(workspace);
     compiled
 }

@@ -2,20 +2,26 @@
 use mathlib.Core.Path.{_≡_, refl, sym, ap, _∙_}
 use mathlib.Core.Bool.{Bool, true, false, cond}
 use mathlib.Core.List.{List, [], _∷_}
-use Prim.Native.Nat.{ℕ, _+_, _-_, _≤_, _<_, min}
+use Prim.Native.Nat.{ℕ, _+_, _-_, _<_, min}
 use native.Mathlib.Omega.{arith}
 use borrow.Author.Needs.{needs}
-use borrow.Author.Tests.{lt-ltb, le-ltb}
+use lib.Dec.{ltb}
 use lib.ListN.{length, length-append}
+use mir.Syntax.{w64}
+use mir.Val.{Fits}
 use Rattle.limits.specs.Sizes.{mostCalls}
 use Rattle.model.specs.Syntax.{Statement, skip, NOT, sequence, if, qcase, call}
 use Rattle.model.specs.Lists.{remaining, holds}
-use Rattle.model.specs.Reach.{width}
+use Rattle.model.specs.Reach.{recursive}
 use Rattle.model.specs.Emission.{Invocation, invoked, isWide, invocations}
-use Rattle.model.proofs.BooleanLaws.{byBool, not-zero}
+use Rattle.model.proofs.BooleanLaws.{byBool}
 use Rattle.agreement.proofs.EmissionClauses.{invocations-wide, invocations-thin, invocations-yes, invocations-no, invocations-recursive, invocations-other}
-use Rattle.records.specs.Fields.{removalsOf}
-use Rattle.table.specs.Index.{testAt, statementAt}
+use Rattle.sets.specs.Sets.{membersOf}
+use Rattle.sets.proofs.Members.{members-empty}
+use Rattle.sets.proofs.Readings.{empty-word}
+use Rattle.decoded.specs.DecodedTable.{widthIn, removalsIn, testAt, statementAt, programAt}
+use Rattle.emit.specs.WalkPromises.{KnownIn, Counts, counts}
+use Rattle.emit.proofs.KnownParts.{width-told, call-told, known-sequence, known-chosen, known-branches}
 use Rattle.step.specs.declared.Step.{Step}
 use Rattle.step.specs.declared.Step.the-variants as step
 use Rattle.step.specs.Steps.{stepAt}
@@ -50,91 +56,89 @@ same-count r (call rs f) l a b = byBool (r f)
     (λ e. rw (invocations-other r l a rs f e, invocations-other r l b rs f e))
 
 -- the ways out of `one_unless_empty`
-no-call : (l : List ℕ) → length l ≡ 0 → 0 ≡ min mostCalls (length (invoked 0 l 0))
+pub one-none : (list : ℕ) → list ≡ 0 → 0 ≡ min mostCalls (length (invoked 0 (membersOf list) 0))
 unfolding invoked
-no-call [] e = refl
-no-call (q ∷ l) e = absurd (not-zero (length l) e)
+one-none list e = rw (e, members-empty)
 
-one-call : (l : List ℕ) → (length l ≡ 0 → ⊥) → 1 ≡ min mostCalls (length (invoked 0 l 0))
+pub one-some : (list : ℕ) → Fits w64 list → (list ≡ 0 → ⊥) → 1 ≡ min mostCalls (length (invoked 0 (membersOf list) 0))
 unfolding invoked
-one-call [] h = absurd (h refl)
-one-call (q ∷ l) h = omega arith
+one-some list fits some = by (membersOf list) (λ e. some (empty-word list (fits .fits) e))
+  where
+    by : (l : List ℕ) → (l ≡ [] → ⊥) → 1 ≡ min mostCalls (length (invoked 0 l 0))
+    by [] h = absurd (h refl)
+    by (q ∷ l) h = omega arith
 
-module _ (l : List ℕ) (n : ℕ) (is : n ≡ length l) where
-  pub one-none : n ≡ 0 → 0 ≡ min mostCalls (length (invoked 0 l 0))
-  one-none e = no-call l (sym is ∙ e)
+pub use-counts : {prog : List ℕ} {i depth : ℕ} {l : List ℕ} {r : ℕ} → Counts prog i depth l r → (f : ℕ) → KnownIn prog f depth i →
+    r ≡ min mostCalls (length (invocations (recursive (programAt prog) f) (statementAt prog depth i) l 0))
+use-counts (counts g) = g
 
-  pub one-some : (n ≡ 0 → ⊥) → 1 ≡ min mostCalls (length (invoked 0 l 0))
-  one-some h = one-call l (λ e. h (is ∙ e))
-
-module _ (r : ℕ → Bool) (p : ℕ) (bs ix : List ℕ) (i depth : ℕ) (l : List ℕ) where
-  abbrev counted : ℕ → ℕ
-  counted j = length (invocations r (statementAt p bs ix (depth - 1) j) l 0)
-
-  abbrev total : ℕ
-  total = length (invocations r (statementAt p bs ix depth i) l 0)
-
-  idle : statementAt p bs ix depth i ≡ skip → 0 ≡ min mostCalls total
+-- the ways out of `count_calls`
+module _ {prog : List ℕ} {i depth : ℕ} {l : List ℕ} where
+  idle : statementAt prog depth i ≡ skip → Counts prog i depth l 0
   unfolding invocations
-  idle e = rw e
+  idle e = counts (λ f K. rw e)
 
-  pub count-spent : depth ≡ 0 → 0 ≡ min mostCalls (length (invocations r (statementAt p bs ix depth i) l 0))
-  count-spent e = idle (spent-skip p bs ix depth i e)
+  pub count-spent : depth ≡ 0 → Counts prog i depth l 0
+  count-spent e = idle (spent-skip prog depth i e)
 
-  module _ (found : Step) (nz : depth ≡ 0 → ⊥) (is : found ≡ stepAt p bs ix i l) where
-    pub count-idle : (x : Step) → found ≡ x → Idle x → 0 ≡ min mostCalls (length (invocations r (statementAt p bs ix depth i) l 0))
-    count-idle x e o = idle (idle-skip p bs ix depth i l nz is x e o)
+  module _ {found : Step} (nz : depth ≡ 0 → ⊥) (is : found ≡ stepAt prog i l) where
+    pub count-idle : (x : Step) → found ≡ x → Idle x → Counts prog i depth l 0
+    count-idle x e o = idle (idle-skip prog depth i l nz is x e o)
 
-    pub count-touches : (q : ℕ) → found ≡ step.Touches q → 0 ≡ min mostCalls (length (invocations r (statementAt p bs ix depth i) l 0))
+    pub count-touches : {q : ℕ} → found ≡ step.Touches q → Counts prog i depth l 0
     unfolding invocations
-    count-touches q e = let h = at-step p bs ix depth i l nz is e in rw (h .2)
+    count-touches e = counts (λ f K. let h = at-step prog depth i l nz is e in rw (h .2))
 
-    module _ (a b n : ℕ) where
-      pub count-wide : (w : ℕ) → found ≡ step.Sequence a b → w ≡ min 2 (width r (statementAt p bs ix (depth - 1) a)) → 0 < w →
-          n ≡ min mostCalls (length (invocations r (statementAt p bs ix (depth - 1) a) l 0)) →
-          n ≡ min mostCalls (length (invocations r (statementAt p bs ix depth i) l 0))
-      count-wide w e k h q =
-        let x = statementAt p bs ix (depth - 1) a in
-        let wide : isWide r x ≡ true = lt-ltb 0 (width r x) (omega arith) in
-        rw (at-step p bs ix depth i l nz is e, invocations-wide r l 0 x (statementAt p bs ix (depth - 1) b) wide) q
+    module _ {a b n : ℕ} where
+      pub count-wide : {w : Bool} → found ≡ step.Sequence a b → w ≡ ltb 0 (widthIn prog a) → w ≡ true → Counts prog a (depth - 1) l n → Counts prog i depth l n
+      count-wide e k h q = counts (λ f K.
+        let both = known-sequence prog l depth i f nz is e K in
+        let r = recursive (programAt prog) f in
+        let x = statementAt prog (depth - 1) a in
+        let wide : isWide r x ≡ true = width-told r prog (depth - 1) a (both .0) k ∙ h in
+        rw (at-step prog depth i l nz is e, invocations-wide r l 0 x (statementAt prog (depth - 1) b) wide) (use-counts q f (λ d. both .0)))
 
-      pub count-thin : (w : ℕ) → found ≡ step.Sequence a b → w ≡ min 2 (width r (statementAt p bs ix (depth - 1) a)) → w ≤ 0 →
-          n ≡ min mostCalls (length (invocations r (statementAt p bs ix (depth - 1) b) l 0)) →
-          n ≡ min mostCalls (length (invocations r (statementAt p bs ix depth i) l 0))
-      count-thin w e k h q =
-        let x = statementAt p bs ix (depth - 1) a in
-        let thin : isWide r x ≡ false = le-ltb 0 (width r x) (omega arith) in
-        rw (at-step p bs ix depth i l nz is e, invocations-thin r l 0 x (statementAt p bs ix (depth - 1) b) thin) q
+      pub count-thin : {w : Bool} → found ≡ step.Sequence a b → w ≡ ltb 0 (widthIn prog a) → w ≡ false → Counts prog b (depth - 1) l n → Counts prog i depth l n
+      count-thin e k h q = counts (λ f K.
+        let both = known-sequence prog l depth i f nz is e K in
+        let r = recursive (programAt prog) f in
+        let x = statementAt prog (depth - 1) a in
+        let thin : isWide r x ≡ false = width-told r prog (depth - 1) a (both .0) k ∙ h in
+        rw (at-step prog depth i l nz is e, invocations-thin r l 0 x (statementAt prog (depth - 1) b) thin) (use-counts q f (λ d. both .1)))
 
-      pub count-chosen : (c x : ℕ) → found ≡ step.Chooses c a b → x ≡ cond (holds (testAt p bs ix (depth - 1) c) l) a b →
-          n ≡ min mostCalls (length (invocations r (statementAt p bs ix (depth - 1) x) l 0)) →
-          n ≡ min mostCalls (length (invocations r (statementAt p bs ix depth i) l 0))
-      count-chosen c x e h q = q ∙ ap (λ (all : List Invocation). min mostCalls (length all))
-        (sym (chosen-means (λ s. invocations r s l 0) l (invocations-yes r l 0) (invocations-no r l 0) p bs ix depth i nz is e h))
+      pub count-chosen : {c x : ℕ} → found ≡ step.Chooses c a b → x ≡ cond (holds (testAt prog (depth - 1) c) l) a b → Counts prog x (depth - 1) l n →
+          Counts prog i depth l n
+      count-chosen e h q = counts (λ f K.
+        let r = recursive (programAt prog) f in
+        use-counts q f (known-chosen prog l depth i f nz is e h K) ∙ ap (λ (all : List Invocation). min mostCalls (length all))
+        (sym (chosen-means (λ s. invocations r s l 0) l (invocations-yes r l 0) (invocations-no r l 0) prog depth i nz is e h)))
 
-      pub count-branches : (q first second : ℕ) → found ≡ step.Branches q a b →
-          first ≡ min mostCalls (length (invocations r (statementAt p bs ix (depth - 1) a) l 0)) →
-          second ≡ min mostCalls (length (invocations r (statementAt p bs ix (depth - 1) b) l 0)) → n ≡ min mostCalls (first + second) →
-          n ≡ min mostCalls (length (invocations r (statementAt p bs ix depth i) l 0))
+      pub count-branches : {q first second : ℕ} → found ≡ step.Branches q a b → Counts prog a (depth - 1) l first → Counts prog b (depth - 1) l second →
+          n ≡ min mostCalls (first + second) → Counts prog i depth l n
       unfolding invocations
-      count-branches q first second e f g s =
-        let h = at-step p bs ix depth i l nz is e in
-        let x = statementAt p bs ix (depth - 1) a in
-        let y = statementAt p bs ix (depth - 1) b in
+      count-branches e cf cg s = counts (λ f K.
+        let both = known-branches prog l depth i f nz is e K in
+        let r = recursive (programAt prog) f in
+        let u = use-counts cf f (λ d. both .0) in
+        let v = use-counts cg f (λ d. both .1) in
+        let h = at-step prog depth i l nz is e in
+        let x = statementAt prog (depth - 1) a in
+        let y = statementAt prog (depth - 1) b in
         let m = 0 + length (invocations r x l 0) in
         let k = same-count r y l m 0 in
-        rw (h .2, length-append (invocations r x l 0) (invocations r y l m)) (omega arith)
+        rw (h .2, length-append (invocations r x l 0) (invocations r y l m)) (omega arith))
 
-    pub count-recursive : (g at n : ℕ) (rest : List ℕ) (b : Bool) → found ≡ step.Calls g at → b ≡ r g → b ≡ true →
-        rest ≡ remaining (removalsOf bs at) l → n ≡ min mostCalls (length (invoked 0 rest 0)) →
-        n ≡ min mostCalls (length (invocations r (statementAt p bs ix depth i) l 0))
-    count-recursive g at n rest b e h y q k =
-      let c = invoked-count 0 g (remaining (removalsOf bs at) l) 0 0 in
-      rw (at-step p bs ix depth i l nz is e, invocations-recursive r l 0 (removalsOf bs at) g (sym h ∙ y), ← c, ← q) k
+    pub count-recursive : {q at n : ℕ} {rest : List ℕ} {b : Bool} → found ≡ step.Calls q at → b ≡ ltb 0 (widthIn prog i) → b ≡ true →
+        rest ≡ remaining (removalsIn prog at) l → n ≡ min mostCalls (length (invoked 0 rest 0)) → Counts prog i depth l n
+    count-recursive {q = q} {at = at} e h y d k = counts (λ f K.
+      let r = recursive (programAt prog) f in
+      let c = invoked-count 0 q (remaining (removalsIn prog at) l) 0 0 in
+      rw (at-step prog depth i l nz is e, invocations-recursive r l 0 (removalsIn prog at) q (call-told prog l depth i f nz is e K h ∙ y), ← c, ← d) k)
 
-    pub count-other : (g at : ℕ) (b : Bool) → found ≡ step.Calls g at → b ≡ r g → b ≡ false →
-        0 ≡ min mostCalls (length (invocations r (statementAt p bs ix depth i) l 0))
-    count-other g at b e h y = rw (at-step p bs ix depth i l nz is e, invocations-other r l 0 (removalsOf bs at) g (sym h ∙ y))
+    pub count-other : {q at : ℕ} {b : Bool} → found ≡ step.Calls q at → b ≡ ltb 0 (widthIn prog i) → b ≡ false → Counts prog i depth l 0
+    count-other {q = q} {at = at} e h y = counts (λ f K.
+      let r = recursive (programAt prog) f in
+      rw (at-step prog depth i l nz is e, invocations-other r l 0 (removalsIn prog at) q (call-told prog l depth i f nz is e K h ∙ y)))
 
 pub ruleset counting = (
     needs, one-none, one-some, count-spent, count-idle, count-touches, count-wide,

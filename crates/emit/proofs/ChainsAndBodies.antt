@@ -9,7 +9,7 @@ use borrow.Author.Tests.{lt-ltb, le-ltb, eqb-true, ne-eqb}
 use lib.ListN.{length}
 use lib.Seq.{sets}
 use lib.Dec.{eqb}
-use Rattle.limits.specs.Sizes.{rootsAt, wireCount, slotsLength}
+use Rattle.limits.specs.Sizes.{wireCount, slotsLength}
 use Rattle.model.specs.Limits.{mostWires, mostDepth, mostCircuit}
 use Rattle.model.specs.Syntax.{Program, body}
 use Rattle.model.specs.Lists.{member}
@@ -24,15 +24,16 @@ use Rattle.model.specs.Answers.{usable}
 use Rattle.model.proofs.BooleanLaws.{byBool, byLt, byEq, not-zero, not-below}
 use Rattle.model.proofs.ReachAndRank.{body-out}
 use Rattle.agreement.proofs.AncillaStack.{only-reverse, entries-only, bodies-stacked, bodiesFrom-stacked, chains-stacked}
-use Rattle.table.specs.Index.{startOf, statementAt, programAt}
+use Rattle.decoded.specs.DecodedTable.{procedureCount, rootOf, statementAt, programAt}
 use Rattle.reach.proofs.MatrixOfAProgram.{count-at, body-at}
 use Rattle.step.proofs.StatementAtARecord.{spent-skip}
+use Rattle.widths.specs.KeptWidths.{WidthsKnown}
 use Rattle.events.specs.declared.Emit.{Emit}
 use Rattle.events.specs.Scan.{Progress, progress, emitOf, freed, placed, scan, slotProcedure, slotList, wireOf, slotOf, heldIn}
 use Rattle.events.specs.Slots.{appears, seekOf}
 use Rattle.events.specs.FollowedEvents.{Follows, Opens, Invokes}
 use Rattle.emit.specs.WalkPromises.{
-  Ready, Roomy, bodyDepth, chainsIn, bodiesUpTo, leftOf, rightOf, DoneIn, Call, walks-call, Left, Right, BodyLeft, walks-body-left, BodyRight,
+  Ready, Roomy, bodyDepth, KnownIn, chainsIn, bodiesUpTo, leftOf, rightOf, DoneIn, Call, walks-call, Left, Right, BodyLeft, walks-body-left, BodyRight,
   walks-body-right, Bodies,
   walks-bodies, Rest, walks-rest, Inner, walks-inner, Body, walks-body,
 }
@@ -49,21 +50,21 @@ use Rattle.emit.proofs.RightPart.{use-right}
 use Rattle.emit.proofs.NextBody.{seek-low, seek-none, seek-found}
 
 -- the bodies of a chain: where they end, and the whole of them
-module _ (bs ix : List ℕ) (p k : ℕ) where
+module _ (prog : List ℕ) (k : ℕ) where
   bodies-next : (n : ℕ) (known : List ℕ) (calls all : List Invocation) (next : ℕ) → 0 < next →
-      nextAfter next (bodiesUpTo bs ix p k n known calls all next .events) ≡ bodiesUpTo bs ix p k n known calls all next .next
+      nextAfter next (bodiesUpTo prog k n known calls all next .events) ≡ bodiesUpTo prog k n known calls all next .next
   unfolding bodiesUpTo nextAfter
   bodies-next zero known calls all next h = refl
   bodies-next (suc n) known calls all next h =
-    let P = programAt p bs ix in
-    let ch = chainsIn bs ix p k in
+    let P = programAt prog in
+    let ch = chainsIn prog k in
     let C = chains-stacked 0 P k in
     let out = bodies P ch (suc n) (bodiesFrom P ch n) known calls all next in
     stacked-after 0 next (out .next) (out .events)
       (bodies-stacked 0 P ch C (suc n) (bodiesFrom P ch n) (bodiesFrom-stacked 0 P ch C n) known calls all next h .0)
 
   bodies-all : (n : ℕ) (all : List Invocation) (next : ℕ) →
-      bodiesUpTo bs ix p k n [] all all next ≡ bodiesFrom (programAt p bs ix) (chainsIn bs ix p k) n all next
+      bodiesUpTo prog k n [] all all next ≡ bodiesFrom (programAt prog) (chainsIn prog k) n all next
   unfolding bodiesUpTo bodiesFrom
   bodies-all zero all next = refl
   bodies-all (suc n) all next = refl
@@ -73,101 +74,101 @@ none-done : (ws : List ℕ) (base n : ℕ) → DoneIn ws base n base []
 unfolding appears member
 none-done ws base n f = let e : base - base ≡ 0 = omega arith in rw e
 
-module _ {bs ix m : List ℕ} {p k : ℕ} {st : Emit} {room ws : List ℕ} {r : Emit} {room₁ ws₁ : List ℕ} where
-  use-body-left : {d : ℕ} → BodyLeft bs ix m p k st room ws r room₁ ws₁ d → Ready bs ix m p st ws → d ≤ mostWires →
-      Opens (leftOf bs ix p k (slotOf ws d) (st .next)) (bodyInvocations (programAt p bs ix) (chainsIn bs ix p k) (slotOf ws d) (st .next))
+module _ {prog : List ℕ} {k : ℕ} {st : Emit} {room ws : List ℕ} {r : Emit} {room₁ ws₁ : List ℕ} where
+  use-body-left : {d : ℕ} → BodyLeft prog k st room ws r room₁ ws₁ d → Ready prog st ws → d ≤ mostWires →
+      Opens (leftOf prog k (slotOf ws d) (st .next)) (bodyInvocations (programAt prog) (chainsIn prog k) (slotOf ws d) (st .next))
         st room ws r room₁ ws₁
   use-body-left (walks-body-left g) = g
 
-  use-body-right : {d first : ℕ} → BodyRight bs ix m p k st room ws r room₁ ws₁ d first → Ready bs ix m p st ws → d ≤ mostWires →
-      (st .status ≡ 0 → first + length (bodyInvocations (programAt p bs ix) (chainsIn bs ix p k) (slotOf ws d) first) ≤ wireCount) →
-      Follows (rightOf bs ix p k (slotOf ws d) first (st .next)) st room ws r room₁ ws₁
+  use-body-right : {d first : ℕ} → BodyRight prog k st room ws r room₁ ws₁ d first → Ready prog st ws → d ≤ mostWires →
+      (st .status ≡ 0 → first + length (bodyInvocations (programAt prog) (chainsIn prog k) (slotOf ws d) first) ≤ wireCount) →
+      Follows (rightOf prog k (slotOf ws d) first (st .next)) st room ws r room₁ ws₁
   use-body-right (walks-body-right g) = g
 
-  use-bodies : {base n j upto : ℕ} → Bodies bs ix m p k st room ws r room₁ ws₁ base n j upto → Ready bs ix m p st ws → base ≤ j →
+  use-bodies : {base n j upto : ℕ} → Bodies prog k st room ws r room₁ ws₁ base n j upto → Ready prog st ws → base ≤ j →
       upto ≤ st .next → base ≤ st .next → (known : List ℕ) → DoneIn ws base n j known →
-      Follows (bodiesUpTo bs ix p k n known (heldIn ws j (upto - j)) (heldIn ws base (st .next - base)) (st .next) .events) st room ws r room₁ ws₁
+      Follows (bodiesUpTo prog k n known (heldIn ws j (upto - j)) (heldIn ws base (st .next - base)) (st .next) .events) st room ws r room₁ ws₁
   use-bodies (walks-bodies g) = g
 
-  use-body : {base n d upto : ℕ} → Body bs ix m p k st room ws r room₁ ws₁ base n d upto → Ready bs ix m p st ws → base ≤ d → d < upto →
+  use-body : {base n d upto : ℕ} → Body prog k st room ws r room₁ ws₁ base n d upto → Ready prog st ws → base ≤ d → d < upto →
       upto ≤ st .next → (known : List ℕ) → DoneIn ws base n (d + 1) known →
       Follows
-        (let news = bodyInvocations (programAt p bs ix) (chainsIn bs ix p k) (slotOf ws d) (st .next) in
-          around (programAt p bs ix) (chainsIn bs ix p k) (slotOf ws d) (heldIn ws (d + 1) (upto - (d + 1))) (st .next)
-            (bodiesUpTo bs ix p k n known (heldIn ws (d + 1) (upto - (d + 1))) (heldIn ws base (st .next - base) ++ news)
+        (let news = bodyInvocations (programAt prog) (chainsIn prog k) (slotOf ws d) (st .next) in
+          around (programAt prog) (chainsIn prog k) (slotOf ws d) (heldIn ws (d + 1) (upto - (d + 1))) (st .next)
+            (bodiesUpTo prog k n known (heldIn ws (d + 1) (upto - (d + 1))) (heldIn ws base (st .next - base) ++ news)
               (st .next + length news)) .events)
         st room ws r room₁ ws₁
   use-body (walks-body g) = g
 
 -- the bodies of length n by the slot that is found
-module _ (bs ix : List ℕ) (p k : ℕ) (ws : List ℕ) (base n j upto : ℕ) where
-  no-bodies : (known : List ℕ) (calls all : List Invocation) (next : ℕ) → n ≡ 0 → [] ≡ bodiesUpTo bs ix p k n known calls all next .events
+module _ (prog : List ℕ) (k : ℕ) (ws : List ℕ) (base n j upto : ℕ) where
+  no-bodies : (known : List ℕ) (calls all : List Invocation) (next : ℕ) → n ≡ 0 → [] ≡ bodiesUpTo prog k n known calls all next .events
   unfolding bodiesUpTo
   no-bodies known calls all next e = rw e
 
   up-found : (v d : ℕ) → v ≡ n → (n ≡ 0 → ⊥) → base ≤ j → (known : List ℕ) → DoneIn ws base n j known → (all : List Invocation) (next : ℕ) →
       d ≡ seekOf ws base n j (upto - j) → d < upto →
-      (bodiesUpTo bs ix p k v known (heldIn ws j (upto - j)) all next ≡
-        around (programAt p bs ix) (chainsIn bs ix p k) (slotOf ws d) (heldIn ws (d + 1) (upto - (d + 1))) next
-          (bodiesUpTo bs ix p k v (slotProcedure ws d ∷ known) (heldIn ws (d + 1) (upto - (d + 1)))
-            (all ++ bodyInvocations (programAt p bs ix) (chainsIn bs ix p k) (slotOf ws d) next)
-            (next + length (bodyInvocations (programAt p bs ix) (chainsIn bs ix p k) (slotOf ws d) next))))
+      (bodiesUpTo prog k v known (heldIn ws j (upto - j)) all next ≡
+        around (programAt prog) (chainsIn prog k) (slotOf ws d) (heldIn ws (d + 1) (upto - (d + 1))) next
+          (bodiesUpTo prog k v (slotProcedure ws d ∷ known) (heldIn ws (d + 1) (upto - (d + 1)))
+            (all ++ bodyInvocations (programAt prog) (chainsIn prog k) (slotOf ws d) next)
+            (next + length (bodyInvocations (programAt prog) (chainsIn prog k) (slotOf ws d) next))))
       × DoneIn ws base n (d + 1) (slotProcedure ws d ∷ known)
   unfolding bodiesUpTo
   up-found zero d q nz le known S all next e h = absurd (nz (sym q))
   up-found (suc v) d q nz le known S all next e h =
     let low = seek-low ws base n j (upto - j) in
     let end : j + (upto - j) - (d + 1) ≡ upto - (d + 1) = omega arith in
-    let t = seek-found (programAt p bs ix) (chainsIn bs ix p k) ws base n (bodiesFrom (programAt p bs ix) (chainsIn bs ix p k) v) known all next j (upto - j) d
+    let t = seek-found (programAt prog) (chainsIn prog k) ws base n (bodiesFrom (programAt prog) (chainsIn prog k) v) known all next j (upto - j) d
           le S e (omega arith) in
     (rw (q, ← end) (t .0), t .1)
 
   up-none : (v d : ℕ) → v ≡ n → (n ≡ 0 → ⊥) → base ≤ j → (known : List ℕ) → DoneIn ws base n j known → (all : List Invocation) (next : ℕ) →
       d ≡ seekOf ws base n j (upto - j) → upto ≤ d →
-      bodiesUpTo bs ix p k v known (heldIn ws j (upto - j)) all next ≡ bodiesFrom (programAt p bs ix) (chainsIn bs ix p k) (v - 1) all next
+      bodiesUpTo prog k v known (heldIn ws j (upto - j)) all next ≡ bodiesFrom (programAt prog) (chainsIn prog k) (v - 1) all next
   unfolding bodiesUpTo
   up-none zero d q nz le known S all next e h = absurd (nz (sym q))
   up-none (suc v) d q nz le known S all next e h =
     let low = seek-low ws base n j (upto - j) in
     let less : suc v - 1 ≡ v = omega arith in
-    rw (less, q) (seek-none (programAt p bs ix) (chainsIn bs ix p k) ws base n
-      (bodiesFrom (programAt p bs ix) (chainsIn bs ix p k) v) known all next j (upto - j)
+    rw (less, q) (seek-none (programAt prog) (chainsIn prog k) ws base n
+      (bodiesFrom (programAt prog) (chainsIn prog k) v) known all next j (upto - j)
       le S (omega arith))
 
 -- the ways out of `emit_bodies`
-module _ {bs ix m : List ℕ} {p k : ℕ} {st : Emit} {room ws : List ℕ} {base n j upto : ℕ} where
-  pub bodies-stopped : (st .status ≡ 0 → ⊥) → Bodies bs ix m p k st room ws st room ws base n j upto
+module _ {prog : List ℕ} {k : ℕ} {st : Emit} {room ws : List ℕ} {base n j upto : ℕ} where
+  pub bodies-stopped : (st .status ≡ 0 → ⊥) → Bodies prog k st room ws st room ws base n j upto
   bodies-stopped h = walks-bodies (λ R a b c known S. follows-stopped _ st room ws h)
 
-  pub bodies-empty : n ≡ 0 → Bodies bs ix m p k st room ws st room ws base n j upto
+  pub bodies-empty : n ≡ 0 → Bodies prog k st room ws st room ws base n j upto
   bodies-empty e = walks-bodies (λ R a b c known S. follows-as
-    (no-bodies bs ix p k ws base n j upto known _ _ (st .next) e) (follows-none st room ws))
+    (no-bodies prog k ws base n j upto known _ _ (st .next) e) (follows-none st room ws))
 
   module _ {r : Emit} {room₁ ws₁ : List ℕ} where
     pub bodies-found : {d : ℕ} → (n ≡ 0 → ⊥) → d ≡ seekOf ws base n j (upto - j) → d < upto →
-        Body bs ix m p k st room ws r room₁ ws₁ base n d upto → Bodies bs ix m p k st room ws r room₁ ws₁ base n j upto
+        Body prog k st room ws r room₁ ws₁ base n d upto → Bodies prog k st room ws r room₁ ws₁ base n j upto
     bodies-found {d = d} nz e h A = walks-bodies (λ R le top over known S.
       let low = seek-low ws base n j (upto - j) in
-      let t = up-found bs ix p k ws base n j upto n d refl nz le known S (heldIn ws base (st .next - base)) (st .next) e h in
+      let t = up-found prog k ws base n j upto n d refl nz le known S (heldIn ws base (st .next - base)) (st .next) e h in
       follows-as (sym (ap (λ (o : Emitted). o .events) (t .0))) (use-body A R (omega arith) h top (slotProcedure ws d ∷ known) (t .1)))
 
     pub bodies-on : {d : ℕ} → (n ≡ 0 → ⊥) → d ≡ seekOf ws base n j (upto - j) → upto ≤ d →
-        Bodies bs ix m p k st room ws r room₁ ws₁ base (n - 1) base (st .next) → Bodies bs ix m p k st room ws r room₁ ws₁ base n j upto
+        Bodies prog k st room ws r room₁ ws₁ base (n - 1) base (st .next) → Bodies prog k st room ws r room₁ ws₁ base n j upto
     bodies-on {d = d} nz e h A = walks-bodies (λ R le top over known S.
       let all = heldIn ws base (st .next - base) in
       follows-as
-        (ap (λ (o : Emitted). o .events) (bodies-all bs ix p k (n - 1) all (st .next) ∙
-          sym (up-none bs ix p k ws base n j upto n d refl nz le known S all (st .next) e h)))
+        (ap (λ (o : Emitted). o .events) (bodies-all prog k (n - 1) all (st .next) ∙
+          sym (up-none prog k ws base n j upto n d refl nz le known S all (st .next) e h)))
         (use-bodies A R (le-refl base) (le-refl (st .next)) over [] (none-done ws base (n - 1))))
 
 -- the ways out of `emit_rest`: the bodies that follow and the right part
-module _ {bs ix m : List ℕ} {p k : ℕ} {st : Emit} {room ws : List ℕ} {base n d upto first : ℕ} where
-  pub rest-past : upto ≤ d → Rest bs ix m p k st room ws st room ws base n d upto first
+module _ {prog : List ℕ} {k : ℕ} {st : Emit} {room ws : List ℕ} {base n d upto first : ℕ} where
+  pub rest-past : upto ≤ d → Rest prog k st room ws st room ws base n d upto first
   rest-past h = walks-rest (λ R le lt top over Q known S. not-below d upto h lt)
 
   pub rest-walk : {a : Emit} {room₁ ws₁ : List ℕ} {b : Emit} {room₂ ws₂ : List ℕ} → d < upto →
-      Bodies bs ix m p k st room ws a room₁ ws₁ base n (d + 1) upto → BodyRight bs ix m p k a room₁ ws₁ b room₂ ws₂ d first →
-      Rest bs ix m p k st room ws b room₂ ws₂ base n d upto first
+      Bodies prog k st room ws a room₁ ws₁ base n (d + 1) upto → BodyRight prog k a room₁ ws₁ b room₂ ws₂ d first →
+      Rest prog k st room ws b room₂ ws₂ base n d upto first
   rest-walk {a = a} {ws₁ = ws₁} h A B = walks-rest (λ R le lt top over Q known S.
     let F = use-bodies A R (omega arith) (omega arith) (omega arith) known S in
     let slot : slotOf ws₁ d ≡ slotOf ws d = slot-kept ws ws₁ (st .next) (F .kept) d (omega arith) in
@@ -176,25 +177,25 @@ module _ {bs ix m : List ℕ} {p k : ℕ} {st : Emit} {room ws : List ℕ} {base
     let later = heldIn ws (d + 1) (upto - (d + 1)) in
     let all = heldIn ws base (st .next - base) in
     follows-append F (follows-if
-      (λ ok. rw (slot, follows-next F ok ∙ bodies-next bs ix p k n known later all (st .next) (R .some))) G))
+      (λ ok. rw (slot, follows-next F ok ∙ bodies-next prog k n known later all (st .next) (R .some))) G))
 
 -- the ways out of `emit_inner`: the left part, then the rest
-module _ {bs ix m : List ℕ} {p k : ℕ} {st : Emit} {room ws : List ℕ} {base n d upto : ℕ} where
-  use-rest : {first : ℕ} {r : Emit} {room₁ ws₁ : List ℕ} → Rest bs ix m p k st room ws r room₁ ws₁ base n d upto first →
-      Ready bs ix m p st ws → base ≤ d → d < upto → upto ≤ first → first ≤ st .next →
-      (st .status ≡ 0 → first + length (bodyInvocations (programAt p bs ix) (chainsIn bs ix p k) (slotOf ws d) first) ≤ wireCount) →
+module _ {prog : List ℕ} {k : ℕ} {st : Emit} {room ws : List ℕ} {base n d upto : ℕ} where
+  use-rest : {first : ℕ} {r : Emit} {room₁ ws₁ : List ℕ} → Rest prog k st room ws r room₁ ws₁ base n d upto first →
+      Ready prog st ws → base ≤ d → d < upto → upto ≤ first → first ≤ st .next →
+      (st .status ≡ 0 → first + length (bodyInvocations (programAt prog) (chainsIn prog k) (slotOf ws d) first) ≤ wireCount) →
       (known : List ℕ) → DoneIn ws base n (d + 1) known →
       Follows
-        (let inner = bodiesUpTo bs ix p k n known (heldIn ws (d + 1) (upto - (d + 1))) (heldIn ws base (st .next - base)) (st .next) in
-          inner .events ++ rightOf bs ix p k (slotOf ws d) first (inner .next)) st room ws r room₁ ws₁
+        (let inner = bodiesUpTo prog k n known (heldIn ws (d + 1) (upto - (d + 1))) (heldIn ws base (st .next - base)) (st .next) in
+          inner .events ++ rightOf prog k (slotOf ws d) first (inner .next)) st room ws r room₁ ws₁
   use-rest (walks-rest g) = g
 
-module _ {bs ix m : List ℕ} {p k : ℕ} {st : Emit} {room ws : List ℕ} {base n d upto : ℕ} where
-  pub inner-walk : {a : Emit} {room₁ ws₁ : List ℕ} {b : Emit} {room₂ ws₂ : List ℕ} → BodyLeft bs ix m p k st room ws a room₁ ws₁ d →
-      Rest bs ix m p k a room₁ ws₁ b room₂ ws₂ base n d upto (st .next) → Inner bs ix m p k st room ws b room₂ ws₂ base n d upto
+module _ {prog : List ℕ} {k : ℕ} {st : Emit} {room ws : List ℕ} {base n d upto : ℕ} where
+  pub inner-walk : {a : Emit} {room₁ ws₁ : List ℕ} {b : Emit} {room₂ ws₂ : List ℕ} → BodyLeft prog k st room ws a room₁ ws₁ d →
+      Rest prog k a room₁ ws₁ b room₂ ws₂ base n d upto (st .next) → Inner prog k st room ws b room₂ ws₂ base n d upto
   inner-walk {a = a} {ws₁ = ws₁} A B = walks-inner (λ R le lt top known S.
-    let P = programAt p bs ix in
-    let ch = chainsIn bs ix p k in
+    let P = programAt prog in
+    let ch = chainsIn prog k in
     let s = slotOf ws d in
     let small = R .low in
     let O = use-body-left A R (omega arith) in
@@ -204,7 +205,7 @@ module _ {bs ix m : List ℕ} {p k : ℕ} {st : Emit} {room ws : List ℕ} {base
     let later : heldIn ws₁ (d + 1) (upto - (d + 1)) ≡ heldIn ws (d + 1) (upto - (d + 1)) =
           held-kept ws ws₁ (st .next) (F .kept) (d + 1) (upto - (d + 1)) (omega arith) in
     let up : a .status ≡ 0 → a .next ≡ st .next + length news = λ ok. follows-next F ok
-          ∙ left-next bs ix p k (recursive P (s .procedure)) (body P (s .procedure)) (s .list) (under (s .ancilla)) (st .next) (R .some) in
+          ∙ left-next prog k (recursive P (s .procedure)) (body P (s .procedure)) (s .list) (under (s .ancilla)) (st .next) (R .some) in
     let done₁ : DoneIn ws₁ base n (d + 1) known = λ f. S f ∙ sym (appears-kept ws ws₁ (st .next) (F .kept) base (d + 1 - base) f n (omega arith)) in
     let R₁ = ready-then R F in
     let all : a .status ≡ 0 → heldIn ws₁ base (a .next - base) ≡ heldIn ws base (st .next - base) ++ news = λ ok.
@@ -215,19 +216,19 @@ module _ {bs ix m : List ℕ} {p k : ℕ} {st : Emit} {room ws : List ℕ} {base
     let G = use-rest B R₁ le lt top (F .rises) (λ ok. rw slot (let z = up ok in let l = R₁ .low in omega arith)) known done₁ in
     follows-append F (follows-if (λ ok. rw (slot, later, all ok, up ok)) G))
 
-  use-inner : {r : Emit} {room₁ ws₁ : List ℕ} → Inner bs ix m p k st room ws r room₁ ws₁ base n d upto →
-      Ready bs ix m p st ws → base ≤ d → d < upto → upto ≤ st .next → (known : List ℕ) → DoneIn ws base n (d + 1) known →
+  use-inner : {r : Emit} {room₁ ws₁ : List ℕ} → Inner prog k st room ws r room₁ ws₁ base n d upto →
+      Ready prog st ws → base ≤ d → d < upto → upto ≤ st .next → (known : List ℕ) → DoneIn ws base n (d + 1) known →
       Follows
-        (let news = bodyInvocations (programAt p bs ix) (chainsIn bs ix p k) (slotOf ws d) (st .next) in
-          let inner = bodiesUpTo bs ix p k n known (heldIn ws (d + 1) (upto - (d + 1))) (heldIn ws base (st .next - base) ++ news)
+        (let news = bodyInvocations (programAt prog) (chainsIn prog k) (slotOf ws d) (st .next) in
+          let inner = bodiesUpTo prog k n known (heldIn ws (d + 1) (upto - (d + 1))) (heldIn ws base (st .next - base) ++ news)
             (st .next + length news) in
-          leftOf bs ix p k (slotOf ws d) (st .next) ++ (inner .events ++ rightOf bs ix p k (slotOf ws d) (st .next) (inner .next)))
+          leftOf prog k (slotOf ws d) (st .next) ++ (inner .events ++ rightOf prog k (slotOf ws d) (st .next) (inner .next)))
         st room ws r room₁ ws₁
   use-inner (walks-inner g) = g
 
 -- the ways out of `emit_body`: entry gates, what is inside them, entry gates reversed
-module _ {bs ix m : List ℕ} {p k : ℕ} {st : Emit} {room ws : List ℕ} {base n d upto : ℕ} where
-  pub body-past : upto ≤ d → Body bs ix m p k st room ws st room ws base n d upto
+module _ {prog : List ℕ} {k : ℕ} {st : Emit} {room ws : List ℕ} {base n d upto : ℕ} where
+  pub body-past : upto ≤ d → Body prog k st room ws st room ws base n d upto
   body-past h = walks-body (λ R le lt top known S. not-below d upto h lt)
 
 around-is : (P : Program) (ch : Chains) (d : Invocation) (later : List Invocation) (next : ℕ) (inner : Emitted) →
@@ -242,12 +243,12 @@ around-is P ch d later next inner =
     let E = reverse (allEntryGates d later) in
     rw (append-assoc L (inner .events ++ Q) E, append-assoc (inner .events) Q E)
 
-module _ {bs ix m : List ℕ} {p k : ℕ} {st : Emit} {room ws : List ℕ} {base n d upto : ℕ} where
+module _ {prog : List ℕ} {k : ℕ} {st : Emit} {room ws : List ℕ} {base n d upto : ℕ} where
   pub body-walk : {a : Emit} {room₁ : List ℕ} {b : Emit} {room₂ ws₂ : List ℕ} {r : Emit} {room₃ : List ℕ} → d < upto →
       progress a room₁ ≡ scan (allEntryGates (slotOf ws d) (heldIn ws (d + 1) (upto - (d + 1)))) (progress st room) →
-      Inner bs ix m p k a room₁ ws b room₂ ws₂ base n d upto →
+      Inner prog k a room₁ ws b room₂ ws₂ base n d upto →
       progress r room₃ ≡ scan (reverse (allEntryGates (slotOf ws₂ d) (heldIn ws₂ (d + 1) (upto - (d + 1))))) (progress b room₂) →
-      Body bs ix m p k st room ws r room₃ ws₂ base n d upto
+      Body prog k st room ws r room₃ ws₂ base n d upto
   body-walk {a = a} {room₁ = room₁} {b = b} {room₂ = room₂} {ws₂ = ws₂} {r = r} {room₃ = room₃} h e A q = walks-body (λ R le lt top known S.
     let s = slotOf ws d in
     let later = heldIn ws (d + 1) (upto - (d + 1)) in
@@ -259,42 +260,54 @@ module _ {bs ix m : List ℕ} {p k : ℕ} {st : Emit} {room ws : List ℕ} {base
     let slot : slotOf ws₂ d ≡ s = slot-kept ws ws₂ (a .next) (G .kept) d (omega arith) in
     let held : heldIn ws₂ (d + 1) (upto - (d + 1)) ≡ later = held-kept ws ws₂ (a .next) (G .kept) (d + 1) (upto - (d + 1)) (omega arith) in
     let H = follows-gates (reverse E) b room₂ ws₂ r room₃ (only-reverse E only) (rw (slot, held) at q) in
-    let news = bodyInvocations (programAt p bs ix) (chainsIn bs ix p k) s (st .next) in
-    let inner = bodiesUpTo bs ix p k n known later (heldIn ws base (st .next - base) ++ news) (st .next + length news) in
-    let G₁ : Follows (leftOf bs ix p k s (st .next) ++ (inner .events ++ rightOf bs ix p k s (st .next) (inner .next))) a room₁ ws b room₂ ws₂ =
+    let news = bodyInvocations (programAt prog) (chainsIn prog k) s (st .next) in
+    let inner = bodiesUpTo prog k n known later (heldIn ws base (st .next - base) ++ news) (st .next + length news) in
+    let G₁ : Follows (leftOf prog k s (st .next) ++ (inner .events ++ rightOf prog k s (st .next) (inner .next))) a room₁ ws b room₂ ws₂ =
           follows-as (rw same) G in
-    follows-as (around-is (programAt p bs ix) (chainsIn bs ix p k) s later (st .next) inner) (follows-append F (follows-append G₁ H)))
+    follows-as (around-is (programAt prog) (chainsIn prog k) s later (st .next) inner) (follows-append F (follows-append G₁ H)))
 
 -- the body of f by its record
-body-is : (p : ℕ) (bs ix : List ℕ) (f i depth : ℕ) → i ≡ startOf ix (rootsAt + f) → depth ≡ bodyDepth p f →
-    statementAt p bs ix depth i ≡ body (programAt p bs ix) f
-body-is p bs ix f i depth at deep = byLt p f
-    (λ lt. let none : depth ≡ 0 = deep ∙ rw (lt-ltb p f lt) in
-      spent-skip p bs ix depth i none ∙ sym (body-out (programAt p bs ix) f (rw (count-at p bs ix) lt)))
-    (λ le. let all : depth ≡ mostDepth = deep ∙ rw (le-ltb p f le) in rw (all, at) (sym (body-at p bs ix f le)))
+module _ (prog : List ℕ) (f i depth : ℕ) (at : i ≡ rootOf prog f) (deep : depth ≡ bodyDepth (procedureCount prog) f) where
+  abbrev p : ℕ
+  p = procedureCount prog
 
-under-roomy : (p f depth w : ℕ) (cs : Controls) → depth ≡ bodyDepth p f → cs ≡ under w → Roomy depth cs
-unfolding withControl insert
-under-roomy p f depth w cs deep e = byLt p f
-    (λ lt. let none : depth ≡ 0 = deep ∙ rw (lt-ltb p f lt) in rw e (record { ones = omega arith; zeros = omega arith }))
-    (λ le. let all : depth ≡ mostDepth = deep ∙ rw (le-ltb p f le) in rw e (record { ones = omega arith; zeros = omega arith }))
+  body-none : p < f → depth ≡ 0
+  body-none lt = deep ∙ rw (lt-ltb p f lt)
+
+  body-all : f ≤ p → depth ≡ mostDepth
+  body-all le = deep ∙ rw (le-ltb p f le)
+
+  body-is : statementAt prog depth i ≡ body (programAt prog) f
+  body-is = byLt p f
+      (λ lt. spent-skip prog depth i (body-none lt) ∙ sym (body-out (programAt prog) f (rw (count-at prog) lt)))
+      (λ le. rw (body-all le, at) (sym (body-at prog f le)))
+
+  under-roomy : (w : ℕ) (cs : Controls) → cs ≡ under w → Roomy depth cs
+  unfolding withControl insert
+  under-roomy w cs e = byLt p f
+      (λ lt. let none = body-none lt in rw e (record { ones = omega arith; zeros = omega arith }))
+      (λ le. let all = body-all le in rw e (record { ones = omega arith; zeros = omega arith }))
+
+  body-known : WidthsKnown prog → KnownIn prog f depth i
+  body-known known nz = byLt p f (λ lt. absurd (nz (body-none lt))) (λ le. rw (body-all le, at) (known f le))
 
 -- the ways out of `emit_body_left` and `emit_body_right`
-module _ {bs ix m : List ℕ} {p k : ℕ} {st : Emit} {room ws : List ℕ} {d : ℕ} {r : Emit} {room₁ ws₁ : List ℕ} {f i depth w : ℕ} {l : List ℕ}
-    {cs : Controls} (is-f : f ≡ slotProcedure ws d) (is-l : l ≡ slotList ws d) (at : i ≡ startOf ix (rootsAt + f)) (deep : depth ≡ bodyDepth p f)
-    (is-w : w ≡ wireOf d) (is-cs : cs ≡ under w) where
-  pub body-left-walk : Left bs ix m p k st room ws r room₁ ws₁ f i depth l cs → BodyLeft bs ix m p k st room ws r room₁ ws₁ d
+module _ {prog : List ℕ} {k : ℕ} {st : Emit} {room ws : List ℕ} {d : ℕ} {r : Emit} {room₁ ws₁ : List ℕ} {f i depth w : ℕ} {l : List ℕ}
+    {cs : Controls} (is-f : f ≡ slotProcedure ws d) (is-l : l ≡ slotList ws d) (at : i ≡ rootOf prog f)
+    (deep : depth ≡ bodyDepth (procedureCount prog) f) (is-w : w ≡ wireOf d) (is-cs : cs ≡ under w) where
+  pub body-left-walk : Left prog k st room ws r room₁ ws₁ i depth l cs → BodyLeft prog k st room ws r room₁ ws₁ d
   unfolding slotOf
   body-left-walk A = walks-body-left (λ R h.
-    let O = use-left A R (under-roomy p f depth w cs deep is-cs) in
-    rw (body-is p bs ix f i depth at deep, is-f, is-l, is-cs, is-w) at O)
+    let O = use-left f A (body-known prog f i depth at deep (R .widths)) R (under-roomy prog f i depth at deep w cs is-cs) in
+    rw (body-is prog f i depth at deep, is-f, is-l, is-cs, is-w) at O)
 
-  pub body-right-walk : {first : ℕ} → Right bs ix m p k st room ws r room₁ ws₁ f i depth l cs first →
-      BodyRight bs ix m p k st room ws r room₁ ws₁ d first
+  pub body-right-walk : {first : ℕ} → Right prog k st room ws r room₁ ws₁ i depth l cs first →
+      BodyRight prog k st room ws r room₁ ws₁ d first
   unfolding slotOf
   body-right-walk {first = first} A = walks-body-right (λ R h Q.
-    let F = use-right A R (under-roomy p f depth w cs deep is-cs) (λ ok. rw (body-is p bs ix f i depth at deep, is-f, is-l) (Q ok)) in
-    rw (body-is p bs ix f i depth at deep, is-f, is-l, is-cs, is-w) at F)
+    let F = use-right f A (body-known prog f i depth at deep (R .widths)) R (under-roomy prog f i depth at deep w cs is-cs)
+          (λ ok. rw (body-is prog f i depth at deep, is-f, is-l) (Q ok)) in
+    rw (body-is prog f i depth at deep, is-f, is-l, is-cs, is-w) at F)
 
 -- a chain's end: its first ancilla is flipped back, and all its ancillas are given back
 finish-between : (g : Gate) (a : ℕ) (b : Emit) (room : List ℕ) → a ≤ b .next →
@@ -368,33 +381,33 @@ taken-low {f = f} {l = l} {cs = cs} {st = st} {a = a} A some space small ok =
     (e, rw (le-ltb mostWires (st .next) le))
 
 -- the ways out of `emit_call`
-module _ {bs ix m : List ℕ} {p k : ℕ} {st : Emit} {room ws : List ℕ} {f : ℕ} {l : List ℕ} {cs : Controls} where
-  pub call-stopped : (st .status ≡ 0 → ⊥) → Call bs ix m p k st room ws st room ws f l cs
+module _ {prog : List ℕ} {k : ℕ} {st : Emit} {room ws : List ℕ} {f : ℕ} {l : List ℕ} {cs : Controls} where
+  pub call-stopped : (st .status ≡ 0 → ⊥) → Call prog k st room ws st room ws f l cs
   call-stopped h = walks-call (λ R. follows-stopped _ st room ws h)
 
   module _ {n : ℕ} (is : n ≡ length l) where
-    pub call-empty : n ≡ 0 → Call bs ix m p k st room ws st room ws f l cs
-    call-empty e = walks-call (λ R. follows-as (no-start (chainsIn bs ix p k) f l cs (st .next) (sym is ∙ e)) (follows-none st room ws))
+    pub call-empty : n ≡ 0 → Call prog k st room ws st room ws f l cs
+    call-empty e = walks-call (λ R. follows-as (no-start (chainsIn prog k) f l cs (st .next) (sym is ∙ e)) (follows-none st room ws))
 
     module _ {a : Emit} {room₁ ws₁ : List ℕ} (nz : n ≡ 0 → ⊥) (A : Invokes f l cs st room ws a room₁ ws₁) where
       pub call-flat : {r : Emit} {room₂ : List ℕ} → k ≡ 0 →
           progress r room₂ ≡ scan (places (flip cs (wireOf (st .next))) ∷ frees (st .next) ∷ []) (progress a room₁) →
-          Call bs ix m p k st room ws r room₂ ws₁ f l cs
+          Call prog k st room ws r room₂ ws₁ f l cs
       call-flat e q = walks-call (λ R.
         let O = use-invokes A (R .space) in
         follows-as
           (ap (λ (es : List Event). invokes l cs (st .next) ++ (es ++ (places (flip cs (st .next)) ∷ frees (st .next) ∷ [])))
-              (chain-none (programAt p bs ix) k f l (st .next) e)
-            ∙ start-is (chainsIn bs ix p k) f l cs (st .next) (λ e. nz (is ∙ e)))
+              (chain-none (programAt prog) k f l (st .next) e)
+            ∙ start-is (chainsIn prog k) f l cs (st .next) (λ e. nz (is ∙ e)))
           (follows-finish (flip cs (wireOf (st .next))) (flip cs (st .next)) (O .follows)
             (λ ok. ap (flip cs) (taken-low A (λ e. nz (is ∙ e)) (R .space) (R .low) ok .1)) q))
 
       pub call-chain : {b : Emit} {room₂ ws₂ : List ℕ} {r : Emit} {room₃ : List ℕ} → (k ≡ 0 → ⊥) →
-          Bodies bs ix m p (k - 1) a room₁ ws₁ b room₂ ws₂ (st .next) n (st .next) (a .next) →
+          Bodies prog (k - 1) a room₁ ws₁ b room₂ ws₂ (st .next) n (st .next) (a .next) →
           progress r room₃ ≡ scan (places (flip cs (wireOf (st .next))) ∷ frees (st .next) ∷ []) (progress b room₂) →
-          Call bs ix m p k st room ws r room₃ ws₂ f l cs
+          Call prog k st room ws r room₃ ws₂ f l cs
       call-chain {b = b} {room₂ = room₂} {ws₂ = ws₂} h B q = walks-call (λ R.
-        let P = programAt p bs ix in
+        let P = programAt prog in
         let some : length l ≡ 0 → ⊥ = λ e. nz (is ∙ e) in
         let next = st .next in
         let end = places (flip cs next) ∷ frees next ∷ [] in
@@ -406,14 +419,14 @@ module _ {bs ix m : List ℕ} {p k : ℕ} {st : Emit} {room ws : List ℕ} {f : 
                     rw (one-more f l cs next some .1) (omega arith) in
               rw one (O .held ok ∙ one-more f l cs next some .1) in
         let events : a .status ≡ 0 →
-              bodiesUpTo bs ix p (k - 1) n [] (heldIn ws₁ next (a .next - next)) (heldIn ws₁ next (a .next - next)) (a .next) .events
+              bodiesUpTo prog (k - 1) n [] (heldIn ws₁ next (a .next - next)) (heldIn ws₁ next (a .next - next)) (a .next) .events
                 ≡ chainsWithin P k f l next = λ ok.
               let up : a .next ≡ suc next = let z = taken-low A some (R .space) (R .low) ok .0 in omega arith in
-              rw (held ok, up, is) (ap (λ (o : Emitted). o .events) (bodies-all bs ix p (k - 1) (length l) (invocation f l next ∷ []) (suc next))
+              rw (held ok, up, is) (ap (λ (o : Emitted). o .events) (bodies-all prog (k - 1) (length l) (invocation f l next ∷ []) (suc next))
                 ∙ chain-is P k f l next h) in
         let both = follows-append F (follows-if events G) in
         follows-as
-          (append-assoc (invokes l cs next) (chainsWithin P k f l next) end ∙ start-is (chainsIn bs ix p k) f l cs next some)
+          (append-assoc (invokes l cs next) (chainsWithin P k f l next) end ∙ start-is (chainsIn prog k) f l cs next some)
           (follows-finish (flip cs (wireOf next)) (flip cs next) both (λ ok. ap (flip cs) (taken-low A some (R .space) (R .low) (was-ok G ok) .1)) q))
 
 pub ruleset chaining = (

@@ -2,54 +2,37 @@
 use mathlib.Core.Path.{_≡_, refl, sym, ap, _∙_, subst}
 use mathlib.Core.Bool.{Bool, true, false, cond}
 use mathlib.Core.List.{List, [], _∷_, _++_}
-use Prim.Native.Nat.{ℕ, _+_, _-_, _≤_, _<_, min}
+use Prim.Native.Nat.{ℕ, _+_, _-_, _≤_, _<_}
 use native.Mathlib.Omega.{arith}
 use borrow.Author.Needs.{needs}
-use borrow.Author.Tests.{lt-ltb, le-ltb}
+use lib.Dec.{ltb}
 use lib.ListN.{length, length-append}
 use Rattle.limits.specs.Sizes.{slotsLength}
 use Rattle.model.specs.Syntax.{Number, Statement, skip, NOT, qcase}
 use Rattle.model.specs.Lists.{remaining, touched, holds}
-use Rattle.model.specs.Reach.{recursive, width}
+use Rattle.model.specs.Reach.{recursive}
 use Rattle.model.specs.Gates.{Controls, withControl, flip}
-use Rattle.model.specs.Emission.{Event, places, Chains, whole, Invocation, invoked, isWide, invocations, invokes, left}
+use Rattle.model.specs.Emission.{Event, places, Chains, whole, Invocation, invoked, invocations, invokes, left}
 use Rattle.agreement.proofs.EmissionClauses.{
   left-wide, left-thin, left-yes, left-no, left-recursive, left-other, invocations-wide, invocations-thin, invocations-yes, invocations-no,
   invocations-recursive, invocations-other,
 }
 use Rattle.circuit.specs.GatesToWrite.{withControlWithin}
-use Rattle.records.specs.Fields.{removalsOf}
-use Rattle.table.specs.Index.{testAt, statementAt, programAt}
+use Rattle.decoded.specs.DecodedTable.{widthIn, removalsIn, testAt, statementAt, programAt}
 use Rattle.step.specs.declared.Step.{Step}
 use Rattle.step.specs.declared.Step.the-variants as step
 use Rattle.step.specs.Steps.{stepAt}
 use Rattle.step.proofs.StatementAtARecord.{Idle, at-step, idle-skip, spent-skip}
 use Rattle.step.proofs.ChosenBranch.{chosen-means}
-use Rattle.reach.specs.Matrix.{recursiveIn}
-use Rattle.reach.proofs.ReachByMatrix.{recursive-entry}
 use Rattle.events.specs.declared.Emit.{Emit}
 use Rattle.events.specs.Scan.{Progress, progress, emitOf, scan, heldIn}
 use Rattle.events.specs.FollowedEvents.{Follows, Opens, Invokes, fills-slot}
-use Rattle.emit.specs.WalkPromises.{Ready, Roomy, chainsIn, Whole, Call, Left, walks-left}
+use Rattle.emit.specs.WalkPromises.{Ready, Roomy, chainsIn, KnownIn, Whole, Call, Left, walks-left}
 use Rattle.events.proofs.ScanOfEvents.{scan-was}
 use Rattle.events.proofs.ConsecutiveWalks.{follows-none, follows-stopped, follows-gates, follows-next, follows-if, follows-append, held-kept, held-append}
 use Rattle.emit.proofs.WalkPreconditions.{ready-then}
+use Rattle.emit.proofs.KnownParts.{width-told, call-told, known-sequence, known-chosen, known-branches}
 use Rattle.emit.proofs.WholeStatement.{within-is, roomy-less, roomy-with-control, whole-next, left-next, use-whole, use-call}
-
--- the matrix says which calls of f are recursive
-pub recursive-is : {bs ix m : List ℕ} {p : ℕ} {st : Emit} {ws : List ℕ} (f : ℕ) → Ready bs ix m p st ws → recursiveIn m f ≡ recursive (programAt p bs ix) f
-recursive-is {bs = bs} {ix = ix} {p = p} f R = rw (R .reach) (recursive-entry p bs ix (R .few) f)
-
--- and by it whether a part is wide
-module _ {r r₁ : ℕ → Bool} (s : Statement) {w : ℕ} (e : r₁ ≡ r) (is : w ≡ min 2 (width r₁ s)) where
-  same-width : w ≡ min 2 (width r s)
-  same-width = rw (← e) is
-
-  pub wide-so : 0 < w → isWide r s ≡ true
-  wide-so h = let q = same-width in lt-ltb 0 (width r s) (omega arith)
-
-  pub wide-not : w ≤ 0 → isWide r s ≡ false
-  wide-not h = let q = same-width in le-ltb 0 (width r s) (omega arith)
 
 -- nothing was refused before
 pub was-ok : {es : List Event} {st : Emit} {room ws : List ℕ} {r : Emit} {room₁ ws₁ : List ℕ} →
@@ -68,11 +51,11 @@ module _ {st : Emit} {room ws : List ℕ} {r : Emit} {room₁ ws₁ : List ℕ} 
   unfolding heldIn
   opens-none F = record { follows = F; held = λ z. refl }
 
-  pub use-left : {bs ix m : List ℕ} {p k f i depth : ℕ} {l : List ℕ} {cs : Controls} → Left bs ix m p k st room ws r room₁ ws₁ f i depth l cs →
-      Ready bs ix m p st ws → Roomy depth cs →
-      Opens (left (chainsIn bs ix p k) (recursive (programAt p bs ix) f) (statementAt p bs ix depth i) l cs (st .next))
-        (invocations (recursive (programAt p bs ix) f) (statementAt p bs ix depth i) l (st .next)) st room ws r room₁ ws₁
-  use-left (walks-left g) = g
+  pub use-left : (f : ℕ) {prog : List ℕ} {k i depth : ℕ} {l : List ℕ} {cs : Controls} → Left prog k st room ws r room₁ ws₁ i depth l cs →
+      KnownIn prog f depth i → Ready prog st ws → Roomy depth cs →
+      Opens (left (chainsIn prog k) (recursive (programAt prog) f) (statementAt prog depth i) l cs (st .next))
+        (invocations (recursive (programAt prog) f) (statementAt prog depth i) l (st .next)) st room ws r room₁ ws₁
+  use-left f (walks-left g) = g f
 
   pub use-invokes : {f : ℕ} {l : List ℕ} {cs : Controls} → Invokes f l cs st room ws r room₁ ws₁ → slotsLength ≤ length ws →
       Opens (invokes l cs (st .next)) (invoked f l (st .next)) st room ws r room₁ ws₁
@@ -96,44 +79,44 @@ module _ (ch : Chains) (r : ℕ → Bool) (l : List ℕ) (cs : Controls) (next :
   left-case rs a q x y e t = (rw (e, t), rw e)
 
 -- a part whole, then a part's left
-module _ (bs ix : List ℕ) (p k : ℕ) (f : ℕ) (l : List ℕ) (cs : Controls) (x y : Statement) where
-  whole-then-left : {m : List ℕ} {st : Emit} {room ws : List ℕ} {r : Emit} {room₁ ws₁ : List ℕ} {b : Emit} {room₂ ws₂ : List ℕ} →
-      Ready bs ix m p st ws → Follows (whole (chainsIn bs ix p k) x l cs (st .next)) st room ws r room₁ ws₁ →
-      Opens (left (chainsIn bs ix p k) (recursive (programAt p bs ix) f) y l cs (r .next))
-        (invocations (recursive (programAt p bs ix) f) y l (r .next)) r room₁ ws₁ b room₂ ws₂ →
-      Opens (whole (chainsIn bs ix p k) x l cs (st .next) ++ left (chainsIn bs ix p k) (recursive (programAt p bs ix) f) y l cs (st .next))
-        (invocations (recursive (programAt p bs ix) f) y l (st .next)) st room ws b room₂ ws₂
+module _ (prog : List ℕ) (k : ℕ) (f : ℕ) (l : List ℕ) (cs : Controls) (x y : Statement) where
+  whole-then-left : {st : Emit} {room ws : List ℕ} {r : Emit} {room₁ ws₁ : List ℕ} {b : Emit} {room₂ ws₂ : List ℕ} →
+      Ready prog st ws → Follows (whole (chainsIn prog k) x l cs (st .next)) st room ws r room₁ ws₁ →
+      Opens (left (chainsIn prog k) (recursive (programAt prog) f) y l cs (r .next))
+        (invocations (recursive (programAt prog) f) y l (r .next)) r room₁ ws₁ b room₂ ws₂ →
+      Opens (whole (chainsIn prog k) x l cs (st .next) ++ left (chainsIn prog k) (recursive (programAt prog) f) y l cs (st .next))
+        (invocations (recursive (programAt prog) f) y l (st .next)) st room ws b room₂ ws₂
   whole-then-left {st = st} {r = r} {ws₂ = ws₂} R F O =
-    let back : r .status ≡ 0 → r .next ≡ st .next = λ ok. follows-next F ok ∙ whole-next bs ix p k x l cs (st .next) (R .some) in
-    let rec = recursive (programAt p bs ix) f in
+    let back : r .status ≡ 0 → r .next ≡ st .next = λ ok. follows-next F ok ∙ whole-next prog k x l cs (st .next) (R .some) in
+    let rec = recursive (programAt prog) f in
     record {
-      follows = follows-append F (follows-if (λ ok. ap (λ (n : ℕ). left (chainsIn bs ix p k) rec y l cs n) (back ok)) (O .follows));
+      follows = follows-append F (follows-if (λ ok. ap (λ (n : ℕ). left (chainsIn prog k) rec y l cs n) (back ok)) (O .follows));
       held = λ ok. subst (λ (n : ℕ). heldIn ws₂ n (length (invocations rec y l n)) ≡ invocations rec y l n) (back (was-ok (O .follows) ok)) (O .held ok) }
 
 -- a part's left, then another's
-module _ (bs ix : List ℕ) (p k : ℕ) (f : ℕ) (l : List ℕ) (cs₁ cs₂ : Controls) (x y : Statement) where
-  left-then-left : {m : List ℕ} {st : Emit} {room ws : List ℕ} {r : Emit} {room₁ ws₁ : List ℕ} {b : Emit} {room₂ ws₂ : List ℕ} →
-      Ready bs ix m p st ws →
-      Opens (left (chainsIn bs ix p k) (recursive (programAt p bs ix) f) x l cs₁ (st .next))
-        (invocations (recursive (programAt p bs ix) f) x l (st .next)) st room ws r room₁ ws₁ →
-      Opens (left (chainsIn bs ix p k) (recursive (programAt p bs ix) f) y l cs₂ (r .next))
-        (invocations (recursive (programAt p bs ix) f) y l (r .next)) r room₁ ws₁ b room₂ ws₂ →
+module _ (prog : List ℕ) (k : ℕ) (f : ℕ) (l : List ℕ) (cs₁ cs₂ : Controls) (x y : Statement) where
+  left-then-left : {st : Emit} {room ws : List ℕ} {r : Emit} {room₁ ws₁ : List ℕ} {b : Emit} {room₂ ws₂ : List ℕ} →
+      Ready prog st ws →
+      Opens (left (chainsIn prog k) (recursive (programAt prog) f) x l cs₁ (st .next))
+        (invocations (recursive (programAt prog) f) x l (st .next)) st room ws r room₁ ws₁ →
+      Opens (left (chainsIn prog k) (recursive (programAt prog) f) y l cs₂ (r .next))
+        (invocations (recursive (programAt prog) f) y l (r .next)) r room₁ ws₁ b room₂ ws₂ →
       Opens
-        (left (chainsIn bs ix p k) (recursive (programAt p bs ix) f) x l cs₁ (st .next) ++
-          left (chainsIn bs ix p k) (recursive (programAt p bs ix) f) y l cs₂
-            (st .next + length (invocations (recursive (programAt p bs ix) f) x l (st .next))))
-        (invocations (recursive (programAt p bs ix) f) x l (st .next) ++
-          invocations (recursive (programAt p bs ix) f) y l (st .next + length (invocations (recursive (programAt p bs ix) f) x l (st .next))))
+        (left (chainsIn prog k) (recursive (programAt prog) f) x l cs₁ (st .next) ++
+          left (chainsIn prog k) (recursive (programAt prog) f) y l cs₂
+            (st .next + length (invocations (recursive (programAt prog) f) x l (st .next))))
+        (invocations (recursive (programAt prog) f) x l (st .next) ++
+          invocations (recursive (programAt prog) f) y l (st .next + length (invocations (recursive (programAt prog) f) x l (st .next))))
         st room ws b room₂ ws₂
   left-then-left {st = st} {r = r} {ws₁ = ws₁} {ws₂ = ws₂} R O Q =
-    let rec = recursive (programAt p bs ix) f in
+    let rec = recursive (programAt prog) f in
     let n = st .next in
     let xs = invocations rec x l n in
     let ys = invocations rec y l (n + length xs) in
-    let up : r .status ≡ 0 → r .next ≡ n + length xs = λ ok. follows-next (O .follows) ok ∙ left-next bs ix p k rec x l cs₁ n (R .some) in
+    let up : r .status ≡ 0 → r .next ≡ n + length xs = λ ok. follows-next (O .follows) ok ∙ left-next prog k rec x l cs₁ n (R .some) in
     record {
       follows = follows-append (O .follows)
-        (follows-if (λ ok. ap (λ (v : ℕ). left (chainsIn bs ix p k) rec y l cs₂ v) (up ok)) (Q .follows));
+        (follows-if (λ ok. ap (λ (v : ℕ). left (chainsIn prog k) rec y l cs₂ v) (up ok)) (Q .follows));
       held = λ ok.
         let before = was-ok (Q .follows) ok in
         let top : r .next ≡ n + length xs = up before in
@@ -144,105 +127,107 @@ module _ (bs ix : List ℕ) (p k : ℕ) (f : ℕ) (l : List ℕ) (cs₁ cs₂ : 
         rw (length-append xs ys, held-append ws₂ n (length xs) (length ys), first, second) }
 
 -- the ways out of `emit_left`
-module _ {bs ix m : List ℕ} {p k : ℕ} {st : Emit} {room ws : List ℕ} {f i depth : ℕ} {l : List ℕ} {cs : Controls} where
-  left-skipped : statementAt p bs ix depth i ≡ skip → Left bs ix m p k st room ws st room ws f i depth l cs
+module _ {prog : List ℕ} {k : ℕ} {st : Emit} {room ws : List ℕ} {i depth : ℕ} {l : List ℕ} {cs : Controls} where
+  left-skipped : statementAt prog depth i ≡ skip → Left prog k st room ws st room ws i depth l cs
   left-skipped e =
-    let h = left-skip (chainsIn bs ix p k) (recursive (programAt p bs ix) f) l cs (st .next) (statementAt p bs ix depth i) e in
-    walks-left (λ R C. opens-by (h .0) (h .1) (opens-none (follows-none st room ws)))
+    walks-left (λ f K R C. let h = left-skip (chainsIn prog k) (recursive (programAt prog) f) l cs (st .next) (statementAt prog depth i) e in opens-by (h .0) (h .1) (opens-none (follows-none st room ws)))
 
-  pub left-stopped : (st .status ≡ 0 → ⊥) → Left bs ix m p k st room ws st room ws f i depth l cs
-  left-stopped h = walks-left (λ R C. record { follows = follows-stopped _ st room ws h; held = λ z. absurd (h z) })
+  pub left-stopped : (st .status ≡ 0 → ⊥) → Left prog k st room ws st room ws i depth l cs
+  left-stopped h = walks-left (λ f K R C. record { follows = follows-stopped _ st room ws h; held = λ z. absurd (h z) })
 
-  pub left-spent : depth ≡ 0 → Left bs ix m p k st room ws st room ws f i depth l cs
-  left-spent e = left-skipped (spent-skip p bs ix depth i e)
+  pub left-spent : depth ≡ 0 → Left prog k st room ws st room ws i depth l cs
+  left-spent e = left-skipped (spent-skip prog depth i e)
 
-  module _ {found : Step} (nz : depth ≡ 0 → ⊥) (is : found ≡ stepAt p bs ix i l) where
-    pub left-idle : (x : Step) → found ≡ x → Idle x → Left bs ix m p k st room ws st room ws f i depth l cs
-    left-idle x e o = left-skipped (idle-skip p bs ix depth i l nz is x e o)
+  module _ {found : Step} (nz : depth ≡ 0 → ⊥) (is : found ≡ stepAt prog i l) where
+    pub left-idle : (x : Step) → found ≡ x → Idle x → Left prog k st room ws st room ws i depth l cs
+    left-idle x e o = left-skipped (idle-skip prog depth i l nz is x e o)
 
     module _ {r : Emit} {room₁ : List ℕ} where
       pub left-touches : {q : ℕ} → found ≡ step.Touches q → progress r room₁ ≡ scan (places (flip cs q) ∷ []) (progress st room) →
-          Left bs ix m p k st room ws r room₁ ws f i depth l cs
+          Left prog k st room ws r room₁ ws i depth l cs
       left-touches {q = q} e g =
-        let h = at-step p bs ix depth i l nz is e in
-        let t = left-not (chainsIn bs ix p k) (recursive (programAt p bs ix) f) l cs (st .next) (statementAt p bs ix depth i) (h .0) (h .1) q (h .2) (h .3) in
-        walks-left (λ R C. opens-by (t .0) (t .1) (opens-none (follows-gates _ st room ws r room₁ tt g)))
+        let h = at-step prog depth i l nz is e in
+        walks-left (λ f K R C.
+        let t = left-not (chainsIn prog k) (recursive (programAt prog) f) l cs (st .next) (statementAt prog depth i) (h .0) (h .1) q (h .2) (h .3) in
+        opens-by (t .0) (t .1) (opens-none (follows-gates _ st room ws r room₁ tt g)))
 
       module _ {ws₁ : List ℕ} where
-        pub left-chosen : {c a b x : ℕ} → found ≡ step.Chooses c a b → x ≡ cond (holds (testAt p bs ix (depth - 1) c) l) a b →
-            Left bs ix m p k st room ws r room₁ ws₁ f x (depth - 1) l cs → Left bs ix m p k st room ws r room₁ ws₁ f i depth l cs
+        pub left-chosen : {c a b x : ℕ} → found ≡ step.Chooses c a b → x ≡ cond (holds (testAt prog (depth - 1) c) l) a b →
+            Left prog k st room ws r room₁ ws₁ x (depth - 1) l cs → Left prog k st room ws r room₁ ws₁ i depth l cs
         left-chosen e q A =
-          let ch = chainsIn bs ix p k in
-          let rec = recursive (programAt p bs ix) f in
-          walks-left (λ R C. opens-by
+          let ch = chainsIn prog k in
+          walks-left (λ f K R C. let rec = recursive (programAt prog) f in opens-by
             (sym (chosen-means (λ s. left ch rec s l cs (st .next)) l (left-yes ch rec l cs (st .next)) (left-no ch rec l cs (st .next))
-              p bs ix depth i nz is e q))
+              prog depth i nz is e q))
             (sym (chosen-means (λ s. invocations rec s l (st .next)) l (invocations-yes rec l (st .next)) (invocations-no rec l (st .next))
-              p bs ix depth i nz is e q))
-            (use-left A R (roomy-less nz C)))
+              prog depth i nz is e q))
+            (use-left f A (known-chosen prog l depth i f nz is e q K) R (roomy-less nz C)))
 
-        pub left-first : {a b w : ℕ} → found ≡ step.Sequence a b → w ≡ min 2 (width (recursiveIn m f) (statementAt p bs ix (depth - 1) a)) → 0 < w →
-            Left bs ix m p k st room ws r room₁ ws₁ f a (depth - 1) l cs → Left bs ix m p k st room ws r room₁ ws₁ f i depth l cs
+        pub left-first : {a b : ℕ} {w : Bool} → found ≡ step.Sequence a b → w ≡ ltb 0 (widthIn prog a) → w ≡ true →
+            Left prog k st room ws r room₁ ws₁ a (depth - 1) l cs → Left prog k st room ws r room₁ ws₁ i depth l cs
         left-first {a = a} {b = b} e h t A =
-          let rec = recursive (programAt p bs ix) f in
-          let q = at-step p bs ix depth i l nz is e in
-          let X = statementAt p bs ix (depth - 1) a in
-          let Y = statementAt p bs ix (depth - 1) b in
-          walks-left (λ R C.
-            let wide = wide-so X (recursive-is f R) h t in
-            opens-by (rw q (sym (left-wide (chainsIn bs ix p k) rec l cs (st .next) X Y wide))) (rw q (sym (invocations-wide rec l (st .next) X Y wide)))
-              (use-left A R (roomy-less nz C)))
+          let q = at-step prog depth i l nz is e in
+          let X = statementAt prog (depth - 1) a in
+          let Y = statementAt prog (depth - 1) b in
+          walks-left (λ f K R C.
+            let rec = recursive (programAt prog) f in
+            let both = known-sequence prog l depth i f nz is e K in
+            let wide = width-told rec prog (depth - 1) a (both .0) h ∙ t in
+            opens-by (rw q (sym (left-wide (chainsIn prog k) rec l cs (st .next) X Y wide))) (rw q (sym (invocations-wide rec l (st .next) X Y wide)))
+              (use-left f A (λ d. both .0) R (roomy-less nz C)))
 
-        pub left-recurs : {g at : ℕ} {rest : List ℕ} {b : Bool} → found ≡ step.Calls g at → rest ≡ remaining (removalsOf bs at) l → b ≡ recursiveIn m f g →
-            b ≡ true → Invokes g rest cs st room ws r room₁ ws₁ → Left bs ix m p k st room ws r room₁ ws₁ f i depth l cs
+        pub left-recurs : {g at : ℕ} {rest : List ℕ} {b : Bool} → found ≡ step.Calls g at → rest ≡ remaining (removalsIn prog at) l → b ≡ ltb 0 (widthIn prog i) →
+            b ≡ true → Invokes g rest cs st room ws r room₁ ws₁ → Left prog k st room ws r room₁ ws₁ i depth l cs
         left-recurs {g = g} {at = at} {rest = rest} e d h t A =
-          let rec = recursive (programAt p bs ix) f in
-          let q = at-step p bs ix depth i l nz is e in
-          walks-left (λ R C.
-            let yes : rec g ≡ true = ap (λ (v : ℕ → Bool). v g) (sym (recursive-is f R)) ∙ sym h ∙ t in
-            opens-by (rw (q, d) (sym (left-recursive (chainsIn bs ix p k) rec l cs (st .next) (removalsOf bs at) g yes)))
-              (rw (q, d) (sym (invocations-recursive rec l (st .next) (removalsOf bs at) g yes))) (use-invokes A (R .space)))
+          let q = at-step prog depth i l nz is e in
+          walks-left (λ f K R C.
+            let rec = recursive (programAt prog) f in
+            let yes : rec g ≡ true = call-told prog l depth i f nz is e K h ∙ t in
+            opens-by (rw (q, d) (sym (left-recursive (chainsIn prog k) rec l cs (st .next) (removalsIn prog at) g yes)))
+              (rw (q, d) (sym (invocations-recursive rec l (st .next) (removalsIn prog at) g yes))) (use-invokes A (R .space)))
 
-        pub left-calls : {g at : ℕ} {rest : List ℕ} {b : Bool} → found ≡ step.Calls g at → rest ≡ remaining (removalsOf bs at) l → b ≡ recursiveIn m f g →
-            b ≡ false → Call bs ix m p k st room ws r room₁ ws₁ g rest cs → Left bs ix m p k st room ws r room₁ ws₁ f i depth l cs
+        pub left-calls : {g at : ℕ} {rest : List ℕ} {b : Bool} → found ≡ step.Calls g at → rest ≡ remaining (removalsIn prog at) l → b ≡ ltb 0 (widthIn prog i) →
+            b ≡ false → Call prog k st room ws r room₁ ws₁ g rest cs → Left prog k st room ws r room₁ ws₁ i depth l cs
         left-calls {g = g} {at = at} {rest = rest} e d h t A =
-          let rec = recursive (programAt p bs ix) f in
-          let q = at-step p bs ix depth i l nz is e in
-          walks-left (λ R C.
-            let no : rec g ≡ false = ap (λ (v : ℕ → Bool). v g) (sym (recursive-is f R)) ∙ sym h ∙ t in
-            opens-by (rw (q, d) (sym (left-other (chainsIn bs ix p k) rec l cs (st .next) (removalsOf bs at) g no)))
-              (rw q (sym (invocations-other rec l (st .next) (removalsOf bs at) g no))) (opens-none (use-call A R)))
+          let q = at-step prog depth i l nz is e in
+          walks-left (λ f K R C.
+            let rec = recursive (programAt prog) f in
+            let no : rec g ≡ false = call-told prog l depth i f nz is e K h ∙ t in
+            opens-by (rw (q, d) (sym (left-other (chainsIn prog k) rec l cs (st .next) (removalsIn prog at) g no)))
+              (rw q (sym (invocations-other rec l (st .next) (removalsIn prog at) g no))) (opens-none (use-call A R)))
 
         module _ {b : Emit} {room₂ ws₂ : List ℕ} where
-          pub left-second : {x y w : ℕ} → found ≡ step.Sequence x y → w ≡ min 2 (width (recursiveIn m f) (statementAt p bs ix (depth - 1) x)) → w ≤ 0 →
-              Whole bs ix m p k st room ws r room₁ ws₁ x (depth - 1) l cs → Left bs ix m p k r room₁ ws₁ b room₂ ws₂ f y (depth - 1) l cs →
-              Left bs ix m p k st room ws b room₂ ws₂ f i depth l cs
+          pub left-second : {x y : ℕ} {w : Bool} → found ≡ step.Sequence x y → w ≡ ltb 0 (widthIn prog x) → w ≡ false →
+              Whole prog k st room ws r room₁ ws₁ x (depth - 1) l cs → Left prog k r room₁ ws₁ b room₂ ws₂ y (depth - 1) l cs →
+              Left prog k st room ws b room₂ ws₂ i depth l cs
           left-second {x = x} {y = y} e h t A B =
-            let rec = recursive (programAt p bs ix) f in
-            let q = at-step p bs ix depth i l nz is e in
-            let X = statementAt p bs ix (depth - 1) x in
-            let Y = statementAt p bs ix (depth - 1) y in
-            walks-left (λ R C.
-              let thin = wide-not X (recursive-is f R) h t in
+            let q = at-step prog depth i l nz is e in
+            let X = statementAt prog (depth - 1) x in
+            let Y = statementAt prog (depth - 1) y in
+            walks-left (λ f K R C.
+              let rec = recursive (programAt prog) f in
+              let both = known-sequence prog l depth i f nz is e K in
+              let thin = width-told rec prog (depth - 1) x (both .0) h ∙ t in
               let F = use-whole A R (roomy-less nz C) in
-              opens-by (rw q (sym (left-thin (chainsIn bs ix p k) rec l cs (st .next) X Y thin))) (rw q (sym (invocations-thin rec l (st .next) X Y thin)))
-                (whole-then-left bs ix p k f l cs X Y R F (use-left B (ready-then R F) (roomy-less nz C))))
+              opens-by (rw q (sym (left-thin (chainsIn prog k) rec l cs (st .next) X Y thin))) (rw q (sym (invocations-thin rec l (st .next) X Y thin)))
+                (whole-then-left prog k f l cs X Y R F (use-left f B (λ d. both .1) (ready-then R F) (roomy-less nz C))))
 
           pub left-branches : {q x y : ℕ} {cs₁ cs₂ : Controls} → found ≡ step.Branches q x y → cs₁ ≡ withControlWithin q false cs →
-              Left bs ix m p k st room ws r room₁ ws₁ f x (depth - 1) l cs₁ → cs₂ ≡ withControlWithin q true cs →
-              Left bs ix m p k r room₁ ws₁ b room₂ ws₂ f y (depth - 1) l cs₂ → Left bs ix m p k st room ws b room₂ ws₂ f i depth l cs
+              Left prog k st room ws r room₁ ws₁ x (depth - 1) l cs₁ → cs₂ ≡ withControlWithin q true cs →
+              Left prog k r room₁ ws₁ b room₂ ws₂ y (depth - 1) l cs₂ → Left prog k st room ws b room₂ ws₂ i depth l cs
           left-branches {q = q} {x = x} {y = y} e c₁ A c₂ B =
-            let rec = recursive (programAt p bs ix) f in
-            let X = statementAt p bs ix (depth - 1) x in
-            let Y = statementAt p bs ix (depth - 1) y in
-            let h = at-step p bs ix depth i l nz is e in
-            let t = left-case (chainsIn bs ix p k) rec l cs (st .next) (statementAt p bs ix depth i) (h .0) (h .1) q X Y (h .2) (h .3) in
-            walks-left (λ R C.
-              let A′ = subst (λ (v : Controls). Left bs ix m p k st room ws r room₁ ws₁ f x (depth - 1) l v) (c₁ ∙ within-is nz C q false) A in
-              let B′ = subst (λ (v : Controls). Left bs ix m p k r room₁ ws₁ b room₂ ws₂ f y (depth - 1) l v) (c₂ ∙ within-is nz C q true) B in
-              let O = use-left A′ R (roomy-with-control nz C q false) in
-              opens-by (t .0) (t .1) (left-then-left bs ix p k f l (withControl q false cs) (withControl q true cs) X Y R O
-                (use-left B′ (ready-then R (O .follows)) (roomy-with-control nz C q true))))
+            let X = statementAt prog (depth - 1) x in
+            let Y = statementAt prog (depth - 1) y in
+            let h = at-step prog depth i l nz is e in
+            walks-left (λ f K R C.
+              let rec = recursive (programAt prog) f in
+              let both = known-branches prog l depth i f nz is e K in
+              let t = left-case (chainsIn prog k) rec l cs (st .next) (statementAt prog depth i) (h .0) (h .1) q X Y (h .2) (h .3) in
+              let A′ = subst (λ (v : Controls). Left prog k st room ws r room₁ ws₁ x (depth - 1) l v) (c₁ ∙ within-is nz C q false) A in
+              let B′ = subst (λ (v : Controls). Left prog k r room₁ ws₁ b room₂ ws₂ y (depth - 1) l v) (c₂ ∙ within-is nz C q true) B in
+              let O = use-left f A′ (λ d. both .0) R (roomy-with-control nz C q false) in
+              opens-by (t .0) (t .1) (left-then-left prog k f l (withControl q false cs) (withControl q true cs) X Y R O
+                (use-left f B′ (λ d. both .1) (ready-then R (O .follows)) (roomy-with-control nz C q true))))
 
 pub ruleset lefts = (
     needs, left-stopped, left-spent, left-idle, left-touches, left-chosen,

@@ -17,7 +17,7 @@ use Rattle.records.proofs.FieldLaws.{and-cond}
 use Rattle.events.specs.Scan.{slotListLength, slotProcedure, slotOf, heldIn}
 use Rattle.events.specs.Slots.{pairAt, appears, opensAt, seekOf}
 use Rattle.emit.specs.WalkPromises.{DoneIn}
-use Rattle.events.proofs.EntryGates.{bytes-length}
+use Rattle.events.proofs.GatesAndSlots.{appears-more}
 
 or-none : (a : Bool) → a || false ≡ a
 or-none true = refl
@@ -26,24 +26,6 @@ or-none false = refl
 or-done : (a : Bool) → a || true ≡ true
 or-done true = refl
 or-done false = refl
-
-cond-or : (a b : Bool) → cond a true b ≡ a || b
-cond-or true b = refl
-cond-or false b = refl
-
-or-assoc : (a b c : Bool) → (a || b) || c ≡ a || (b || c)
-or-assoc true b c = refl
-or-assoc false b c = refl
-
--- one slot more
-appears-more : (ws : List ℕ) (a n f m : ℕ) → appears ws a (suc n) f m ≡ appears ws a n f m || pairAt ws (a + n) f m
-unfolding appears
-appears-more ws a zero f m = let e : a + 0 ≡ a = omega arith in rw (e, cond-or (pairAt ws a f m) false) (or-none (pairAt ws a f m))
-appears-more ws a (suc n) f m =
-    let e : a + suc n ≡ a + 1 + n = omega arith in
-    let ih = appears-more ws (a + 1) n f m in
-    rw (e, cond-or (pairAt ws a f m) (appears ws (a + 1) n f m), or-assoc (pairAt ws a f m) (appears ws (a + 1) n f m) (pairAt ws (a + 1 + n) f m), ← ih)
-      (cond-or (pairAt ws a f m) (appears ws (a + 1) (suc n) f m))
 
 module _ (ws : List ℕ) (base m j : ℕ) (le : base ≤ j) where
   appears-next : (f : ℕ) → appears ws base (j + 1 - base) f m ≡ appears ws base (j - base) f m || pairAt ws j f m
@@ -56,7 +38,7 @@ module _ (ws : List ℕ) (base m j : ℕ) (le : base ≤ j) where
     -- the definitions' test of slot j is the code's
     opens-is : isFirst m known (slotOf ws j) ≡ opensAt ws base m j
     unfolding slotOf opensAt
-    opens-is = rw (bytes-length ws (slotLength * j + 2) (slotListLength ws j), S (slotProcedure ws j))
+    opens-is = rw (S (slotProcedure ws j))
       (and-cond (eqb (slotListLength ws j) m) (not (appears ws base (j - base) (slotProcedure ws j) m)))
 
     -- a slot passed over adds no procedure

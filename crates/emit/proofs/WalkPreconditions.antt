@@ -10,8 +10,8 @@ use Rattle.events.specs.FollowedEvents.{Follows}
 use Rattle.emit.specs.WalkPromises.{Ready}
 
 -- what a walk needs still holds behind another
-pub ready-then : {bs ix m : List ℕ} {p : ℕ} {es : List Event} {st : Emit} {room ws : List ℕ} {a : Emit} {room₁ ws₁ : List ℕ} →
-    Ready bs ix m p st ws → Follows es st room ws a room₁ ws₁ → Ready bs ix m p a ws₁
+pub ready-then : {prog : List ℕ} {es : List Event} {st : Emit} {room ws : List ℕ} {a : Emit} {room₁ ws₁ : List ℕ} →
+    Ready prog st ws → Follows es st room ws a room₁ ws₁ → Ready prog a ws₁
 ready-then {ws = ws} {ws₁ = ws₁} R F =
     let up = F .rises in let some = R .some in let long : length ws₁ ≡ length ws = F .long in let space = R .space in
-    record { few = R .few; reach = R .reach; some = omega arith; low = F .low (R .low); space = omega arith }
+    record { few = R .few; widths = R .widths; some = omega arith; low = F .low (R .low); space = omega arith }

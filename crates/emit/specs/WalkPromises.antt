@@ -1,11 +1,11 @@
 -- What the walkers promise: each follows the events that the definitions have for it.
-use Prim.Native.Nat.{ℕ, zero, suc, _+_, _-_, _≤_, _<_}
+use Prim.Native.Nat.{ℕ, zero, suc, _+_, _-_, _≤_, _<_, min}
 use mathlib.Core.Path.{_≡_}
 use mathlib.Core.Bool.{cond}
 use mathlib.Core.List.{List, [], _++_}
 use lib.ListN.{length}
 use lib.Dec.{ltb}
-use Rattle.limits.specs.Sizes.{mostControls, wireCount, slotsLength}
+use Rattle.limits.specs.Sizes.{mostControls, mostCalls, wireCount, slotsLength}
 use Rattle.model.specs.Limits.{mostProcedures, mostQubits, mostDepth, mostWires}
 use Rattle.model.specs.Syntax.{Program, body}
 use Rattle.model.specs.Lists.{member}
@@ -15,17 +15,17 @@ use Rattle.model.specs.Emission.{
   Event, Chains, startChain, whole, Invocation, invocations, left, right, under, Emitted, bodyInvocations, around, bodies, bodiesFrom, chainsWithin,
   emission,
 }
-use Rattle.table.specs.Index.{statementAt, programAt}
-use Rattle.reach.specs.CallsInATable.{reachAt}
+use Rattle.decoded.specs.DecodedTable.{procedureCount, statementAt, programAt}
+use Rattle.widths.specs.KeptWidths.{Known, WidthsKnown}
 use Rattle.events.specs.declared.Emit.{Emit}
 use Rattle.events.specs.Scan.{progress, scan, begun, slotOf, heldIn}
 use Rattle.events.specs.Slots.{appears}
 use Rattle.events.specs.FollowedEvents.{Follows, Opens}
 
--- a table of no more procedures than there may be with its matrix, wires within their limit, and a workspace that is long enough
-pub record Ready (bs ix m : List ℕ) (p : ℕ) (st : Emit) (ws : List ℕ) : Type 0 where
-  pub few : p ≤ mostProcedures
-  pub reach : m ≡ reachAt p bs ix
+-- a program of no more procedures than there may be with its widths, wires within their limit, and slots for all of them
+pub record Ready (prog : List ℕ) (st : Emit) (ws : List ℕ) : Type 0 where
+  pub few : procedureCount prog ≤ mostProcedures
+  pub widths : WidthsKnown prog
   pub some : 0 < st .next
   pub low : st .next ≤ wireCount
   pub space : slotsLength ≤ length ws
@@ -39,9 +39,9 @@ pub record Roomy (depth : ℕ) (cs : Controls) : Type 0 where
   pub ones : length (cs .ones) + depth ≤ mostControls
   pub zeros : length (cs .zeros) + depth ≤ mostControls
 
-module _ (bs ix : List ℕ) (p k : ℕ) where
+module _ (prog : List ℕ) (k : ℕ) where
   abbrev pub programIn : Program
-  programIn = programAt p bs ix
+  programIn = programAt prog
 
   abbrev pub chainsIn : Chains
   chainsIn = chainsWithin programIn k
@@ -61,88 +61,97 @@ module _ (bs ix : List ℕ) (p k : ℕ) where
 abbrev pub DoneIn : List ℕ → ℕ → ℕ → ℕ → List ℕ → Type 0
 DoneIn ws base n from procedures = (f : ℕ) → member f procedures ≡ appears ws base (from - base) f n
 
+-- the widths of a statement in the body of f, of at least one record
+abbrev pub KnownIn : List ℕ → ℕ → ℕ → ℕ → Type 0
+KnownIn prog f depth i = (depth ≡ 0 → ⊥) → Known (recursive (programAt prog) f) prog depth i
+
+-- how many recursive calls the left part of a statement has
+pub data Counts (prog : List ℕ) (i depth : ℕ) (l : List ℕ) (r : ℕ) : Type 0 where
+  counts : ((f : ℕ) → KnownIn prog f depth i →
+      r ≡ min mostCalls (length (invocations (recursive (programAt prog) f) (statementAt prog depth i) l 0))) → Counts prog i depth l r
+
 -- one for each walker
-pub data Whole (bs ix m : List ℕ) (p k : ℕ) (st : Emit) (room ws : List ℕ) (r : Emit) (room₁ ws₁ : List ℕ)
+pub data Whole (prog : List ℕ) (k : ℕ) (st : Emit) (room ws : List ℕ) (r : Emit) (room₁ ws₁ : List ℕ)
     (i depth : ℕ) (l : List ℕ) (cs : Controls) : Type 0 where
-  walks-whole : (Ready bs ix m p st ws → Roomy depth cs →
-      Follows (whole (chainsIn bs ix p k) (statementAt p bs ix depth i) l cs (st .next)) st room ws r room₁ ws₁) →
-      Whole bs ix m p k st room ws r room₁ ws₁ i depth l cs
+  walks-whole : (Ready prog st ws → Roomy depth cs →
+      Follows (whole (chainsIn prog k) (statementAt prog depth i) l cs (st .next)) st room ws r room₁ ws₁) →
+      Whole prog k st room ws r room₁ ws₁ i depth l cs
 
-pub data Call (bs ix m : List ℕ) (p k : ℕ) (st : Emit) (room ws : List ℕ) (r : Emit) (room₁ ws₁ : List ℕ)
+pub data Call (prog : List ℕ) (k : ℕ) (st : Emit) (room ws : List ℕ) (r : Emit) (room₁ ws₁ : List ℕ)
     (f : ℕ) (l : List ℕ) (cs : Controls) : Type 0 where
-  walks-call : (Ready bs ix m p st ws → Follows (startChain (chainsIn bs ix p k) f l cs (st .next)) st room ws r room₁ ws₁) →
-      Call bs ix m p k st room ws r room₁ ws₁ f l cs
+  walks-call : (Ready prog st ws → Follows (startChain (chainsIn prog k) f l cs (st .next)) st room ws r room₁ ws₁) →
+      Call prog k st room ws r room₁ ws₁ f l cs
 
-pub data Left (bs ix m : List ℕ) (p k : ℕ) (st : Emit) (room ws : List ℕ) (r : Emit) (room₁ ws₁ : List ℕ)
-    (f i depth : ℕ) (l : List ℕ) (cs : Controls) : Type 0 where
-  walks-left : (Ready bs ix m p st ws → Roomy depth cs →
-      Opens (left (chainsIn bs ix p k) (recursive (programAt p bs ix) f) (statementAt p bs ix depth i) l cs (st .next))
-        (invocations (recursive (programAt p bs ix) f) (statementAt p bs ix depth i) l (st .next)) st room ws r room₁ ws₁) →
-      Left bs ix m p k st room ws r room₁ ws₁ f i depth l cs
+pub data Left (prog : List ℕ) (k : ℕ) (st : Emit) (room ws : List ℕ) (r : Emit) (room₁ ws₁ : List ℕ)
+    (i depth : ℕ) (l : List ℕ) (cs : Controls) : Type 0 where
+  walks-left : ((f : ℕ) → KnownIn prog f depth i → Ready prog st ws → Roomy depth cs →
+      Opens (left (chainsIn prog k) (recursive (programAt prog) f) (statementAt prog depth i) l cs (st .next))
+        (invocations (recursive (programAt prog) f) (statementAt prog depth i) l (st .next)) st room ws r room₁ ws₁) →
+      Left prog k st room ws r room₁ ws₁ i depth l cs
 
-pub data Right (bs ix m : List ℕ) (p k : ℕ) (st : Emit) (room ws : List ℕ) (r : Emit) (room₁ ws₁ : List ℕ)
-    (f i depth : ℕ) (l : List ℕ) (cs : Controls) (first : ℕ) : Type 0 where
-  walks-right : (Ready bs ix m p st ws → Roomy depth cs →
-      (st .status ≡ 0 → first + length (invocations (recursive (programAt p bs ix) f) (statementAt p bs ix depth i) l first) ≤ wireCount) →
-      Follows (right (chainsIn bs ix p k) (recursive (programAt p bs ix) f) (statementAt p bs ix depth i) l cs first (st .next))
+pub data Right (prog : List ℕ) (k : ℕ) (st : Emit) (room ws : List ℕ) (r : Emit) (room₁ ws₁ : List ℕ)
+    (i depth : ℕ) (l : List ℕ) (cs : Controls) (first : ℕ) : Type 0 where
+  walks-right : ((f : ℕ) → KnownIn prog f depth i → Ready prog st ws → Roomy depth cs →
+      (st .status ≡ 0 → first + length (invocations (recursive (programAt prog) f) (statementAt prog depth i) l first) ≤ wireCount) →
+      Follows (right (chainsIn prog k) (recursive (programAt prog) f) (statementAt prog depth i) l cs first (st .next))
         st room ws r room₁ ws₁) →
-      Right bs ix m p k st room ws r room₁ ws₁ f i depth l cs first
+      Right prog k st room ws r room₁ ws₁ i depth l cs first
 
-pub data BodyLeft (bs ix m : List ℕ) (p k : ℕ) (st : Emit) (room ws : List ℕ) (r : Emit) (room₁ ws₁ : List ℕ)
+pub data BodyLeft (prog : List ℕ) (k : ℕ) (st : Emit) (room ws : List ℕ) (r : Emit) (room₁ ws₁ : List ℕ)
     (d : ℕ) : Type 0 where
-  walks-body-left : (Ready bs ix m p st ws → d ≤ mostWires →
-      Opens (leftOf bs ix p k (slotOf ws d) (st .next)) (bodyInvocations (programAt p bs ix) (chainsIn bs ix p k) (slotOf ws d) (st .next))
+  walks-body-left : (Ready prog st ws → d ≤ mostWires →
+      Opens (leftOf prog k (slotOf ws d) (st .next)) (bodyInvocations (programAt prog) (chainsIn prog k) (slotOf ws d) (st .next))
         st room ws r room₁ ws₁) →
-      BodyLeft bs ix m p k st room ws r room₁ ws₁ d
+      BodyLeft prog k st room ws r room₁ ws₁ d
 
-pub data BodyRight (bs ix m : List ℕ) (p k : ℕ) (st : Emit) (room ws : List ℕ) (r : Emit) (room₁ ws₁ : List ℕ)
+pub data BodyRight (prog : List ℕ) (k : ℕ) (st : Emit) (room ws : List ℕ) (r : Emit) (room₁ ws₁ : List ℕ)
     (d first : ℕ) : Type 0 where
-  walks-body-right : (Ready bs ix m p st ws → d ≤ mostWires →
-      (st .status ≡ 0 → first + length (bodyInvocations (programAt p bs ix) (chainsIn bs ix p k) (slotOf ws d) first) ≤ wireCount) →
-      Follows (rightOf bs ix p k (slotOf ws d) first (st .next)) st room ws r room₁ ws₁) →
-      BodyRight bs ix m p k st room ws r room₁ ws₁ d first
+  walks-body-right : (Ready prog st ws → d ≤ mostWires →
+      (st .status ≡ 0 → first + length (bodyInvocations (programAt prog) (chainsIn prog k) (slotOf ws d) first) ≤ wireCount) →
+      Follows (rightOf prog k (slotOf ws d) first (st .next)) st room ws r room₁ ws₁) →
+      BodyRight prog k st room ws r room₁ ws₁ d first
 
-pub data Bodies (bs ix m : List ℕ) (p k : ℕ) (st : Emit) (room ws : List ℕ) (r : Emit) (room₁ ws₁ : List ℕ)
+pub data Bodies (prog : List ℕ) (k : ℕ) (st : Emit) (room ws : List ℕ) (r : Emit) (room₁ ws₁ : List ℕ)
     (base n j upto : ℕ) : Type 0 where
-  walks-bodies : (Ready bs ix m p st ws → base ≤ j → upto ≤ st .next → base ≤ st .next → (procedures : List ℕ) → DoneIn ws base n j procedures →
-      Follows (bodiesUpTo bs ix p k n procedures (heldIn ws j (upto - j)) (heldIn ws base (st .next - base)) (st .next) .events)
+  walks-bodies : (Ready prog st ws → base ≤ j → upto ≤ st .next → base ≤ st .next → (procedures : List ℕ) → DoneIn ws base n j procedures →
+      Follows (bodiesUpTo prog k n procedures (heldIn ws j (upto - j)) (heldIn ws base (st .next - base)) (st .next) .events)
         st room ws r room₁ ws₁) →
-      Bodies bs ix m p k st room ws r room₁ ws₁ base n j upto
+      Bodies prog k st room ws r room₁ ws₁ base n j upto
 
-pub data Rest (bs ix m : List ℕ) (p k : ℕ) (st : Emit) (room ws : List ℕ) (r : Emit) (room₁ ws₁ : List ℕ)
+pub data Rest (prog : List ℕ) (k : ℕ) (st : Emit) (room ws : List ℕ) (r : Emit) (room₁ ws₁ : List ℕ)
     (base n d upto first : ℕ) : Type 0 where
-  walks-rest : (Ready bs ix m p st ws → base ≤ d → d < upto → upto ≤ first → first ≤ st .next →
-      (st .status ≡ 0 → first + length (bodyInvocations (programAt p bs ix) (chainsIn bs ix p k) (slotOf ws d) first) ≤ wireCount) →
+  walks-rest : (Ready prog st ws → base ≤ d → d < upto → upto ≤ first → first ≤ st .next →
+      (st .status ≡ 0 → first + length (bodyInvocations (programAt prog) (chainsIn prog k) (slotOf ws d) first) ≤ wireCount) →
       (procedures : List ℕ) → DoneIn ws base n (d + 1) procedures →
       Follows
-        (let inner = bodiesUpTo bs ix p k n procedures (heldIn ws (d + 1) (upto - (d + 1))) (heldIn ws base (st .next - base)) (st .next) in
-          inner .events ++ rightOf bs ix p k (slotOf ws d) first (inner .next)) st room ws r room₁ ws₁) →
-      Rest bs ix m p k st room ws r room₁ ws₁ base n d upto first
+        (let inner = bodiesUpTo prog k n procedures (heldIn ws (d + 1) (upto - (d + 1))) (heldIn ws base (st .next - base)) (st .next) in
+          inner .events ++ rightOf prog k (slotOf ws d) first (inner .next)) st room ws r room₁ ws₁) →
+      Rest prog k st room ws r room₁ ws₁ base n d upto first
 
-pub data Inner (bs ix m : List ℕ) (p k : ℕ) (st : Emit) (room ws : List ℕ) (r : Emit) (room₁ ws₁ : List ℕ)
+pub data Inner (prog : List ℕ) (k : ℕ) (st : Emit) (room ws : List ℕ) (r : Emit) (room₁ ws₁ : List ℕ)
     (base n d upto : ℕ) : Type 0 where
-  walks-inner : (Ready bs ix m p st ws → base ≤ d → d < upto → upto ≤ st .next → (procedures : List ℕ) → DoneIn ws base n (d + 1) procedures →
+  walks-inner : (Ready prog st ws → base ≤ d → d < upto → upto ≤ st .next → (procedures : List ℕ) → DoneIn ws base n (d + 1) procedures →
       Follows
-        (let news = bodyInvocations (programAt p bs ix) (chainsIn bs ix p k) (slotOf ws d) (st .next) in
-          let inner = bodiesUpTo bs ix p k n procedures (heldIn ws (d + 1) (upto - (d + 1))) (heldIn ws base (st .next - base) ++ news)
+        (let news = bodyInvocations (programAt prog) (chainsIn prog k) (slotOf ws d) (st .next) in
+          let inner = bodiesUpTo prog k n procedures (heldIn ws (d + 1) (upto - (d + 1))) (heldIn ws base (st .next - base) ++ news)
             (st .next + length news) in
-          leftOf bs ix p k (slotOf ws d) (st .next) ++ (inner .events ++ rightOf bs ix p k (slotOf ws d) (st .next) (inner .next)))
+          leftOf prog k (slotOf ws d) (st .next) ++ (inner .events ++ rightOf prog k (slotOf ws d) (st .next) (inner .next)))
         st room ws r room₁ ws₁) →
-      Inner bs ix m p k st room ws r room₁ ws₁ base n d upto
+      Inner prog k st room ws r room₁ ws₁ base n d upto
 
-pub data Body (bs ix m : List ℕ) (p k : ℕ) (st : Emit) (room ws : List ℕ) (r : Emit) (room₁ ws₁ : List ℕ)
+pub data Body (prog : List ℕ) (k : ℕ) (st : Emit) (room ws : List ℕ) (r : Emit) (room₁ ws₁ : List ℕ)
     (base n d upto : ℕ) : Type 0 where
-  walks-body : (Ready bs ix m p st ws → base ≤ d → d < upto → upto ≤ st .next → (procedures : List ℕ) → DoneIn ws base n (d + 1) procedures →
+  walks-body : (Ready prog st ws → base ≤ d → d < upto → upto ≤ st .next → (procedures : List ℕ) → DoneIn ws base n (d + 1) procedures →
       Follows
-        (let news = bodyInvocations (programAt p bs ix) (chainsIn bs ix p k) (slotOf ws d) (st .next) in
-          around (programAt p bs ix) (chainsIn bs ix p k) (slotOf ws d) (heldIn ws (d + 1) (upto - (d + 1))) (st .next)
-            (bodiesUpTo bs ix p k n procedures (heldIn ws (d + 1) (upto - (d + 1))) (heldIn ws base (st .next - base) ++ news)
+        (let news = bodyInvocations (programAt prog) (chainsIn prog k) (slotOf ws d) (st .next) in
+          around (programAt prog) (chainsIn prog k) (slotOf ws d) (heldIn ws (d + 1) (upto - (d + 1))) (st .next)
+            (bodiesUpTo prog k n procedures (heldIn ws (d + 1) (upto - (d + 1))) (heldIn ws base (st .next - base) ++ news)
               (st .next + length news)) .events)
         st room ws r room₁ ws₁) →
-      Body bs ix m p k st room ws r room₁ ws₁ base n d upto
+      Body prog k st room ws r room₁ ws₁ base n d upto
 
 -- main emitted, from its start
-pub data Emits (bs ix m : List ℕ) (p n : ℕ) (room ws : List ℕ) (r : Emit) (room₁ ws₁ : List ℕ) : Type 0 where
-  walks-main : (p ≤ mostProcedures → m ≡ reachAt p bs ix → n ≤ mostQubits → slotsLength ≤ length ws →
-      (progress r room₁ ≡ scan (emission (programAt p bs ix) n) (progress (begun n) room)) × (length ws₁ ≡ length ws)) →
-      Emits bs ix m p n room ws r room₁ ws₁
+pub data Emits (prog : List ℕ) (n : ℕ) (room ws : List ℕ) (r : Emit) (room₁ ws₁ : List ℕ) : Type 0 where
+  walks-main : (procedureCount prog ≤ mostProcedures → WidthsKnown prog → n ≤ mostQubits → slotsLength ≤ length ws →
+      (progress r room₁ ≡ scan (emission (programAt prog) n) (progress (begun n) room)) × (length ws₁ ≡ length ws)) →
+      Emits prog n room ws r room₁ ws₁

@@ -1,23 +1,21 @@
 -- The ways out of the functions that emit entry gates, in order or reversed.
-use mathlib.Core.Path.{_≡_, refl, sym, ap, _∙_}
+use mathlib.Core.Path.{_≡_, refl, sym, _∙_}
 use mathlib.Core.Bool.{Bool, true, false}
 use mathlib.Core.List.{List, [], _∷_, _++_, reverse, reverse-cons, reverse-append}
-use Prim.Native.Nat.{ℕ, zero, suc, _+_, _-_, _*_, _≤_, _<_}
+use Prim.Native.Nat.{ℕ, suc, _+_, _-_, _≤_, _<_}
 use native.Mathlib.Numerals.{add-one}
 use native.Mathlib.Omega.{arith}
 use borrow.Author.Needs.{needs}
+use borrow.Author.Tests.{eq-eqb, ne-eqb}
 use lib.ListN.{length, getD, drop, drop-of-length-le}
-use lib.Dec.{eqb}
-use Rattle.limits.specs.Sizes.{slotLength}
 use Rattle.model.specs.Gates.{Controls, flip, swapOf}
 use Rattle.model.specs.Emission.{Event, places, under, swaps, entryGates, samePair, allEntryGates}
 use Rattle.model.proofs.BooleanLaws.{byBool}
 use Rattle.lookup.specs.declared.Plan.{Plan}
 use Rattle.lookup.specs.Plans.{pairsOf, swapsAlong, PlansSwaps, same-swaps}
 use Rattle.lookup.proofs.PlannedSwaps.{pairs-most, pair-at}
-use Rattle.records.proofs.FieldLaws.{and-cond}
 use Rattle.events.specs.declared.Emit.{Emit}
-use Rattle.events.specs.Scan.{Progress, progress, scan, bytesFrom, slotListLength, slotProcedure, slotList, wireOf, slotOf, heldIn}
+use Rattle.events.specs.Scan.{Progress, progress, scan, slotListLength, slotProcedure, slotList, wireOf, slotOf, heldIn}
 use Rattle.events.specs.Slots.{pairAt, turned, entryAt}
 use Rattle.events.proofs.ScanOfEvents.{scan-append}
 use Rattle.events.proofs.GatesAndSlots.{further, spent}
@@ -86,80 +84,79 @@ pub ruleset following = (needs, pairs-most, forth-starts, forth-next, forth-ends
 planned-are : (F L : List ℕ) (r : Plan) (e : ℕ) → PlansSwaps F L r → swapsAlong e (pairsOf r) ≡ swaps e F L
 planned-are F L r e (same-swaps s) = s e
 
-module _ (ws : List ℕ) (d e : ℕ) (reversed : Bool) (st : Emit) (room F L : List ℕ) (r : Plan) (u v : ℕ) (cs : Controls)
-    (is-f : F ≡ slotList ws d) (is-l : L ≡ slotList ws e) (P : PlansSwaps F L r) (is-u : u ≡ wireOf e) (is-cs : cs ≡ under u) (is-v : v ≡ wireOf d) where
+module _ (slots : List ℕ) (d e : ℕ) (reversed : Bool) (st : Emit) (room F L : List ℕ) (r : Plan) (u v : ℕ) (cs : Controls)
+    (is-f : F ≡ slotList slots d) (is-l : L ≡ slotList slots e) (P : PlansSwaps F L r) (is-u : u ≡ wireOf e) (is-cs : cs ≡ under u) (is-v : v ≡ wireOf d) where
   pub gates-reversed : (y z : Progress) → reversed ≡ true → y ≡ scan (reverse (swapsAlong u (pairsOf r))) (progress st room) →
       z ≡ scan (places (flip cs v) ∷ []) y →
-      z ≡ scan (turned reversed (entryGates (slotOf ws d) (slotOf ws e))) (progress st room)
+      z ≡ scan (turned reversed (entryGates (slotOf slots d) (slotOf slots e))) (progress st room)
   unfolding entryGates slotOf
   gates-reversed y z b p q =
-    rw b (scan-last (places (flip (under (wireOf e)) (wireOf d))) (swaps (wireOf e) (slotList ws d) (slotList ws e)) (progress st room) y z
+    rw b (scan-last (places (flip (under (wireOf e)) (wireOf d))) (swaps (wireOf e) (slotList slots d) (slotList slots e)) (progress st room) y z
       (rw (planned-are F L r u P, is-u, is-f, is-l) at p) (rw (is-cs, is-u, is-v) at q))
 
   pub gates-forth : (y z : Progress) → reversed ≡ false → y ≡ scan (places (flip cs v) ∷ []) (progress st room) →
       z ≡ scan (swapsAlong u (pairsOf r)) y →
-      z ≡ scan (turned reversed (entryGates (slotOf ws d) (slotOf ws e))) (progress st room)
+      z ≡ scan (turned reversed (entryGates (slotOf slots d) (slotOf slots e))) (progress st room)
   unfolding entryGates slotOf
   gates-forth y z b p q =
-    rw b (scan-first (places (flip (under (wireOf e)) (wireOf d))) (swaps (wireOf e) (slotList ws d) (slotList ws e)) (progress st room) y z
+    rw b (scan-first (places (flip (under (wireOf e)) (wireOf d))) (swaps (wireOf e) (slotList slots d) (slotList slots e)) (progress st room) y z
       (rw (is-cs, is-u, is-v) at p) (rw (planned-are F L r u P, is-u, is-f, is-l) at q))
 
 -- the ways out of `emit_entry`
-module _ (ws : List ℕ) (d e : ℕ) (reversed : Bool) (st : Emit) (room : List ℕ) (f m : ℕ) (b : Bool)
-    (is-f : f ≡ slotProcedure ws d) (is-m : m ≡ slotListLength ws d) (is-b : b ≡ pairAt ws e f m) where
-  pub entry-same : (y : Progress) → b ≡ true → y ≡ scan (turned reversed (entryGates (slotOf ws d) (slotOf ws e))) (progress st room) →
-      y ≡ scan (turned reversed (entryAt ws d e)) (progress st room)
-  unfolding entryAt
-  entry-same y t p = rw (← is-f, ← is-m, ← is-b, t) p
+module _ (slots : List ℕ) (d e : ℕ) (reversed : Bool) (st : Emit) (room : List ℕ) (fe fd : ℕ) (is-fe : fe ≡ slotProcedure slots e)
+    (is-fd : fd ≡ slotProcedure slots d) where
+  pub entry-other : (fe ≡ fd → ⊥) → progress st room ≡ scan (turned reversed (entryAt slots d e)) (progress st room)
+  unfolding entryAt pairAt
+  entry-other h = rw (← is-fe, ← is-fd, ne-eqb fe fd h) (nothing-turned reversed (progress st room))
 
-  pub entry-other : b ≡ false → progress st room ≡ scan (turned reversed (entryAt ws d e)) (progress st room)
-  unfolding entryAt
-  entry-other t = rw (← is-f, ← is-m, ← is-b, t) (nothing-turned reversed (progress st room))
+  module _ (same : fe ≡ fd) (me md : ℕ) (is-me : me ≡ slotListLength slots e) (is-md : md ≡ slotListLength slots d) where
+    pub entry-apart : (me ≡ md → ⊥) → progress st room ≡ scan (turned reversed (entryAt slots d e)) (progress st room)
+    unfolding entryAt pairAt
+    entry-apart h = rw (← is-fe, ← is-fd, eq-eqb fe fd same, ← is-me, ← is-md, ne-eqb me md h) (nothing-turned reversed (progress st room))
 
-pub ruleset gating = (needs, gates-reversed, gates-forth, entry-same, entry-other)
+    pub entry-same : (y : Progress) → me ≡ md → y ≡ scan (turned reversed (entryGates (slotOf slots d) (slotOf slots e))) (progress st room) →
+        y ≡ scan (turned reversed (entryAt slots d e)) (progress st room)
+    unfolding entryAt pairAt
+    entry-same y h p = rw (← is-fe, ← is-fd, eq-eqb fe fd same, ← is-me, ← is-md, eq-eqb me md h) p
+
+pub ruleset gating = (needs, gates-reversed, gates-forth, entry-other, entry-apart, entry-same)
 
 -- the ways out of `emit_entries`
-pub bytes-length : (bs : List ℕ) (at n : ℕ) → length (bytesFrom bs at n) ≡ n
-unfolding bytesFrom
-bytes-length bs at zero = refl
-bytes-length bs at (suc n) = ap suc (bytes-length bs (at + 1) n)
-
-pair-is : (ws : List ℕ) (d e : ℕ) → samePair (slotOf ws d) (slotOf ws e) ≡ pairAt ws e (slotProcedure ws d) (slotListLength ws d)
+pair-is : (slots : List ℕ) (d e : ℕ) → samePair (slotOf slots d) (slotOf slots e) ≡ pairAt slots e (slotProcedure slots d) (slotListLength slots d)
 unfolding samePair slotOf pairAt
-pair-is ws d e = rw (bytes-length ws (slotLength * d + 2) (slotListLength ws d), bytes-length ws (slotLength * e + 2) (slotListLength ws e))
-    (and-cond (eqb (slotProcedure ws e) (slotProcedure ws d)) (eqb (slotListLength ws e) (slotListLength ws d)))
+pair-is slots d e = refl
 
-entries-cons : (ws : List ℕ) (d e n : ℕ) →
-    allEntryGates (slotOf ws d) (heldIn ws e (suc n)) ≡ entryAt ws d e ++ allEntryGates (slotOf ws d) (heldIn ws (e + 1) n)
+entries-cons : (slots : List ℕ) (d e n : ℕ) →
+    allEntryGates (slotOf slots d) (heldIn slots e (suc n)) ≡ entryAt slots d e ++ allEntryGates (slotOf slots d) (heldIn slots (e + 1) n)
 unfolding heldIn allEntryGates entryAt
-entries-cons ws d e n = byBool (pairAt ws e (slotProcedure ws d) (slotListLength ws d))
-    (λ t. rw (t, pair-is ws d e ∙ t, allEntryGates))
-    (λ t. rw (t, pair-is ws d e ∙ t, allEntryGates))
+entries-cons slots d e n = byBool (pairAt slots e (slotProcedure slots d) (slotListLength slots d))
+    (λ t. rw (t, pair-is slots d e ∙ t, allEntryGates))
+    (λ t. rw (t, pair-is slots d e ∙ t, allEntryGates))
 
-module _ (ws : List ℕ) (d e upto : ℕ) (reversed : Bool) (st : Emit) (room : List ℕ) where
-  none-held : upto ≤ e → allEntryGates (slotOf ws d) (heldIn ws e (upto - e)) ≡ []
+module _ (slots : List ℕ) (d e upto : ℕ) (reversed : Bool) (st : Emit) (room : List ℕ) where
+  none-held : upto ≤ e → allEntryGates (slotOf slots d) (heldIn slots e (upto - e)) ≡ []
   unfolding allEntryGates heldIn
   none-held h = rw (spent upto e h)
 
-  pub entries-none : upto ≤ e → progress st room ≡ scan (turned reversed (allEntryGates (slotOf ws d) (heldIn ws e (upto - e)))) (progress st room)
+  pub entries-none : upto ≤ e → progress st room ≡ scan (turned reversed (allEntryGates (slotOf slots d) (heldIn slots e (upto - e)))) (progress st room)
   entries-none h = rw (none-held h) (nothing-turned reversed (progress st room))
 
   pub entries-reversed : (x y : Progress) → e < upto → reversed ≡ true →
-      x ≡ scan (turned reversed (allEntryGates (slotOf ws d) (heldIn ws (e + 1) (upto - (e + 1))))) (progress st room) →
-      y ≡ scan (turned reversed (entryAt ws d e)) x →
-      y ≡ scan (turned reversed (allEntryGates (slotOf ws d) (heldIn ws e (upto - e)))) (progress st room)
+      x ≡ scan (turned reversed (allEntryGates (slotOf slots d) (heldIn slots (e + 1) (upto - (e + 1))))) (progress st room) →
+      y ≡ scan (turned reversed (entryAt slots d e)) x →
+      y ≡ scan (turned reversed (allEntryGates (slotOf slots d) (heldIn slots e (upto - e)))) (progress st room)
   entries-reversed x y h b p q =
-    let E = entryAt ws d e in
-    let R = allEntryGates (slotOf ws d) (heldIn ws (e + 1) (upto - (e + 1))) in
-    rw (further upto e h, entries-cons ws d e (upto - (e + 1)), b, reverse-append E R, scan-append (reverse R) (reverse E) (progress st room),
+    let E = entryAt slots d e in
+    let R = allEntryGates (slotOf slots d) (heldIn slots (e + 1) (upto - (e + 1))) in
+    rw (further upto e h, entries-cons slots d e (upto - (e + 1)), b, reverse-append E R, scan-append (reverse R) (reverse E) (progress st room),
       ← (rw b at p)) (rw b at q)
 
-  pub entries-forth : (x y : Progress) → e < upto → reversed ≡ false → x ≡ scan (turned reversed (entryAt ws d e)) (progress st room) →
-      y ≡ scan (turned reversed (allEntryGates (slotOf ws d) (heldIn ws (e + 1) (upto - (e + 1))))) x →
-      y ≡ scan (turned reversed (allEntryGates (slotOf ws d) (heldIn ws e (upto - e)))) (progress st room)
+  pub entries-forth : (x y : Progress) → e < upto → reversed ≡ false → x ≡ scan (turned reversed (entryAt slots d e)) (progress st room) →
+      y ≡ scan (turned reversed (allEntryGates (slotOf slots d) (heldIn slots (e + 1) (upto - (e + 1))))) x →
+      y ≡ scan (turned reversed (allEntryGates (slotOf slots d) (heldIn slots e (upto - e)))) (progress st room)
   entries-forth x y h b p q =
-    let E = entryAt ws d e in
-    let R = allEntryGates (slotOf ws d) (heldIn ws (e + 1) (upto - (e + 1))) in
-    rw (further upto e h, entries-cons ws d e (upto - (e + 1)), b, scan-append E R (progress st room), ← (rw b at p)) (rw b at q)
+    let E = entryAt slots d e in
+    let R = allEntryGates (slotOf slots d) (heldIn slots (e + 1) (upto - (e + 1))) in
+    rw (further upto e h, entries-cons slots d e (upto - (e + 1)), b, scan-append E R (progress st room), ← (rw b at p)) (rw b at q)
 
 pub ruleset entering = (needs, entries-none, entries-reversed, entries-forth)

@@ -1,31 +1,31 @@
 -- The ways out of the functions that walk over no statement: gates placed, slots filled and read, the next body sought.
 use mathlib.Core.Path.{_≡_, refl, sym, ap, _∙_}
-use mathlib.Core.Bool.{Bool, true, false, not}
-use mathlib.Core.List.{List, [], _∷_, _++_}
-use Prim.Native.Nat.{ℕ, zero, suc, _+_, _-_, _*_, _≤_, _<_, max, min}
+use mathlib.Core.Bool.{Bool, true, false, not, _||_, or-false}
+use mathlib.Core.List.{List, [], _∷_}
+use Prim.Native.Nat.{ℕ, zero, suc, _+_, _-_, _*_, _≤_, _<_, max}
 use native.Mathlib.Numerals.{add-one}
 use native.Mathlib.Omega.{arith}
 use mir.Syntax.{w64}
 use mir.Val.{Fits}
 use borrow.Author.Needs.{needs}
-use borrow.Author.Tests.{lt-ltb, le-ltb, le-leb, lt-leb, eq-eqb, ne-eqb, leb-true}
-use lib.ListN.{length, getD, set, take, drop, length-take, drop-of-length-le, List·getD-eq-default}
-use lib.Seq.{sets, drop-cons, take-suc-set, getD-take}
+use borrow.Author.Tests.{lt-ltb, le-ltb, le-leb, lt-leb, eq-eqb, ne-eqb, eqb-true, leb-true}
+use lib.ListN.{length, getD, set, drop, drop-of-length-le}
+use lib.Seq.{sets, drop-cons}
 use lib.Dec.{eqb, leb}
 use Rattle.limits.specs.Sizes.{slotLength, swapLength}
-use Rattle.model.specs.Limits.{mostWires, mostQubits, mostCircuit, manyWires, noRoom}
+use Rattle.model.specs.Limits.{mostWires, mostCircuit, manyWires, noRoom}
 use Rattle.model.specs.Gates.{Controls, noControls, withControl, Gate, flip, swapOf}
 use Rattle.model.specs.Emission.{Event, places, under}
 use Rattle.model.specs.Circuit.{encode, controlBytes}
 use Rattle.model.specs.Answers.{usable}
-use Rattle.model.proofs.BooleanLaws.{byBool, byLt}
+use Rattle.model.proofs.BooleanLaws.{byBool, byLt, and-left, and-right, not-not}
 use Rattle.circuit.specs.GatesToWrite.{insertWithin, withControlWithin}
 use Rattle.circuit.proofs.GateBytes.{sets-past, flip-long, swap-long}
-use Rattle.step.specs.declared.Qubits.{Qubits}
-use Rattle.step.specs.Steps.{qubitsOf}
+use Rattle.sets.specs.Sets.{membersOf}
+use Rattle.lookup.proofs.CountedEntries.{touching}
 use Rattle.events.specs.declared.Emit.{Emit}
-use Rattle.events.specs.Scan.{progress, stopped, freed, placed, withGate, afterEvent, scan, bytesFrom, slotListLength, slotProcedure, slotList}
-use Rattle.events.specs.Slots.{filled, ancillaTaken, returned, pairAt, appears, opensAt, seekOf}
+use Rattle.events.specs.Scan.{progress, stopped, freed, placed, withGate, afterEvent, scan, slotListLength, slotProcedure, slotList}
+use Rattle.events.specs.Slots.{filled, ancillaTaken, returned, pairAt, appears, opensAt, opensBehind, seekOf}
 use Rattle.events.proofs.ScanOfEvents.{scan-stopped}
 
 pub ruleset reading = (needs, lt-ltb, le-ltb)
@@ -106,69 +106,61 @@ unfolding returned
 back-given a st e = rw (eq-eqb (st .status) 0 e)
 
 -- the ways out of `take`
-module _ (f : ℕ) (l : List ℕ) (st : Emit) (ws : List ℕ) where
-  pub take-stopped : (st .status ≡ 0 → ⊥) → progress st ws ≡ ancillaTaken f l st ws
+module _ (f l : ℕ) (st : Emit) (slots : List ℕ) where
+  pub take-stopped : (st .status ≡ 0 → ⊥) → progress st slots ≡ ancillaTaken f l st slots
   unfolding ancillaTaken
   take-stopped h = rw (ne-eqb (st .status) 0 h)
 
-  pub take-past : (r : Emit) → st .status ≡ 0 → mostWires < st .next → r ≡ stopped st manyWires → progress r ws ≡ ancillaTaken f l st ws
+  pub take-past : (r : Emit) → st .status ≡ 0 → mostWires < st .next → r ≡ stopped st manyWires → progress r slots ≡ ancillaTaken f l st slots
   unfolding ancillaTaken
   take-past r e h q = rw (q, eq-eqb (st .status) 0 e, lt-ltb mostWires (st .next) h)
 
-  pub take-one : (after : List ℕ) (h : ℕ) → st .status ≡ 0 → st .next ≤ mostWires → after ≡ filled ws (st .next) f l → h ≡ max (st .highest) (st .next) →
-      progress (record { status = 0; used = st .used; gates = st .gates; next = st .next + 1; highest = h }) after ≡ ancillaTaken f l st ws
+  pub take-one : (after : List ℕ) (h : ℕ) → st .status ≡ 0 → st .next ≤ mostWires → after ≡ filled slots (st .next) f l → h ≡ max (st .highest) (st .next) →
+      progress (record { status = 0; used = st .used; gates = st .gates; next = st .next + 1; highest = h }) after ≡ ancillaTaken f l st slots
   unfolding ancillaTaken
   take-one after h e le p q = rw (p, q, eq-eqb (st .status) 0 e, le-ltb mostWires (st .next) le)
 
 pub ruleset takings = (needs, back-stopped, back-given, take-stopped, take-past, take-one)
 
--- entries of a list
-module _ (q : Qubits) (i n : ℕ) (is : n ≡ length (qubitsOf q)) where
-  pub entry-none : n ≤ i → 0 ≡ getD (qubitsOf q) i 0
-  entry-none h = let k : length (qubitsOf q) ≤ i = omega arith in sym (List·getD-eq-default (qubitsOf q) 0 k)
+-- the ways out of `load`, `list_size` and `fill_slot`
+pub list-is : (slots : List ℕ) (a w : ℕ) → w ≡ getD slots (slotLength * a + 1) 0 → membersOf w ≡ slotList slots a
+list-is slots a w e = ap membersOf e
 
-  pub entry-index : length (q .at) ≡ mostQubits → i < n → i < mostQubits
-  entry-index e h = let t : length (qubitsOf q) ≡ min (q .len) (length (q .at)) = length-take (q .len) (q .at) in omega arith
+pub length-is : (slots : List ℕ) (a w n : ℕ) → membersOf w ≡ slotList slots a → n ≡ length (membersOf w) → n ≡ slotListLength slots a
+length-is slots a w n e is = is ∙ ap length e
 
-  pub entry-some : i < n → getD (q .at) i 0 ≡ getD (qubitsOf q) i 0
-  entry-some h =
-    let t : length (qubitsOf q) ≡ min (q .len) (length (q .at)) = length-take (q .len) (q .at) in
-    sym (getD-take (q .len) (q .at) i 0 (omega arith))
+pub slot-filled : (slots : List ℕ) (a f w : ℕ) (middle end : List ℕ) → middle ≡ set slots (slotLength * a) f → end ≡ set middle (slotLength * a + 1) w →
+    end ≡ filled slots a f w
+slot-filled slots a f w middle end m e = rw (e, m)
 
--- `put_entries` so far: what is still to be stored makes of the workspace what all of it makes
-pub data Storing (ws₀ : List ℕ) (at : ℕ) (l ws : List ℕ) (place i : ℕ) : Type 0 where
-  still : sets ws place (drop i l) ≡ sets ws₀ at l → Storing ws₀ at l ws place i
+pub ruleset words = (touching, list-is, length-is, slot-filled)
 
-pub storing-starts : (ws : List ℕ) (at : ℕ) (l : List ℕ) → Storing ws at l ws at 0
-storing-starts ws at l = still refl
+-- bytes that are stored one by one, so far: what is still to be stored makes of the slice what all of it makes
+pub data Storing (room₀ : List ℕ) (at : ℕ) (l room : List ℕ) (place i : ℕ) : Type 0 where
+  still : sets room place (drop i l) ≡ sets room₀ at l → Storing room₀ at l room place i
 
-module _ (ws₀ : List ℕ) (at : ℕ) (l ws : List ℕ) (place i n : ℕ) (is : n ≡ length l) where
-  pub storing-next : (x : ℕ) → Storing ws₀ at l ws place i → i < n → x ≡ getD l i 0 → Storing ws₀ at l (set ws place x) (place + 1) (i + 1)
+pub storing-starts : (room : List ℕ) (at : ℕ) (l : List ℕ) → Storing room at l room at 0
+storing-starts room at l = still refl
+
+module _ (room₀ : List ℕ) (at : ℕ) (l room : List ℕ) (place i n : ℕ) (is : n ≡ length l) where
+  pub storing-next : (x : ℕ) → Storing room₀ at l room place i → i < n → x ≡ getD l i 0 → Storing room₀ at l (set room place x) (place + 1) (i + 1)
   storing-next x (still e) h p =
     let k : i < length l = omega arith in
     still (sym (rw (p, add-one place, add-one i, drop-cons l i 0 k)) ∙ e)
 
-  pub stored-all : Storing ws₀ at l ws place i → n ≤ i → ws ≡ sets ws₀ at l
+  pub stored-all : Storing room₀ at l room place i → n ≤ i → room ≡ sets room₀ at l
   stored-all (still e) h = let k : length l ≤ i = omega arith in sym (rw (drop-of-length-le l k)) ∙ e
 
-  pub stored-full : Storing ws₀ at l ws place i → length ws ≤ place → ws ≡ sets ws₀ at l
-  stored-full (still e) h = sets-past ws place (drop i l) h ∙ e
-
-pub slot-filled : (ws : List ℕ) (a f : ℕ) (q : Qubits) (n : ℕ) (middle end : List ℕ) → n ≡ length (qubitsOf q) →
-    middle ≡ sets ws (slotLength * a) (f ∷ n ∷ []) → end ≡ sets middle (slotLength * a + 2) (qubitsOf q) → end ≡ filled ws a f (qubitsOf q)
-slot-filled ws a f q n middle end is m e = let k : slotLength * a + 2 ≡ suc (suc (slotLength * a)) = omega arith in rw (e, m, is, k)
-
-pub ruleset entries = (needs, entry-none, entry-index, entry-some, slot-filled)
-
-pub ruleset storing = (needs, storing-starts, storing-next, stored-all, stored-full)
+  pub stored-full : Storing room₀ at l room place i → length room ≤ place → room ≡ sets room₀ at l
+  stored-full (still e) h = sets-past room place (drop i l) h ∙ e
 
 -- the ways out of `pair_at`, `appears`, `opens` and `seek`
-module _ (ws : List ℕ) (a f m x : ℕ) (is : x ≡ slotProcedure ws a) where
-  pub pair-yes : (y : ℕ) → x ≡ f → y ≡ slotListLength ws a → eqb y m ≡ pairAt ws a f m
+module _ (slots : List ℕ) (a f m x : ℕ) (is : x ≡ slotProcedure slots a) where
+  pub pair-yes : (y : ℕ) → x ≡ f → y ≡ slotListLength slots a → eqb y m ≡ pairAt slots a f m
   unfolding pairAt
   pair-yes y e q = rw (← is, eq-eqb x f e, q)
 
-  pub pair-no : (x ≡ f → ⊥) → false ≡ pairAt ws a f m
+  pub pair-no : (x ≡ f → ⊥) → false ≡ pairAt slots a f m
   unfolding pairAt
   pair-no h = rw (← is, ne-eqb x f h)
 
@@ -179,45 +171,85 @@ pub spent : (n e : ℕ) → n ≤ e → n - e ≡ 0
 spent n e h = omega arith
 
 -- `appears` so far: what is left from here on is the whole
-module _ (ws : List ℕ) (from upto f m a : ℕ) (left : appears ws a (upto - a) f m ≡ appears ws from (upto - from) f m) where
-  pub appears-none : upto ≤ a → false ≡ appears ws from (upto - from) f m
+module _ (slots : List ℕ) (from upto f m a : ℕ) (left : appears slots a (upto - a) f m ≡ appears slots from (upto - from) f m) where
+  pub appears-none : upto ≤ a → false ≡ appears slots from (upto - from) f m
   unfolding appears
   appears-none h = rw (spent upto a h) at left
 
-  pub appears-here : (b : Bool) → a < upto → b ≡ pairAt ws a f m → b ≡ true → true ≡ appears ws from (upto - from) f m
+  pub appears-here : (b : Bool) → a < upto → b ≡ pairAt slots a f m → b ≡ true → true ≡ appears slots from (upto - from) f m
   unfolding appears
   appears-here b h e q = rw (further upto a h, ← e, q) at left
 
-  pub appears-on : (b : Bool) → a < upto → b ≡ pairAt ws a f m → b ≡ false →
-      appears ws (a + 1) (upto - (a + 1)) f m ≡ appears ws from (upto - from) f m
+  pub appears-on : (b : Bool) → a < upto → b ≡ pairAt slots a f m → b ≡ false →
+      appears slots (a + 1) (upto - (a + 1)) f m ≡ appears slots from (upto - from) f m
   unfolding appears
   appears-on b h e q = rw (further upto a h, ← e, q) at left
 
-module _ (ws : List ℕ) (base m e x : ℕ) (is : x ≡ slotListLength ws e) where
-  pub opens-yes : (f : ℕ) (b : Bool) → x ≡ m → f ≡ slotProcedure ws e → b ≡ appears ws base (e - base) f m → not b ≡ opensAt ws base m e
-  unfolding opensAt
+module _ (slots : List ℕ) (base m from a x : ℕ) (is : x ≡ slotListLength slots a) where
+  pub opens-yes : (f : ℕ) (b : Bool) → x ≡ m → f ≡ slotProcedure slots a → b ≡ appears slots base (from - base) f m → not b ≡ opensBehind slots base m from a
+  unfolding opensBehind
   opens-yes f b q p r = rw (← is, eq-eqb x m q, ← p, ← r)
 
-  pub opens-no : (x ≡ m → ⊥) → false ≡ opensAt ws base m e
-  unfolding opensAt
+  pub opens-no : (x ≡ m → ⊥) → false ≡ opensBehind slots base m from a
+  unfolding opensBehind
   opens-no h = rw (← is, ne-eqb x m h)
 
+-- one slot more
+pub appears-more : (slots : List ℕ) (a n f m : ℕ) → appears slots a (suc n) f m ≡ appears slots a n f m || pairAt slots (a + n) f m
+unfolding appears
+appears-more slots a zero f m = let e : a + 0 ≡ a = omega arith in rw e (byBool (pairAt slots a f m) (λ t. rw t) (λ t. rw t))
+appears-more slots a (suc n) f m =
+    let e : a + suc n ≡ a + 1 + n = omega arith in
+    let rest = appears-more slots (a + 1) n f m in
+    rw e (byBool (pairAt slots a f m) (λ t. rw t) (λ t. rw t rest))
+
+-- the slots from `from` on that were passed over, up to a, are of no pair that is not before them
+pub data Passed (slots : List ℕ) (base m from a : ℕ) : Type 0 where
+  none-new : ((f : ℕ) → appears slots base (a - base) f m ≡ appears slots base (from - base) f m) → Passed slots base m from a
+
+pub passed-none : (slots : List ℕ) (base m from : ℕ) → Passed slots base m from from
+passed-none slots base m from = none-new (λ f. refl)
+
+module _ (slots : List ℕ) (base m from a : ℕ) (b : Bool) (e : b ≡ opensBehind slots base m from a) where
+  pub opens-is : Passed slots base m from a → b ≡ opensAt slots base m a
+  unfolding opensBehind opensAt
+  opens-is (none-new p) = rw (e, p (slotProcedure slots a))
+
+  known : (f : ℕ) → b ≡ false → pairAt slots a f m ≡ true → appears slots base (from - base) f m ≡ true
+  unfolding opensBehind pairAt
+  known f q t =
+    let is-f : slotProcedure slots a ≡ f = eqb-true (slotProcedure slots a) f (and-left (eqb (slotProcedure slots a) f) (eqb (slotListLength slots a) m) t) in
+    let is-m : eqb (slotListLength slots a) m ≡ true = and-right (eqb (slotProcedure slots a) f) (eqb (slotListLength slots a) m) t in
+    sym (not-not (appears slots base (from - base) f m)) ∙ ap not (rw (is-m, is-f) at (sym e ∙ q))
+
+  pub passed-next : Passed slots base m from a → b ≡ false → Passed slots base m from (a + 1)
+  passed-next (none-new p) q = none-new (λ f. byLt a base
+    (λ lt. let none : a + 1 - base ≡ a - base = omega arith in rw none (p f))
+    (λ ge.
+      let one : a + 1 - base ≡ suc (a - base) = omega arith in
+      let here : base + (a - base) ≡ a = omega arith in
+      rw one (appears-more slots base (a - base) f m ∙ rw (here, p f) (byBool (pairAt slots a f m)
+        (λ t. rw (t, known f q t))
+        (λ t. rw t (or-false (appears slots base (from - base) f m)))))))
+
 -- `seek` so far: what is left from here on is the whole
-module _ (ws : List ℕ) (base m e upto a : ℕ) (left : seekOf ws base m a (upto - a) ≡ seekOf ws base m e (upto - e)) where
-  pub seek-none : upto ≤ a → a ≡ seekOf ws base m e (upto - e)
+module _ (slots : List ℕ) (base m e upto a : ℕ) (left : seekOf slots base m a (upto - a) ≡ seekOf slots base m e (upto - e)) where
+  pub seek-none : upto ≤ a → a ≡ seekOf slots base m e (upto - e)
   unfolding seekOf
   seek-none h = rw (spent upto a h) at left
 
-  pub seek-here : (b : Bool) → a < upto → b ≡ opensAt ws base m a → b ≡ true → a ≡ seekOf ws base m e (upto - e)
+  pub seek-here : (b : Bool) → a < upto → b ≡ opensAt slots base m a → b ≡ true → a ≡ seekOf slots base m e (upto - e)
   unfolding seekOf
   seek-here b h p q = rw (further upto a h, ← p, q) at left
 
-  pub seek-on : (b : Bool) → a < upto → b ≡ opensAt ws base m a → b ≡ false →
-      seekOf ws base m (a + 1) (upto - (a + 1)) ≡ seekOf ws base m e (upto - e)
+  pub seek-on : (b : Bool) → a < upto → b ≡ opensAt slots base m a → b ≡ false →
+      seekOf slots base m (a + 1) (upto - (a + 1)) ≡ seekOf slots base m e (upto - e)
   unfolding seekOf
   seek-on b h p q = rw (further upto a h, ← p, q) at left
 
-pub ruleset seeking = (needs, pair-yes, pair-no, appears-none, appears-here, appears-on, opens-yes, opens-no, seek-none, seek-here, seek-on)
+pub ruleset seeking = (
+  needs, pair-yes, pair-no, appears-none, appears-here, appears-on, opens-yes, opens-no, passed-none, opens-is, passed-next, seek-none, seek-here, seek-on,
+)
 
 -- one control under none
 pub under-is : (a : ℕ) (none r : Controls) → none ≡ noControls → r ≡ withControlWithin a true none → r ≡ under a
@@ -225,27 +257,3 @@ unfolding withControlWithin insertWithin withControl
 under-is a none r e q = rw (q, e)
 
 pub ruleset controlling = (needs, under-is)
-
--- an array that fills from its front on: `front` is what stands there
-fill-next : (at : List ℕ) (i v : ℕ) (front more : List ℕ) → take i at ≡ front → i < length at → front ++ (v ∷ []) ≡ more →
-    take (i + 1) (set at i v) ≡ more
-fill-next at i v front more e h q = rw (add-one i, take-suc-set at i v h, e) q
-
-bytes-snoc : (bs : List ℕ) (at n : ℕ) → bytesFrom bs at n ++ (getD bs (at + n) 0 ∷ []) ≡ bytesFrom bs at (suc n)
-unfolding bytesFrom
-bytes-snoc bs at zero = let e : at + 0 ≡ at = omega arith in rw e
-bytes-snoc bs at (suc n) = let e : at + suc n ≡ at + 1 + n = omega arith in rw e (ap (λ l. getD bs at 0 ∷ l) (bytes-snoc bs (at + 1) n))
-
-module _ (ws at : List ℕ) (from i : ℕ) (inv : take i at ≡ bytesFrom ws from i) where
-  pub load-next : (v n : ℕ) → length at ≡ mostQubits → i < n → n ≤ mostQubits → v ≡ getD ws (from + i) 0 → take (i + 1) (set at i v) ≡ bytesFrom ws from (i + 1)
-  load-next v n l h low e = fill-next at i v (bytesFrom ws from i) (bytesFrom ws from (i + 1)) inv (omega arith)
-    (rw (e, add-one i) (bytes-snoc ws from i))
-
-  pub load-ends : (a n : ℕ) → from ≡ slotLength * a + 2 → n ≡ slotListLength ws a → i ≤ n → n ≤ i → take n at ≡ slotList ws a
-  load-ends a n p q low h = let k : i ≡ n = omega arith in rw (← q, ← p, ← k) inv
-
-pub load-starts : (ws at : List ℕ) (from : ℕ) → take 0 at ≡ bytesFrom ws from 0
-unfolding bytesFrom
-load-starts ws at from = refl
-
-pub ruleset filling = (needs, load-starts, load-next, load-ends)

@@ -1,16 +1,17 @@
--- An emission as the code keeps it: what each event does to the state of the walk and to the room, and the slots of the workspace.
-use Prim.Native.Nat.{ℕ, zero, suc, _+_, _*_, max, min}
+-- An emission as the code keeps it: what each event does to the state of the walk and to the room, and the slots of the ancillas.
+use Prim.Native.Nat.{ℕ, zero, suc, _+_, _*_, _%_, max}
 use mathlib.Core.Bool.{cond}
 use mathlib.Core.List.{List, [], _∷_}
 use lib.ListN.{length, getD}
 use lib.Seq.{sets}
 use lib.Dec.{eqb, ltb, leb}
 use Rattle.limits.specs.Sizes.{slotLength}
-use Rattle.model.specs.Limits.{mostWires, mostCircuit, mostQubits, manyWires, noRoom, headerLength}
+use Rattle.model.specs.Limits.{mostWires, mostCircuit, manyWires, noRoom, headerLength}
 use Rattle.model.specs.Syntax.{Program}
 use Rattle.model.specs.Emission.{Event, takes, places, frees, Invocation, invocation, emission, gates, peak}
 use Rattle.model.specs.Circuit.{encode, encodeAll}
 use Rattle.model.specs.Answers.{usable}
+use Rattle.sets.specs.Sets.{membersOf}
 use Rattle.events.specs.declared.Emit.{Emit}
 
 -- what is seen of an emission: where it stands, and the room
@@ -63,32 +64,27 @@ emissionEnd P n = record {
   status = 0; used = headerLength + length (encodeAll (gates (emission P n))); gates = length (gates (emission P n));
   next = n + 1; highest = n + peak [] (emission P n) }
 
--- n bytes from a place on, 0 past the end
-unfoldable pub bytesFrom : List ℕ → ℕ → ℕ → List ℕ
-bytesFrom bs at zero = []
-bytesFrom bs at (suc n) = getD bs at 0 ∷ bytesFrom bs (at + 1) n
-
--- an ancilla's slot of the workspace holds the invocation that took it: procedure, length, entries
+-- an ancilla's slot holds the invocation that took it: a word for the procedure, and the set of the list
 abbrev pub slotAt : ℕ → ℕ
 slotAt a = slotLength * a
 
-abbrev pub slotListLength : List ℕ → ℕ → ℕ
-slotListLength ws a = min (getD ws (slotAt a + 1) 0) mostQubits
-
 abbrev pub slotProcedure : List ℕ → ℕ → ℕ
-slotProcedure ws a = getD ws (slotAt a) 0
+slotProcedure slots a = getD slots (slotAt a) 0 % 256
 
 abbrev pub slotList : List ℕ → ℕ → List ℕ
-slotList ws a = bytesFrom ws (slotAt a + 2) (slotListLength ws a)
+slotList slots a = membersOf (getD slots (slotAt a + 1) 0)
+
+abbrev pub slotListLength : List ℕ → ℕ → ℕ
+slotListLength slots a = length (slotList slots a)
 
 -- the wire of an ancilla. None is above the limit: for such the code has 0.
 abbrev pub wireOf : ℕ → ℕ
 wireOf a = cond (ltb mostWires a) 0 a
 
 unfoldable pub slotOf : List ℕ → ℕ → Invocation
-slotOf ws a = invocation (slotProcedure ws a) (slotList ws a) (wireOf a)
+slotOf slots a = invocation (slotProcedure slots a) (slotList slots a) (wireOf a)
 
 -- the invocations in n slots, from ancilla a on
 unfoldable pub heldIn : List ℕ → ℕ → ℕ → List Invocation
-heldIn ws a zero = []
-heldIn ws a (suc n) = slotOf ws a ∷ heldIn ws (a + 1) n
+heldIn slots a zero = []
+heldIn slots a (suc n) = slotOf slots a ∷ heldIn slots (a + 1) n

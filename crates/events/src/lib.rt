@@ -1,26 +1,24 @@
 // The events of an emission: an ancilla taken, a gate placed, ancillas given back; and the runs of them that ask no table: swaps, the gates of an entry,
-// the two ends of a call. Ancillas keep their invocations in slots of the workspace, in which the next body is sought.
+// the two ends of a call. Ancillas keep their invocations in slots, two words for each, in which the next body is sought.
 ghost use mathlib.Core.Path.{_≡_};
 ghost use mathlib.Core.List.{[], _∷_, reverse};
 ghost use Prim.Native.Nat.{_+_, _-_, max};
-ghost use lib.ListN.{getD};
-ghost use lib.Seq.{sets};
+ghost use lib.ListN.{getD, set};
 ghost use lib.Dec.{leb};
 ghost use Rattle.model.specs.Gates.{flip, swapOf};
 ghost use Rattle.model.specs.Emission as model;
 ghost use Rattle.model.specs.Emission.{places, frees, entryGates, allEntryGates, returns};
 ghost use Rattle.model.specs.Answers.{usable};
 ghost use Rattle.circuit.specs.GatesToWrite.{controlsFrom};
-ghost use Rattle.step.specs.Steps.{qubitsOf};
+ghost use Rattle.sets.specs.Sets.{membersOf};
 ghost use Rattle.lookup.specs.Plans.{pairsOf, swapsAlong};
 ghost use Rattle.events.specs.Scan.{progress, stopped, withGate, scan, slotListLength, slotProcedure, slotList, wireOf, slotOf, heldIn};
-ghost use Rattle.events.specs.Slots.{filled, ancillaTaken, returned, pairAt, appears, opensAt, seekOf, turned, entryAt};
+ghost use Rattle.events.specs.Slots.{filled, ancillaTaken, returned, pairAt, appears, opensBehind, seekOf, turned, entryAt};
 ghost use Rattle.events.specs.FollowedEvents.{Invokes};
-use circuit::write::{ControlLists, with_control, no_controls, flip_length, put_pair, put_flip, put_swap};
-use limits::{LAST_WIRE, LIST_LENGTH, MANY_WIRES, MOST_CIRCUIT, MOST_GATES, MOST_QUBITS, NO_ROOM, SLOT_LENGTH, SWAP_LENGTH};
+use circuit::write::{ControlLists, with_control, no_controls, flip_length, put_flip, put_swap};
+use limits::{LAST_WIRE, MANY_WIRES, MOST_CIRCUIT, MOST_GATES, NO_ROOM, SLOT_LENGTH, SLOTS_LENGTH, SWAP_LENGTH};
 use lookup::{Plan, pair_count, plan_swaps};
-use records::byte;
-use step::{Qubits, size};
+use sets::{QubitSet, size};
 
 // Where an emission stands: 0 or the number that refuses it, bytes used, gates placed, the next wire, and the highest wire taken.
 pub struct Emit {
@@ -118,71 +116,49 @@ pub fn wire(a: u16) -> u8
     if LAST_WIRE < a { 0 } else { a as u8 }
 }
 
-// The procedure in a slot.
-pub fn procedure(ws: &[u8], a: u16) -> u8
-    ensures { λ r. ⌜ r ≡ slotProcedure (now (ws .entry)) a ⌝ }
+// A word, 0 past the end.
+fn word_at(words: &[u64], at: usize) -> u64
+    ensures { λ r. ⌜ r ≡ getD (now (words .entry)) at 0 ⌝ }
 {
-    byte(ws, SLOT_LENGTH * a as usize)
+    if at < words.len() { words[at] } else { 0 }
 }
 
-// The length of the list in a slot.
-fn list_size(ws: &[u8], a: u16) -> u8
-    ensures { λ r. ⌜ r ≡ slotListLength (now (ws .entry)) a ⌝ }
+// The procedure in a slot.
+pub fn procedure(slots: &[u64; SLOTS_LENGTH], a: u16) -> u8
+    ensures { λ r. ⌜ r ≡ slotProcedure (now (slots .entry)) a ⌝ }
 {
-    let n = byte(ws, SLOT_LENGTH * a as usize + 1);
-    if n < MOST_QUBITS { n } else { MOST_QUBITS }
+    (word_at(&slots[..], SLOT_LENGTH * a as usize) % 256) as u8
 }
 
 // The list in a slot.
-pub fn load(ws: &[u8], a: u16) -> Qubits
-    ensures { λ r. ⌜ qubitsOf r ≡ slotList (now (ws .entry)) a ⌝ }
+pub fn load(slots: &[u64; SLOTS_LENGTH], a: u16) -> QubitSet
+    ensures { λ r. ⌜ membersOf r ≡ slotList (now (slots .entry)) a ⌝ }
 {
-    let from = SLOT_LENGTH * a as usize + 2;
-    let len = list_size(ws, a);
-    let mut at = [0; LIST_LENGTH];
-    let n = len as usize;
-    let mut i = 0;
-    while i < n {
-        at[i] = byte(ws, from + i);
-        i += 1;
-    }
-    Qubits { at, len }
+    word_at(&slots[..], SLOT_LENGTH * a as usize + 1)
 }
 
-// The entry of a list behind i others, 0 where there is none.
-fn entry_at(list: Qubits, i: u8) -> u8
-    ensures { λ r. ⌜ r ≡ getD (qubitsOf list) i 0 ⌝ }
+// The length of the list in a slot.
+fn list_size(slots: &[u64; SLOTS_LENGTH], a: u16) -> u8
+    ensures { λ r. ⌜ r ≡ slotListLength (now (slots .entry)) a ⌝ }
 {
-    if size(list) <= i {
-        return 0;
-    }
-    let k = i as usize;
-    list.at[k]
+    size(load(slots, a))
 }
 
-// The entries of a list are stored from a place on, as far as the workspace reaches.
-fn put_entries(ws: &mut [u8], at: usize, list: Qubits)
-    ensures { λ r. ⌜ now (ws .exit) ≡ sets (now (ws .entry)) at (qubitsOf list) ⌝ }
+// A word is stored, none past the end.
+fn put_word(words: &mut [u64], at: usize, word: u64)
+    ensures { λ r. ⌜ now (words .exit) ≡ set (now (words .entry)) at word ⌝ }
 {
-    let n = size(list);
-    let mut place = at;
-    let mut i = 0;
-    while i < n {
-        if ws.len() <= place {
-            return;
-        }
-        ws[place] = entry_at(list, i);
-        place += 1;
-        i += 1;
+    if at < words.len() {
+        words[at] = word;
     }
 }
 
 // An invocation is put into the slot of its ancilla.
-fn fill_slot(ws: &mut [u8], a: u16, f: u8, list: Qubits)
-    ensures { λ r. ⌜ now (ws .exit) ≡ filled (now (ws .entry)) a f (qubitsOf list) ⌝ }
+fn fill_slot(slots: &mut [u64; SLOTS_LENGTH], a: u16, f: u8, list: QubitSet)
+    ensures { λ r. ⌜ now (slots .exit) ≡ filled (now (slots .entry)) a f list ⌝ }
 {
-    put_pair(ws, SLOT_LENGTH * a as usize, f, size(list));
-    put_entries(ws, SLOT_LENGTH * a as usize + 2, list);
+    put_word(&mut slots[..], SLOT_LENGTH * a as usize, f as u64);
+    put_word(&mut slots[..], SLOT_LENGTH * a as usize + 1, list);
 }
 
 fn larger(a: u16, b: u16) -> u16
@@ -192,8 +168,8 @@ fn larger(a: u16, b: u16) -> u16
 }
 
 // The next ancilla is taken for a call of f with a list, or 22.
-fn take(f: u8, list: Qubits, ws: &mut [u8], st: Emit) -> Emit
-    ensures { λ r. ⌜ progress r (now (ws .exit)) ≡ ancillaTaken f (qubitsOf list) st (now (ws .entry)) ⌝ }
+fn take(f: u8, list: QubitSet, slots: &mut [u64; SLOTS_LENGTH], st: Emit) -> Emit
+    ensures { λ r. ⌜ progress r (now (slots .exit)) ≡ ancillaTaken f list st (now (slots .entry)) ⌝ }
 {
     if st.status != 0 {
         return st;
@@ -202,27 +178,27 @@ fn take(f: u8, list: Qubits, ws: &mut [u8], st: Emit) -> Emit
     if LAST_WIRE < next {
         return stop(st, MANY_WIRES);
     }
-    fill_slot(ws, next, f, list);
+    fill_slot(slots, next, f, list);
     Emit { status: 0, used: st.used, gates: st.gates, next: next + 1, highest: larger(st.highest, next) }
 }
 
 // Is slot a of the pair of f and length m?
-fn pair_at(ws: &[u8], a: u16, f: u8, m: u8) -> bool
-    ensures { λ r. ⌜ r ≡ pairAt (now (ws .entry)) a f m ⌝ }
+fn pair_at(slots: &[u64; SLOTS_LENGTH], a: u16, f: u8, m: u8) -> bool
+    ensures { λ r. ⌜ r ≡ pairAt (now (slots .entry)) a f m ⌝ }
 {
-    if procedure(ws, a) == f {
-        return list_size(ws, a) == m;
+    if procedure(slots, a) == f {
+        return list_size(slots, a) == m;
     }
     false
 }
 
 // Is one of the slots from `from` on, before `upto`, of that pair?
-fn appears(ws: &[u8], from: u16, upto: u16, f: u8, m: u8) -> bool
-    ensures { λ r. ⌜ r ≡ appears (now (ws .entry)) from (upto - from) f m ⌝ }
+fn appears(slots: &[u64; SLOTS_LENGTH], from: u16, upto: u16, f: u8, m: u8) -> bool
+    ensures { λ r. ⌜ r ≡ appears (now (slots .entry)) from (upto - from) f m ⌝ }
 {
     let mut a = from;
     while a < upto {
-        if pair_at(ws, a, f, m) {
+        if pair_at(slots, a, f, m) {
             return true;
         }
         a += 1;
@@ -230,23 +206,24 @@ fn appears(ws: &[u8], from: u16, upto: u16, f: u8, m: u8) -> bool
     false
 }
 
-// Does slot e of a chain from `base` on open the body of its pair, with lists of length m?
-fn opens(ws: &[u8], base: u16, m: u8, e: u16) -> bool
-    ensures { λ r. ⌜ r ≡ opensAt (now (ws .entry)) base m e ⌝ }
+// Does slot a of a chain from `base` on open the body of its pair, with lists of length m, as far as the slots before `from` say?
+fn opens(slots: &[u64; SLOTS_LENGTH], base: u16, m: u8, from: u16, a: u16) -> bool
+    ensures { λ r. ⌜ r ≡ opensBehind (now (slots .entry)) base m from a ⌝ }
 {
-    if list_size(ws, e) == m {
-        return !appears(ws, base, e, procedure(ws, e), m);
+    if list_size(slots, a) == m {
+        return !appears(slots, base, from, procedure(slots, a), m);
     }
     false
 }
 
-// The first slot from e on, before `upto`, that does, otherwise `upto`.
-pub fn seek(ws: &[u8], base: u16, m: u8, e: u16, upto: u16) -> u16
-    ensures { λ r. ⌜ r ≡ seekOf (now (ws .entry)) base m e (upto - e) ⌝ }
+// The first slot from e on, before `upto`, that opens the body of its pair, otherwise `upto`. A slot that is passed over is of a pair that was there before e,
+// or of another length: so only the slots before e are asked.
+pub fn seek(slots: &[u64; SLOTS_LENGTH], base: u16, m: u8, e: u16, upto: u16) -> u16
+    ensures { λ r. ⌜ r ≡ seekOf (now (slots .entry)) base m e (upto - e) ⌝ }
 {
     let mut a = e;
     while a < upto {
-        if opens(ws, base, m, a) {
+        if opens(slots, base, m, e, a) {
             return a;
         }
         a += 1;
@@ -289,11 +266,11 @@ fn emit_back(e: u8, plan: Plan, room: &mut [u8], st: Emit) -> Emit
 }
 
 // "flip the body's ancilla under the entry ancilla; then" the swaps: from slot e to the body of slot d, in order or reversed.
-fn emit_gates(ws: &[u8], d: u16, e: u16, reversed: bool, n: u8, room: &mut [u8], st: Emit) -> Emit
+fn emit_gates(slots: &[u64; SLOTS_LENGTH], d: u16, e: u16, reversed: bool, n: u8, room: &mut [u8], st: Emit) -> Emit
     ensures { λ r. ⌜ progress r (now (room .exit)) ≡
-        scan (turned reversed (entryGates (slotOf (now (ws .entry)) d) (slotOf (now (ws .entry)) e))) (progress st (now (room .entry))) ⌝ }
+        scan (turned reversed (entryGates (slotOf (now (slots .entry)) d) (slotOf (now (slots .entry)) e))) (progress st (now (room .entry))) ⌝ }
 {
-    let plan = plan_swaps(n, load(ws, d), load(ws, e));
+    let plan = plan_swaps(n, load(slots, d), load(slots, e));
     let a = wire(e);
     let controls = under(a);
     let target = wire(d);
@@ -306,40 +283,44 @@ fn emit_gates(ws: &[u8], d: u16, e: u16, reversed: bool, n: u8, room: &mut [u8],
 }
 
 // These, if the slots are of one pair.
-fn emit_entry(ws: &[u8], d: u16, e: u16, reversed: bool, n: u8, room: &mut [u8], st: Emit) -> Emit
-    ensures { λ r. ⌜ progress r (now (room .exit)) ≡ scan (turned reversed (entryAt (now (ws .entry)) d e)) (progress st (now (room .entry))) ⌝ }
+fn emit_entry(slots: &[u64; SLOTS_LENGTH], d: u16, e: u16, reversed: bool, n: u8, room: &mut [u8], st: Emit) -> Emit
+    ensures { λ r. ⌜ progress r (now (room .exit)) ≡ scan (turned reversed (entryAt (now (slots .entry)) d e)) (progress st (now (room .entry))) ⌝ }
 {
-    if pair_at(ws, e, procedure(ws, d), list_size(ws, d)) {
-        return emit_gates(ws, d, e, reversed, n, room, st);
+    if procedure(slots, e) == procedure(slots, d) {
+        if list_size(slots, e) == list_size(slots, d) {
+            return emit_gates(slots, d, e, reversed, n, room, st);
+        }
     }
     st
 }
 
 // "Before the shared body's left part, for each such call in order" the entry gates; behind its right part "the same gates come in reverse".
-pub fn emit_entries(ws: &[u8], d: u16, e: u16, upto: u16, reversed: bool, n: u8, room: &mut [u8], st: Emit) -> Emit
+pub fn emit_entries(slots: &[u64; SLOTS_LENGTH], d: u16, e: u16, upto: u16, reversed: bool, n: u8, room: &mut [u8], st: Emit) -> Emit
     ensures { λ r. ⌜ progress r (now (room .exit)) ≡
-        scan (turned reversed (allEntryGates (slotOf (now (ws .entry)) d) (heldIn (now (ws .entry)) e (upto - e)))) (progress st (now (room .entry))) ⌝ }
+        scan (turned reversed (allEntryGates (slotOf (now (slots .entry)) d) (heldIn (now (slots .entry)) e (upto - e)))) (progress st (now (room .entry))) ⌝ }
 {
     if upto <= e {
         return st;
     }
     if reversed {
-        let rest = emit_entries(ws, d, e + 1, upto, reversed, n, room, st);
-        return emit_entry(ws, d, e, reversed, n, room, rest);
+        let rest = emit_entries(slots, d, e + 1, upto, reversed, n, room, st);
+        return emit_entry(slots, d, e, reversed, n, room, rest);
     }
-    let here = emit_entry(ws, d, e, reversed, n, room, st);
-    emit_entries(ws, d, e + 1, upto, reversed, n, room, here)
+    let here = emit_entry(slots, d, e, reversed, n, room, st);
+    emit_entries(slots, d, e + 1, upto, reversed, n, room, here)
 }
 
 // A call that names a pair takes the next ancilla and flips it under the controls in force. "A call with an empty list emits nothing"
-pub fn invoke(f: u8, list: Qubits, controls: ControlLists, room: &mut [u8], ws: &mut [u8], st: Emit) -> Emit
-    ensures { λ r. ⌜ Invokes f (qubitsOf list) (controlsFrom controls) st (now (room .entry)) (now (ws .entry)) r (now (room .exit)) (now (ws .exit)) ⌝ }
+pub fn invoke(f: u8, list: QubitSet, controls: ControlLists, room: &mut [u8], slots: &mut [u64; SLOTS_LENGTH], st: Emit) -> Emit
+    ensures {
+        λ r. ⌜ Invokes f (membersOf list) (controlsFrom controls) st (now (room .entry)) (now (slots .entry)) r (now (room .exit)) (now (slots .exit)) ⌝
+    }
 {
-    if size(list) == 0 {
+    if list == 0 {
         return st;
     }
     let a = wire(st.next);
-    let taken = take(f, list, ws, st);
+    let taken = take(f, list, slots, st);
     emit_flip(controls, a, room, taken)
 }
 
@@ -353,13 +334,12 @@ pub fn finish(base: u16, controls: ControlLists, room: &mut [u8], st: Emit) -> E
 }
 
 // A recursive call's ancilla is flipped "again at its place in the right". "A call with an empty list emits nothing"
-pub fn flip_again(list: Qubits, controls: ControlLists, a: u16, room: &mut [u8], st: Emit) -> Emit
+pub fn flip_again(list: QubitSet, controls: ControlLists, a: u16, room: &mut [u8], st: Emit) -> Emit
     ensures { λ r. ⌜ progress r (now (room .exit))
-        ≡ scan (returns (qubitsOf list) (controlsFrom controls) (wireOf a)) (progress st (now (room .entry))) ⌝ }
+        ≡ scan (returns (membersOf list) (controlsFrom controls) (wireOf a)) (progress st (now (room .entry))) ⌝ }
 {
-    let m = size(list);
-    if m == 0 {
-        return st;
+    if list != 0 {
+        return emit_flip(controls, wire(a), room, st);
     }
-    emit_flip(controls, wire(a), room, st)
+    st
 }

@@ -16,11 +16,10 @@ use Rattle.model.specs.Syntax.{Program, count}
 use Rattle.model.specs.Reach.{anyLacksRemoval}
 use Rattle.model.specs.Faults.{programFaults}
 use Rattle.model.proofs.BooleanLaws.{byBool, byEq, byLt, clash}
-use Rattle.model.proofs.ReachAndRank.{howMany, from, rank, rank-positive, rank-most}
-use Rattle.table.specs.Index.{bodyAt, programAt}
+use Rattle.model.proofs.ReachAndRank.{Named, howMany, from, rank, rank-positive, rank-most}
+use Rattle.decoded.specs.DecodedTable.{procedureCount, bodyAt, programAt}
 use Rattle.reach.specs.CallsInATable.{reachAt}
 use Rattle.reach.proofs.MatrixOfAProgram.{count-at, body-at}
-use Rattle.reach.proofs.CalledProcedures.{named}
 use Rattle.reach.proofs.ReachByMatrix.{reach-entry}
 use Rattle.faults.specs.TouchedPositions.{Touched, touches}
 use Rattle.faults.specs.Rows.{rowOf, rowIs, place, knownTouches, stored}
@@ -70,24 +69,27 @@ ranks-at matrix p (suc n) f l h = byEq f n
     (λ e. rw e (getD-set-same (ranksBelow matrix p n) n (rankIn matrix n p) 0 (rw (ranks-length matrix p n) h)))
     (λ ne. getD-set-other (ranksBelow matrix p n) n f (rankIn matrix n p) 0 ne ∙ ranks-at matrix p n f (omega arith) (omega arith))
 
--- the table of p procedures
-module _ (p : ℕ) (bs ix : List ℕ) (few : p ≤ mostProcedures) where
+-- a program of no more procedures than a table can have, whose calls name them
+module _ (g : List ℕ) (few : procedureCount g ≤ mostProcedures) (names : Named (programAt g)) where
+  abbrev p : ℕ
+  p = procedureCount g
+
   abbrev P : Program
-  P = programAt p bs ix
+  P = programAt g
 
   abbrev matrix : List ℕ
-  matrix = reachAt p bs ix
+  matrix = reachAt g
 
   abbrev ranks : List ℕ
   ranks = ranksIn matrix p
 
   abbrev sums : ℕ
-  sums = sumsIn p bs ix
+  sums = sumsIn g
 
   -- the rank that is read off the matrix of reach
   reach-from : (f x : ℕ) → fromIn matrix f x ≡ from P f x
   unfolding from
-  reach-from f x = rw (reach-entry p bs ix few f x)
+  reach-from f x = rw (reach-entry g few names f x)
 
   rank-below : (f k : ℕ) → rankBelow matrix f k ≡ howMany (from P f) k
   unfolding rankBelow howMany digit
@@ -102,44 +104,44 @@ module _ (p : ℕ) (bs ix : List ℕ) (few : p ≤ mostProcedures) where
   unfolding rank
   rank-is f l = rw (lt-ltb f bodyCount (suc-le-suc l))
     (ranks-at matrix p bodyCount f (suc-le-suc l) (le-refl bodyCount) ∙ rank-below f (suc p)
-      ∙ ap (λ (n : ℕ). howMany (from P f) (suc n)) (sym (count-at p bs ix)))
+      ∙ ap (λ (n : ℕ). howMany (from P f) (suc n)) (sym (count-at g)))
 
   -- a table that has, of the procedures and lengths that D tells, what they touch
   record Holds (known : List ℕ) (D : ℕ → ℕ → Type 0) : Type 0 where
     whole : length known ≡ rowCount
-    right : (g m : ℕ) → 0 < g → g ≤ p → 0 < m → m ≤ mostQubits → D g m → SameTouches (knownTouches known) (touchesOf P) g m
+    right : (q m : ℕ) → 0 < q → q ≤ p → 0 < m → m ≤ mostQubits → D q m → SameTouches (knownTouches known) (touchesOf P) q m
 
-  holds-less : (known : List ℕ) (D E : ℕ → ℕ → Type 0) → ((g m : ℕ) → 0 < g → g ≤ p → 0 < m → E g m → D g m) → Holds known D → Holds known E
-  holds-less known D E h H = record { whole = H .whole; right = λ g m a b c d e. H .right g m a b c d (h g m a b c e) }
+  holds-less : (known : List ℕ) (D E : ℕ → ℕ → Type 0) → ((q m : ℕ) → 0 < q → q ≤ p → 0 < m → E q m → D q m) → Holds known D → Holds known E
+  holds-less known D E h H = record { whole = H .whole; right = λ q m a b c d e. H .right q m a b c d (h q m a b c e) }
 
   module _ (passes10 : anyLacksRemoval P ≡ false) where
     -- one row more: all that its body can call must be there
     holds-row : (f m : ℕ) (known : List ℕ) (D E : ℕ → ℕ → Type 0) → 0 < f → f ≤ p → 0 < m → m ≤ mostQubits →
-        ((g n : ℕ) → removalCounts (bodyAt p bs ix f) (m - n) ≡ true → 0 < n → n < m → D g n) → ((g : ℕ) → rank P g < rank P f → D g m) →
-        ((g n : ℕ) → E g n → (g ≡ f → n ≡ m → ⊥) → D g n) → Holds known D → Holds (filledRow p bs ix f m known) E
+        ((q n : ℕ) → removalCounts (bodyAt g f) (m - n) ≡ true → 0 < n → n < m → D q n) → ((q : ℕ) → rank P q < rank P f → D q m) →
+        ((q n : ℕ) → E q n → (q ≡ f → n ≡ m → ⊥) → D q n) → Holds known D → Holds (filledRow g f m known) E
     unfolding filledRow
     holds-row f m known D E pf lf pm lm shorter lower other H = record {
         whole = stored-length f m row known low lm (H .whole);
-        right = λ g n pg lg pn ln e t lt. byPair g n
+        right = λ q n pq lq pn ln e t lt. byPair q n
           (λ a b. rw (a, b) (stored-here f m row known low lm (H .whole) t ∙ row-at x t (omega arith) ∙ right t))
-          (λ ne. stored-other f m row known low lm (H .whole) g n t ln ne ∙ H .right g n pg lg pn ln (other g n e ne) t lt) }
+          (λ ne. stored-other f m row known low lm (H .whole) q n t ln ne ∙ H .right q n pq lq pn ln (other q n e ne) t lt) }
       where
         x : Touched
-        x = touches (knownTouches known) (bodyAt p bs ix f) (min m mostQubits)
+        x = touches (knownTouches known) (bodyAt g f) (min m mostQubits)
         row : ℕ
         row = rowOf x
         low : f ≤ mostProcedures
         low = omega arith
-        named-low : (g : ℕ) → g ≤ count P → g ≤ p
-        named-low g h = rw (count-at p bs ix) at h
-        byPair : {A : Type 0} (g n : ℕ) → (g ≡ f → n ≡ m → A) → ((g ≡ f → n ≡ m → ⊥) → A) → A
-        byPair g n same else = byEq g f (λ a. byEq n m (λ b. same a b) (λ nb. else (λ a b. nb b))) (λ na. else (λ a b. na a))
+        named-low : (q : ℕ) → q ≤ count P → q ≤ p
+        named-low q h = rw (count-at g) at h
+        byPair : {A : Type 0} (q n : ℕ) → (q ≡ f → n ≡ m → A) → ((q ≡ f → n ≡ m → ⊥) → A) → A
+        byPair q n same else = byEq q f (λ a. byEq n m (λ b. same a b) (λ nb. else (λ a b. nb b))) (λ na. else (λ a b. na a))
         right : (t : ℕ) → x t ≡ touchesOf P f m t
         right t =
           let e : min m mostQubits ≡ m = omega arith in
-          rw (e, ← body-at p bs ix f lf) (fill-touches P (named p bs ix) passes10 (knownTouches known) f m pm
-            (λ g n pg lg c pn l. H .right g n pg (named-low g lg) pn (omega arith) (shorter g n (rw (body-at p bs ix f lf) at c) pn l))
-            (λ g pg lg l. H .right g m pg (named-low g lg) pm lm (lower g l)) t)
+          rw (e, ← body-at g f lf) (fill-touches P names passes10 (knownTouches known) f m pm
+            (λ q n pq lq c pn l. H .right q n pq (named-low q lq) pn (omega arith) (shorter q n (rw (body-at g f lf) at c) pn l))
+            (λ q pq lq l. H .right q m pq (named-low q lq) pm lm (lower q l)) t)
 
     -- main has n qubits
     module _ (n : ℕ) (ln : n ≤ mostQubits) where
@@ -148,99 +150,99 @@ module _ (p : ℕ) (bs ix : List ℕ) (few : p ≤ mostProcedures) where
       Asked m = rowIs sums (n - m) ≡ true
 
       -- and on from there
-      asked-on : (f m l : ℕ) → f ≤ p → m ≤ n → Asked m → removalCounts (bodyAt p bs ix f) (m - l) ≡ true → 0 < l → l ≤ m → Asked l
+      asked-on : (f m l : ℕ) → f ≤ p → m ≤ n → Asked m → removalCounts (bodyAt g f) (m - l) ≡ true → 0 < l → l ≤ m → Asked l
       asked-on f m l lf lm asked c pl ll =
         let sum : n - m + (m - l) ≡ n - l = omega arith in
         subst (λ (k : ℕ). rowIs sums k ≡ true) sum
-          (sums-closed (countsBelow p bs ix (suc p)) mostQubits (n - m) (m - l) (omega arith) (omega arith) asked
-            (counts-there p bs ix (suc p) f (m - l) (suc-le-suc lf) (omega arith) c))
+          (sums-closed (countsBelow g (suc p)) mostQubits (n - m) (m - l) (omega arith) (omega arith) asked
+            (counts-there g (suc p) f (m - l) (suc-le-suc lf) (omega arith) c))
 
       -- what is there when length m has come to rank k, and that to procedure f:
       -- all shorter lengths that are asked for, and of length m the lower ranks, and rank k up to f
       abbrev Done : ℕ → ℕ → ℕ → ℕ → ℕ → Type 0
-      Done m k f g l = Asked l × (m ≤ l → (l ≤ m) × ((rank P g ≤ k) × (k ≤ rank P g → g ≤ f)))
+      Done m k f q l = Asked l × (m ≤ l → (l ≤ m) × ((rank P q ≤ k) × (k ≤ rank P q → q ≤ f)))
 
       module _ (m : ℕ) (pm : 0 < m) (lm : m ≤ n) (asked : Asked m) where
         holds-if : (k f : ℕ) (known : List ℕ) → suc f ≤ p → Holds known (Done m k f) →
-            Holds (filledIf p bs ix ranks k (suc f) m known) (Done m k (suc f))
+            Holds (filledIf g ranks k (suc f) m known) (Done m k (suc f))
         unfolding filledIf
         holds-if k f known l H = rw (rank-is (suc f) (le-trans l few)) (byEq (rank P (suc f)) k
           (λ e. rw (eq-eqb (rank P (suc f)) k e) (holds-row (suc f) m known (Done m k f) (Done m k (suc f)) (suc-le-suc zero-le) l pm (le-trans lm ln)
-            (λ g j c pj less. (asked-on (suc f) m j l lm asked c pj (omega arith), λ le. absurd (never m j less le)))
-            (λ g low. (asked, λ le. (le-refl m, (under g e low, λ h. absurd (above g e low h)))))
-            (λ g j d ne. (d .0, λ le. let z = d .1 le in (z .0, (z .1 .0, λ h. before g (z .1 .1 h) (λ a. ne a (same m j le (z .0))))))) H))
+            (λ q j c pj less. (asked-on (suc f) m j l lm asked c pj (omega arith), λ le. absurd (never m j less le)))
+            (λ q low. (asked, λ le. (le-refl m, (under q e low, λ h. absurd (above q e low h)))))
+            (λ q j d ne. (d .0, λ le. let z = d .1 le in (z .0, (z .1 .0, λ h. before q (z .1 .1 h) (λ a. ne a (same m j le (z .0))))))) H))
           (λ ne. rw (ne-eqb (rank P (suc f)) k ne) (holds-less known (Done m k f) (Done m k (suc f))
-            (λ g j pg lg pj d. (d .0, λ le. let z = d .1 le in (z .0, (z .1 .0, λ h. before g (z .1 .1 h)
+            (λ q j pq lq pj d. (d .0, λ le. let z = d .1 le in (z .0, (z .1 .0, λ h. before q (z .1 .1 h)
               (λ a. ne (same k (rank P (suc f)) (subst (λ (v : ℕ). k ≤ rank P v) a h) (subst (λ (v : ℕ). rank P v ≤ k) a (z .1 .0)))))))) H)))
           where
             never : (m n : ℕ) → n < m → m ≤ n → ⊥
             never m n a b = omega arith
             same : (a b : ℕ) → a ≤ b → b ≤ a → b ≡ a
             same a b h l = omega arith
-            under : (g : ℕ) → rank P (suc f) ≡ k → rank P g < rank P (suc f) → rank P g ≤ k
-            under g e low = omega arith
-            above : (g : ℕ) → rank P (suc f) ≡ k → rank P g < rank P (suc f) → k ≤ rank P g → ⊥
-            above g e low h = omega arith
-            before : (g : ℕ) → g ≤ suc f → (g ≡ suc f → ⊥) → g ≤ f
-            before g h ne = omega arith
+            under : (q : ℕ) → rank P (suc f) ≡ k → rank P q < rank P (suc f) → rank P q ≤ k
+            under q e low = omega arith
+            above : (q : ℕ) → rank P (suc f) ≡ k → rank P q < rank P (suc f) → k ≤ rank P q → ⊥
+            above q e low h = omega arith
+            before : (q : ℕ) → q ≤ suc f → (q ≡ suc f → ⊥) → q ≤ f
+            before q h ne = omega arith
 
         -- rank k, procedure by procedure
-        holds-rank : (k f : ℕ) (known : List ℕ) → f ≤ p → Holds known (Done m k 0) → Holds (filledRank p bs ix ranks f k m known) (Done m k f)
+        holds-rank : (k f : ℕ) (known : List ℕ) → f ≤ p → Holds known (Done m k 0) → Holds (filledRank g ranks f k m known) (Done m k f)
         unfolding filledRank
         holds-rank k zero known l H = H
-        holds-rank k (suc f) known l H = holds-if k f (filledRank p bs ix ranks f k m known) l (holds-rank k f known (omega arith) H)
+        holds-rank k (suc f) known l H = holds-if k f (filledRank g ranks f k m known) l (holds-rank k f known (omega arith) H)
 
         -- length m, rank by rank: none has rank 0
-        holds-ranks : (k : ℕ) (known : List ℕ) → Holds known (λ g l. Asked l × (l < m)) → Holds (filledLength p bs ix ranks k m known) (Done m k p)
+        holds-ranks : (k : ℕ) (known : List ℕ) → Holds known (λ q l. Asked l × (l < m)) → Holds (filledLength g ranks k m known) (Done m k p)
         unfolding filledLength
-        holds-ranks zero known H = holds-less known (λ g l. Asked l × (l < m)) (Done m 0 p) (λ g l pg lg pl d. (d .0, byLt l m (λ less. less) (λ ge.
-          let z : rank P g ≤ 0 = d .1 ge .1 .0 in
-          let some : 0 < rank P g = rank-positive P g (rw (count-at p bs ix) lg) in absurd (not-suc-le-zero (le-trans some z))))) H
+        holds-ranks zero known H = holds-less known (λ q l. Asked l × (l < m)) (Done m 0 p) (λ q l pq lq pl d. (d .0, byLt l m (λ less. less) (λ ge.
+          let z : rank P q ≤ 0 = d .1 ge .1 .0 in
+          let some : 0 < rank P q = rank-positive P q (rw (count-at g) lq) in absurd (not-suc-le-zero (le-trans some z))))) H
         holds-ranks (suc k) known H =
-          holds-rank (suc k) p (filledLength p bs ix ranks k m known) (le-refl p)
-            (holds-less (filledLength p bs ix ranks k m known) (Done m k p) (Done m (suc k) 0)
-              (λ g l pg lg pl d. (d .0, λ le. let z = d .1 le in (z .0, (lower g pg (z .1 .0) (z .1 .1), λ h. lg)))) (holds-ranks k known H))
+          holds-rank (suc k) p (filledLength g ranks k m known) (le-refl p)
+            (holds-less (filledLength g ranks k m known) (Done m k p) (Done m (suc k) 0)
+              (λ q l pq lq pl d. (d .0, λ le. let z = d .1 le in (z .0, (lower q pq (z .1 .0) (z .1 .1), λ h. lq)))) (holds-ranks k known H))
           where
-            lower : (g : ℕ) → 0 < g → rank P g ≤ suc k → (suc k ≤ rank P g → g ≤ 0) → rank P g ≤ k
-            lower g pg a b = byLt k (rank P g) (λ l. absurd (not-suc-le-zero (le-trans pg (b l)))) (λ ge. ge)
+            lower : (q : ℕ) → 0 < q → rank P q ≤ suc k → (suc k ≤ rank P q → q ≤ 0) → rank P q ≤ k
+            lower q pq a b = byLt k (rank P q) (λ l. absurd (not-suc-le-zero (le-trans pq (b l)))) (λ ge. ge)
 
         -- and all ranks are at most p
-        holds-length : (known : List ℕ) → Holds known (λ g l. Asked l × (l < m)) →
-            Holds (filledLength p bs ix ranks p m known) (λ g l. Asked l × (l < suc m))
-        holds-length known H = holds-less (filledLength p bs ix ranks p m known) (Done m p p) (λ g l. Asked l × (l < suc m))
-          (λ g l pg lg pl d. (d .0, λ le. (le-of-suc-le-suc (d .1), (rw (count-at p bs ix) at (rank-most P (named p bs ix) g pg), λ h. lg))))
+        holds-length : (known : List ℕ) → Holds known (λ q l. Asked l × (l < m)) →
+            Holds (filledLength g ranks p m known) (λ q l. Asked l × (l < suc m))
+        holds-length known H = holds-less (filledLength g ranks p m known) (Done m p p) (λ q l. Asked l × (l < suc m))
+          (λ q l pq lq pl d. (d .0, λ le. (le-of-suc-le-suc (d .1), (rw (count-at g) at (rank-most P names q pq), λ h. lq))))
           (holds-ranks p known H)
 
       -- a length that no call leads to is left out
-      holds-asked : (m : ℕ) (known : List ℕ) → 0 < m → m ≤ n → Holds known (λ g l. Asked l × (l < m)) →
-          Holds (filledAsked p bs ix ranks sums (n - m) m known) (λ g l. Asked l × (l < suc m))
+      holds-asked : (m : ℕ) (known : List ℕ) → 0 < m → m ≤ n → Holds known (λ q l. Asked l × (l < m)) →
+          Holds (filledAsked g ranks sums (n - m) m known) (λ q l. Asked l × (l < suc m))
       unfolding filledAsked
       holds-asked m known pm lm H = byBool (rowIs sums (n - m))
         (λ e. rw e (holds-length m pm lm e known H))
-        (λ e. rw e (holds-less known (λ g l. Asked l × (l < m)) (λ g l. Asked l × (l < suc m))
-          (λ g l pg lg pl d. (d .0, byEq l m
+        (λ e. rw e (holds-less known (λ q l. Asked l × (l < m)) (λ q l. Asked l × (l < suc m))
+          (λ q l pq lq pl d. (d .0, byEq l m
             (λ s. clash (subst (λ (v : ℕ). rowIs sums (n - v) ≡ true) s (d .0)) e)
             (λ ne. let less : l < suc m = d .1 in omega arith))) H))
 
       -- length by length
-      holds-lengths : (m : ℕ) → m ≤ n → Holds (filled p bs ix ranks sums n m (replicate rowCount 0)) (λ g l. Asked l × (l < suc m))
+      holds-lengths : (m : ℕ) → m ≤ n → Holds (filled g ranks sums n m (replicate rowCount 0)) (λ q l. Asked l × (l < suc m))
       unfolding filled
       holds-lengths zero l = record {
           whole = length-replicate {A = ℕ} rowCount 0;
-          right = λ g m pg lg pm lm d. absurd (not-suc-le-zero (le-trans pm (le-of-suc-le-suc (d .1)))) }
+          right = λ q m pq lq pm lm d. absurd (not-suc-le-zero (le-trans pm (le-of-suc-le-suc (d .1)))) }
       holds-lengths (suc m) l =
-        holds-asked (suc m) (filled p bs ix ranks sums n m (replicate rowCount 0)) (suc-le-suc zero-le) l (holds-lengths m (omega arith))
+        holds-asked (suc m) (filled g ranks sums n m (replicate rowCount 0)) (suc-le-suc zero-le) l (holds-lengths m (omega arith))
 
       -- main's own length
       asked-first : Asked n
-      asked-first = let e : 0 ≡ n - n = omega arith in subst (λ (k : ℕ). rowIs sums k ≡ true) e (sums-zero (countsBelow p bs ix (suc p)) mostQubits)
+      asked-first = let e : 0 ≡ n - n = omega arith in subst (λ (k : ℕ). rowIs sums k ≡ true) e (sums-zero (countsBelow g (suc p)) mostQubits)
 
     -- refusal 12: by the table, main faults where document 01 says so
-    pub faults-is : (n : ℕ) → n ≤ mostQubits → faultsAt p bs ix matrix n ≡ programFaults P n
+    pub faults-is : (n : ℕ) → n ≤ mostQubits → faultsAt g matrix n ≡ programFaults P n
     unfolding faultsAt
     faults-is n l =
       let e : min n mostQubits ≡ n = omega arith in
       let H = holds-lengths n l n (le-refl n) in
-      rw e (sym (main-touches P (named p bs ix) passes10 (knownTouches (filled p bs ix ranks sums n n (replicate rowCount 0))) n
-        (λ g m pg lg c pm lm. H .right g m pg (rw (count-at p bs ix) at lg) pm (omega arith)
+      rw e (sym (main-touches P names passes10 (knownTouches (filled g ranks sums n n (replicate rowCount 0))) n
+        (λ q m pq lq c pm lm. H .right q m pq (rw (count-at g) at lq) pm (omega arith)
           (asked-on n l 0 n m zero-le (le-refl n) (asked-first n l) c pm lm, suc-le-suc lm))))

@@ -10,8 +10,7 @@ use lib.Bits.{bitOr}
 use lib.ListN.{length}
 use Rattle.model.specs.Limits.{mostDepth, mostQubits}
 use Rattle.model.specs.Syntax.{Statement}
-use Rattle.records.specs.Fields.{removalsOf}
-use Rattle.table.specs.Index.{rootOf, statementAt}
+use Rattle.decoded.specs.DecodedTable.{procedureCount, rootOf, removalsIn, statementAt}
 use Rattle.reach.specs.declared.Parts.{Parts}
 use Rattle.reach.specs.declared.Parts.the-variants as parts
 use Rattle.reach.specs.CallsInATable.{partsAt}
@@ -24,60 +23,60 @@ use Rattle.faults.proofs.RowLaws.{none-row, one-row, joined-row}
 
 -- how many removals the calls of a record's parts carry, where `part` gives the statement at a record
 abbrev countsBy : (ℕ → Statement) → List ℕ → Parts → Touched
-countsBy part bs parts.Neither = touchesNone
-countsBy part bs (parts.Two a b t) = joined (removalCounts (part a)) (removalCounts (part b))
-countsBy part bs (parts.Call g at) = touchesOne (length (removalsOf bs at))
+countsBy part g parts.Neither = touchesNone
+countsBy part g (parts.Two a b t) = joined (removalCounts (part a)) (removalCounts (part b))
+countsBy part g (parts.Call f at) = touchesOne (length (removalsIn g at))
 
-counts-by-parts : (part : ℕ → Statement) (bs : List ℕ) {x : Parts} {s : Statement} → ArePartsOf part bs x s → removalCounts s ≡ countsBy part bs x
+counts-by-parts : (part : ℕ → Statement) (g : List ℕ) {x : Parts} {s : Statement} → ArePartsOf part g x s → removalCounts s ≡ countsBy part g x
 unfolding removalCounts
-counts-by-parts part bs as-skip = refl
-counts-by-parts part bs (as-not rs a) = refl
-counts-by-parts part bs (as-sequence a b) = refl
-counts-by-parts part bs (as-if c a b) = refl
-counts-by-parts part bs (as-qcase rs q a b) = refl
-counts-by-parts part bs (as-call g at) = refl
+counts-by-parts part g as-skip = refl
+counts-by-parts part g (as-not rs a) = refl
+counts-by-parts part g (as-sequence a b) = refl
+counts-by-parts part g (as-if c a b) = refl
+counts-by-parts part g (as-qcase rs q a b) = refl
+counts-by-parts part g (as-call f at) = refl
 
 -- the set of how many removals the calls in the statement at record i carry
-abbrev countsAt : ℕ → List ℕ → List ℕ → ℕ → ℕ → ℕ
-countsAt p bs ix depth i = rowOf (removalCounts (statementAt p bs ix depth i))
+abbrev countsAt : List ℕ → ℕ → ℕ → ℕ
+countsAt g depth i = rowOf (removalCounts (statementAt g depth i))
 
 -- deeper than a tree can be
-pub count-deep : (p : ℕ) (bs ix : List ℕ) (depth i : ℕ) → depth ≡ 0 → 0 ≡ countsAt p bs ix depth i
+pub count-deep : (g : List ℕ) (depth i : ℕ) → depth ≡ 0 → 0 ≡ countsAt g depth i
 unfolding removalCounts statementAt
-count-deep p bs ix depth i e = rw e none-row
+count-deep g depth i e = rw e none-row
 
-module _ (p : ℕ) (bs ix : List ℕ) (depth i : ℕ) (deep : depth ≡ 0 → ⊥) (x : Parts) (parts-are : x ≡ partsAt p bs ix i) where
+module _ (g : List ℕ) (depth i : ℕ) (deep : depth ≡ 0 → ⊥) (x : Parts) (parts-are : x ≡ partsAt g i) where
   abbrev part : ℕ → Statement
-  part = statementAt p bs ix (depth - 1)
+  part = statementAt g (depth - 1)
 
-  by-parts : (y : Parts) → x ≡ y → countsAt p bs ix depth i ≡ rowOf (countsBy part bs y)
-  by-parts y e = ap rowOf (counts-by-parts part bs (parts-here p bs ix depth i deep x parts-are)) ∙ ap (λ (z : Parts). rowOf (countsBy part bs z)) e
+  by-parts : (y : Parts) → x ≡ y → countsAt g depth i ≡ rowOf (countsBy part g y)
+  by-parts y e = ap rowOf (counts-by-parts part g (parts-here g depth i deep x parts-are)) ∙ ap (λ (z : Parts). rowOf (countsBy part g z)) e
 
-  pub count-neither : x ≡ parts.Neither → 0 ≡ countsAt p bs ix depth i
+  pub count-neither : x ≡ parts.Neither → 0 ≡ countsAt g depth i
   count-neither e = rw (by-parts parts.Neither e) none-row
 
   pub count-two : (a b : ℕ) (t : Bool) → x ≡ parts.Two a b t → (first second : ℕ) →
-      first ≡ countsAt p bs ix (depth - 1) a → second ≡ countsAt p bs ix (depth - 1) b → bitOr first second ≡ countsAt p bs ix depth i
+      first ≡ countsAt g (depth - 1) a → second ≡ countsAt g (depth - 1) b → bitOr first second ≡ countsAt g depth i
   count-two a b t e first second one two =
     rw (by-parts (parts.Two a b t) e, one, two) (joined-row (removalCounts (part a)) (removalCounts (part b)))
 
-  pub count-call : (g at : ℕ) → x ≡ parts.Call g at → (k row : ℕ) → k ≡ length (removalsOf bs at) → row ≡ marked 0 k →
-      row ≡ countsAt p bs ix depth i
-  count-call g at e k row c r = rw (by-parts (parts.Call g at) e, ← c) (r ∙ one-row k)
+  pub count-call : (f at : ℕ) → x ≡ parts.Call f at → (k row : ℕ) → k ≡ length (removalsIn g at) → row ≡ marked 0 k →
+      row ≡ countsAt g depth i
+  count-call f at e k row c r = rw (by-parts (parts.Call f at) e, ← c) (r ∙ one-row k)
 
 -- body by body
-module _ (p : ℕ) (bs ix : List ℕ) (f all root more : ℕ) (so : all ≡ countsBelow p bs ix f)
-    (at : root ≡ rootOf ix f) (counted : more ≡ countsAt p bs ix mostDepth root) where
-  pub bodies-more : bitOr all more ≡ countsBelow p bs ix (f + 1)
+module _ (g : List ℕ) (f all root more : ℕ) (so : all ≡ countsBelow g f)
+    (at : root ≡ rootOf g f) (counted : more ≡ countsAt g mostDepth root) where
+  pub bodies-more : bitOr all more ≡ countsBelow g (f + 1)
   unfolding countsBelow
   bodies-more = rw (add-one f, so, counted, at)
 
-  pub bodies-end : f ≤ p → p ≤ f → bitOr all more ≡ countsBelow p bs ix (suc p)
-  bodies-end a b = let e : f ≡ p = omega arith in bodies-more ∙ rw (add-one f, e)
+  pub bodies-end : (p : ℕ) → p ≡ procedureCount g → f ≤ p → p ≤ f → bitOr all more ≡ countsBelow g (suc (procedureCount g))
+  bodies-end p c a b = let e : f ≡ p = omega arith in bodies-more ∙ rw (add-one f, e, c)
 
-pub bodies-start : (p : ℕ) (bs ix : List ℕ) → 0 ≡ countsBelow p bs ix 0
+pub bodies-start : (g : List ℕ) → 0 ≡ countsBelow g 0
 unfolding countsBelow
-bodies-start p bs ix = refl
+bodies-start g = refl
 
 -- sum by sum
 module _ (counts j sums : ℕ) (so : sums ≡ sumsBelow counts j) where

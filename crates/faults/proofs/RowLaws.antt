@@ -1,44 +1,59 @@
 -- Sets as words: what they say, and what the steps on them do. Any set is the word of its bits, up to number 63.
-use mathlib.Core.Path.{_≡_, refl, sym, ap, _∙_}
+use mathlib.Core.Path.{_≡_, refl, sym, ap, _∙_, subst}
 use mathlib.Core.Logic.{_≢_}
 use mathlib.Core.Bool.{Bool, true, false, _&&_, _||_, or-false}
-use mathlib.Core.List.{List, [], _∷_}
-use Prim.Native.Nat.{ℕ, zero, suc, _/_, _%_, _^_, _≤_, _<_}
-use native.Mathlib.Nat.{mod-lt, zero-lt-suc}
+use Prim.Native.Nat.{ℕ, suc, _+_, _-_, _*_, _/_, _%_, _^_, _≤_, _<_}
+use native.Mathlib.Nat.{mul-assoc}
 use native.Mathlib.Omega.{arith}
 use borrow.Author.Tests.{lt-ltb, le-ltb, eq-eqb, ne-eqb}
-use lib.Bits.{bitOr, or-shr, or-mod, or-lt}
-use lib.Pow.{pow-lt}
-use lib.ListN.{length}
+use lib.Bits.{bitOr, or-lt, shifted-even}
+use lib.Pow.{pow-lt, pow-add, shl-shr, shr-shr, field, mod-mod-pow}
 use lib.Dec.{eqb}
-use Rattle.model.specs.Lists.{entry}
-use Rattle.model.specs.Reach.{anyBelow}
 use Rattle.model.specs.Meaning.{bit, digit, wordFrom}
 use Rattle.model.proofs.BooleanLaws.{byBool, byEq, byLt}
 use Rattle.model.proofs.WordBits.{flip-same, flip-other, zero-bit, past-bit, word-bit, word-below, word-is}
-use Rattle.faults.specs.TouchedPositions.{Touched, touchesNone, touchesOne, joined, closes, callTouches}
-use Rattle.faults.specs.Rows.{rowOf, rowIs, marked, closedRow, knownTouches, carriedOn}
-
--- a bit of two words joined
-either : (x y : ℕ) → x < 2 → y < 2 → eqb (bitOr x y) 1 ≡ eqb x 1 || eqb y 1
-either zero zero h l = refl
-either zero (suc zero) h l = refl
-either (suc zero) zero h l = refl
-either (suc zero) (suc zero) h l = refl
-either zero (suc (suc y)) h l = absurd (omega arith)
-either (suc zero) (suc (suc y)) h l = absurd (omega arith)
-either (suc (suc x)) y h l = absurd (omega arith)
-
-pub or-bit : (n m k : ℕ) → bit (bitOr n m) k ≡ bit n k || bit m k
-or-bit n m k =
-    ap (λ (x : ℕ). eqb x 1) (ap (λ (x : ℕ). x % 2) (or-shr n m k) ∙ or-mod (n / 2 ^ k) (m / 2 ^ k) 1)
-    ∙ either (n / 2 ^ k % 2) (m / 2 ^ k % 2) (mod-lt (n / 2 ^ k) (zero-lt-suc 1)) (mod-lt (m / 2 ^ k) (zero-lt-suc 1))
+use Rattle.sets.proofs.BitLaws.{or-bit}
+use Rattle.faults.specs.TouchedPositions.{Touched, touchesNone, touchesOne, joined, closes}
+use Rattle.faults.specs.Rows.{rowOf, rowIs, marked, closedRow}
 
 -- 2 ^ k has bit k and no other: it is 0 with that bit flipped
 power-bit : (k t : ℕ) → bit (2 ^ k) t ≡ eqb t k
 power-bit k t = byEq t k
     (λ e. rw (e, eq-eqb k k refl) (flip-same 0 k ∙ rw (zero-bit k)))
     (λ ne. rw (ne-eqb t k ne) (flip-other 0 k t ne ∙ zero-bit t))
+
+-- the bits of a word of which 64 stay
+bit-mod : (x t d : ℕ) → bit (x % 2 ^ (suc d + t)) t ≡ bit x t
+bit-mod x t d =
+    let e : d + 1 ≡ suc d = omega arith in
+    ap (λ (y : ℕ). eqb y 1)
+      (ap (λ (y : ℕ). y % 2) (field x (suc d) t)
+      ∙ subst (λ (w : ℕ). x / 2 ^ t % 2 ^ w % 2 ≡ x / 2 ^ t % 2) e (mod-mod-pow (x / 2 ^ t) d 1))
+
+bit-kept : (x t : ℕ) → t < 64 → bit (x % 2 ^ 64) t ≡ bit x t
+bit-kept x t l =
+    let e : suc (63 - t) + t ≡ 64 = omega arith in
+    subst (λ (w : ℕ). bit (x % 2 ^ w) t ≡ bit x t) e (bit-mod x t (63 - t))
+
+bit-shifted : (x j k : ℕ) → bit (x * 2 ^ j) (j + k) ≡ bit x k
+bit-shifted x j k = ap (λ (y : ℕ). eqb (y % 2) 1) (sym (shr-shr (x * 2 ^ j) j k) ∙ ap (λ (y : ℕ). y / 2 ^ k) (shl-shr x j))
+
+bit-under : (x t d : ℕ) → bit (x * 2 ^ (suc d + t)) t ≡ false
+bit-under x t d = ap (λ (y : ℕ). eqb y 1)
+    (ap (λ (y : ℕ). y / 2 ^ t % 2) (ap (λ (y : ℕ). x * y) (pow-add 2 (suc d) t) ∙ sym (mul-assoc x (2 ^ suc d) (2 ^ t)))
+    ∙ ap (λ (y : ℕ). y % 2) (shl-shr (x * 2 ^ suc d) t) ∙ shifted-even x d)
+
+-- a word shifted up, of which 64 bits stay
+abbrev pub up : ℕ → ℕ → ℕ
+up x j = (x * 2 ^ j) % 2 ^ 64
+
+pub up-at : (x j k : ℕ) → j + k < 64 → bit (up x j) (j + k) ≡ bit x k
+up-at x j k l = bit-kept (x * 2 ^ j) (j + k) l ∙ bit-shifted x j k
+
+pub up-below : (x j t : ℕ) → t < j → t < 64 → bit (up x j) t ≡ false
+up-below x j t h l =
+    let e : suc (j - t - 1) + t ≡ j = omega arith in
+    bit-kept (x * 2 ^ j) t l ∙ subst (λ (w : ℕ). bit (x * 2 ^ w) t ≡ false) e (bit-under x t (j - t - 1))
 
 -- a row says up to 63 what it was made of, and nothing past that
 pub row-at : (x : Touched) (t : ℕ) → t < 64 → rowIs (rowOf x) t ≡ x t
@@ -48,7 +63,7 @@ row-past : (x : Touched) (t : ℕ) → 64 ≤ t → rowIs (rowOf x) t ≡ false
 row-past x t h = past-bit 64 (rowOf x) t (word-below 64 0 x) h
 
 -- the bits of a word up to 63 make it
-row-is : (x : Touched) (row : ℕ) → row < 2 ^ 64 → ((t : ℕ) → t < 64 → rowIs row t ≡ x t) → row ≡ rowOf x
+pub row-is : (x : Touched) (row : ℕ) → row < 2 ^ 64 → ((t : ℕ) → t < 64 → rowIs row t ≡ x t) → row ≡ rowOf x
 row-is x row h e = sym (word-is 64 0 x row h (λ t l. ap x (omega arith) ∙ sym (e t l)))
 
 same-row : (x y : Touched) → ((t : ℕ) → t < 64 → x t ≡ y t) → rowOf x ≡ rowOf y
@@ -106,34 +121,3 @@ closed-row q x out = rw (says, marked-row x q) (byBool (x q)
   where
     says : rowIs (rowOf x) q ≡ x q
     says = byLt q 64 (λ l. row-at x q l) (λ ge. row-past x q ge ∙ sym (out ge))
-
--- the positions below u of the callee's list l, carried to the caller
-abbrev pub carriedBelow : ℕ → List ℕ → Touched → Touched
-carriedBelow u l b = λ t. anyBelow u (λ v. b v && eqb (entry l v) t)
-
-pub carried-start : (l : List ℕ) (b : Touched) → 0 ≡ rowOf (carriedBelow 0 l b)
-unfolding anyBelow
-carried-start l b = none-row
-
-eqb-swap : (a b : ℕ) → eqb a b ≡ eqb b a
-eqb-swap a b = byEq a b
-    (λ e. rw (eq-eqb a b e, eq-eqb b a (sym e)))
-    (λ ne. rw (ne-eqb a b ne, ne-eqb b a (λ e. ne (sym e))))
-
--- one position more
-pub carried-more : (callee : ℕ) (l : List ℕ) (u : ℕ) →
-    carriedOn callee l u (rowOf (carriedBelow u l (rowIs callee))) ≡ rowOf (carriedBelow (suc u) l (rowIs callee))
-unfolding carriedOn anyBelow
-carried-more callee l u = byBool (rowIs callee u)
-    (λ e. rw (e, marked-row (carriedBelow u l (rowIs callee)) (entry l u))
-      (same-row (joined (carriedBelow u l (rowIs callee)) (touchesOne (entry l u))) (carriedBelow (suc u) l (rowIs callee))
-        (λ t h. rw (e, eqb-swap t (entry l u)))))
-    (λ e. rw e (same-row (carriedBelow u l (rowIs callee)) (carriedBelow (suc u) l (rowIs callee))
-      (λ t h. rw e (sym (or-false (carriedBelow u l (rowIs callee) t))))))
-
--- all positions of a list that is not empty
-pub carried-all : (known : List ℕ) (f : ℕ) (l : List ℕ) → (length l ≡ 0 → ⊥) →
-    rowOf (carriedBelow (suc (length l)) l (knownTouches known f (length l))) ≡ rowOf (callTouches (knownTouches known) f l)
-unfolding callTouches
-carried-all known f [] some = absurd (some refl)
-carried-all known f (x ∷ l) some = refl

@@ -10,8 +10,7 @@ use Rattle.model.specs.Limits.{mostQubits}
 use Rattle.model.specs.Syntax.{Statement, skip}
 use Rattle.model.specs.Lists.{qubits, remaining, holds}
 use Rattle.model.proofs.BooleanLaws.{or-false}
-use Rattle.records.specs.Fields.{removalsOf}
-use Rattle.table.specs.Index.{testAt, statementAt}
+use Rattle.decoded.specs.DecodedTable.{removalsIn, testAt, statementAt}
 use Rattle.step.specs.declared.Step.{Step}
 use Rattle.step.specs.declared.Step.the-variants as step
 use Rattle.step.specs.Steps.{stepAt}
@@ -36,62 +35,62 @@ module _ (o : CallTouches) (s u : Statement) (m : ℕ) where
         (touches-inside o u (min m mostQubits) q far))
 
 -- the row of what the statement at record i touches of a list of m entries, of as many as a list can have
-abbrev rowAt : List ℕ → ℕ → List ℕ → List ℕ → ℕ → ℕ → ℕ → ℕ
-rowAt known p bs ix m depth i = rowOf (touches (knownTouches known) (statementAt p bs ix depth i) (min m mostQubits))
+abbrev rowAt : List ℕ → List ℕ → ℕ → ℕ → ℕ → ℕ
+rowAt known g m depth i = rowOf (touches (knownTouches known) (statementAt g depth i) (min m mostQubits))
 
-module _ (known : List ℕ) (p : ℕ) (bs ix : List ℕ) (m depth i : ℕ) where
-  idle : statementAt p bs ix depth i ≡ skip → 0 ≡ rowAt known p bs ix m depth i
+module _ (known g : List ℕ) (m depth i : ℕ) where
+  idle : statementAt g depth i ≡ skip → 0 ≡ rowAt known g m depth i
   unfolding touches
   idle e = rw e none-row
 
   -- deeper than a tree can be
-  pub walk-deep : depth ≡ 0 → 0 ≡ rowAt known p bs ix m depth i
-  walk-deep e = idle (spent-skip p bs ix depth i e)
+  pub walk-deep : depth ≡ 0 → 0 ≡ rowAt known g m depth i
+  walk-deep e = idle (spent-skip g depth i e)
 
-  module _ (l : List ℕ) (st : Step) (deep : depth ≡ 0 → ⊥) (listed : l ≡ qubits (min m mostQubits)) (steps : st ≡ stepAt p bs ix i l) where
-    pub walk-idle : (x : Step) → st ≡ x → Idle x → 0 ≡ rowAt known p bs ix m depth i
-    walk-idle x e o = idle (idle-skip p bs ix depth i l deep steps x e o)
+  module _ (l : List ℕ) (st : Step) (deep : depth ≡ 0 → ⊥) (listed : l ≡ qubits (min m mostQubits)) (steps : st ≡ stepAt g i l) where
+    pub walk-idle : (x : Step) → st ≡ x → Idle x → 0 ≡ rowAt known g m depth i
+    walk-idle x e o = idle (idle-skip g depth i l deep steps x e o)
 
     module _ (row : ℕ) where
-      pub walk-touches : (q : ℕ) → st ≡ step.Touches q → row ≡ marked 0 q → row ≡ rowAt known p bs ix m depth i
+      pub walk-touches : (q : ℕ) → st ≡ step.Touches q → row ≡ marked 0 q → row ≡ rowAt known g m depth i
       unfolding touches
       walk-touches q e r =
-        let h = at-step p bs ix depth i l deep steps e in
+        let h = at-step g depth i l deep steps e in
         rw (h .2, ← listed, ← h .3) (r ∙ one-row q)
 
-      pub walk-calls : (f at : ℕ) (rest : List ℕ) → st ≡ step.Calls f at → rest ≡ remaining (removalsOf bs at) l →
-          row ≡ rowOf (callTouches (knownTouches known) f rest) → row ≡ rowAt known p bs ix m depth i
+      pub walk-calls : (f at : ℕ) (rest : List ℕ) → st ≡ step.Calls f at → rest ≡ remaining (removalsIn g at) l →
+          row ≡ rowOf (callTouches (knownTouches known) f rest) → row ≡ rowAt known g m depth i
       unfolding touches
-      walk-calls f at rest e left r = rw (at-step p bs ix depth i l deep steps e, ← listed, ← left) r
+      walk-calls f at rest e left r = rw (at-step g depth i l deep steps e, ← listed, ← left) r
 
       -- the chosen branch of an if
-      pub walk-chosen : (c a b x : ℕ) → st ≡ step.Chooses c a b → x ≡ cond (holds (testAt p bs ix (depth - 1) c) l) a b →
-          row ≡ rowAt known p bs ix m (depth - 1) x → row ≡ rowAt known p bs ix m depth i
+      pub walk-chosen : (c a b x : ℕ) → st ≡ step.Chooses c a b → x ≡ cond (holds (testAt g (depth - 1) c) l) a b →
+          row ≡ rowAt known g m (depth - 1) x → row ≡ rowAt known g m depth i
       walk-chosen c a b x e q r =
         let o = knownTouches known in
         r ∙ sym (chosen-means (λ s. rowOf (touches o s (min m mostQubits))) l
           (λ c s t h. ap rowOf (touches-yes o c s t (min m mostQubits) (rw listed at h)))
           (λ c s t h. ap rowOf (touches-no o c s t (min m mostQubits) (rw listed at h)))
-          p bs ix depth i deep steps e q)
+          g depth i deep steps e q)
 
     -- both parts, in sequence or under a qcase
     module _ (a b first second : ℕ)
-        (one : first ≡ rowAt known p bs ix m (depth - 1) a) (two : second ≡ rowAt known p bs ix m (depth - 1) b) where
-      together : bitOr first second ≡ rowOf (joined (touches (knownTouches known) (statementAt p bs ix (depth - 1) a) (min m mostQubits))
-          (touches (knownTouches known) (statementAt p bs ix (depth - 1) b) (min m mostQubits)))
-      together = rw (one, two) (joined-row (touches (knownTouches known) (statementAt p bs ix (depth - 1) a) (min m mostQubits))
-          (touches (knownTouches known) (statementAt p bs ix (depth - 1) b) (min m mostQubits)))
+        (one : first ≡ rowAt known g m (depth - 1) a) (two : second ≡ rowAt known g m (depth - 1) b) where
+      together : bitOr first second ≡ rowOf (joined (touches (knownTouches known) (statementAt g (depth - 1) a) (min m mostQubits))
+          (touches (knownTouches known) (statementAt g (depth - 1) b) (min m mostQubits)))
+      together = rw (one, two) (joined-row (touches (knownTouches known) (statementAt g (depth - 1) a) (min m mostQubits))
+          (touches (knownTouches known) (statementAt g (depth - 1) b) (min m mostQubits)))
 
-      pub walk-sequence : st ≡ step.Sequence a b → bitOr first second ≡ rowAt known p bs ix m depth i
+      pub walk-sequence : st ≡ step.Sequence a b → bitOr first second ≡ rowAt known g m depth i
       unfolding touches
-      walk-sequence e = rw (at-step p bs ix depth i l deep steps e) together
+      walk-sequence e = rw (at-step g depth i l deep steps e) together
 
       pub walk-branches : (q closed : ℕ) → st ≡ step.Branches q a b → closed ≡ closedRow q (bitOr first second) →
-          closed ≡ rowAt known p bs ix m depth i
+          closed ≡ rowAt known g m depth i
       unfolding touches
       walk-branches q closed e c =
-        let h = at-step p bs ix depth i l deep steps e in
+        let h = at-step g depth i l deep steps e in
         rw (h .2, ← listed, ← h .3)
-          (c ∙ rw together (closes-rows (knownTouches known) (statementAt p bs ix (depth - 1) a) (statementAt p bs ix (depth - 1) b) m q))
+          (c ∙ rw together (closes-rows (knownTouches known) (statementAt g (depth - 1) a) (statementAt g (depth - 1) b) m q))
 
 pub ruleset walking = (needs, walk-deep, walk-idle, walk-touches, walk-sequence, walk-chosen, walk-branches, walk-calls)

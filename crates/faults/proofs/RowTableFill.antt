@@ -15,7 +15,7 @@ use mir.Val.{Fits}
 use Rattle.limits.specs.Sizes.{bodyCount, rowCount}
 use Rattle.model.specs.Limits.{mostDepth, mostQubits}
 use Rattle.model.specs.Meaning.{digit}
-use Rattle.table.specs.Index.{rootOf, statementAt}
+use Rattle.decoded.specs.DecodedTable.{procedureCount, rootOf, statementAt}
 use Rattle.reach.specs.Matrix.{recursiveIn}
 use Rattle.reach.proofs.MatrixOperations.{left-never}
 use Rattle.faults.specs.TouchedPositions.{touches}
@@ -101,82 +101,83 @@ module _ (f m row : ℕ) (known : List ℕ) (at : ℕ) (here : at ≡ place f m)
   unfolding stored
   store-past l = rw (← here, le-ltb at rowCount l)
 
-module _ (p : ℕ) (bs ix : List ℕ) (f m : ℕ) (known next : List ℕ) where
+module _ (g : List ℕ) (f m : ℕ) (known next : List ℕ) where
   -- a row of the table
-  pub row-filled : (root row : ℕ) → root ≡ rootOf ix f →
-      row ≡ rowOf (touches (knownTouches known) (statementAt p bs ix mostDepth root) (min m mostQubits)) →
-      next ≡ stored f m row known → next ≡ filledRow p bs ix f m known
+  pub row-filled : (root row : ℕ) → root ≡ rootOf g f →
+      row ≡ rowOf (touches (knownTouches known) (statementAt g mostDepth root) (min m mostQubits)) →
+      next ≡ stored f m row known → next ≡ filledRow g f m known
   unfolding filledRow
   row-filled root row at t s = rw (← at, ← t) s
 
   module _ (ranks : List ℕ) (k r : ℕ) (ranked : r ≡ rankAt ranks f) where
-    pub fill-ranked : r ≡ k → next ≡ filledRow p bs ix f m known → next ≡ filledIf p bs ix ranks k f m known
+    pub fill-ranked : r ≡ k → next ≡ filledRow g f m known → next ≡ filledIf g ranks k f m known
     unfolding filledIf
     fill-ranked e s = rw (← ranked, eq-eqb r k e) s
 
-    pub fill-other : (r ≡ k → ⊥) → known ≡ filledIf p bs ix ranks k f m known
+    pub fill-other : (r ≡ k → ⊥) → known ≡ filledIf g ranks k f m known
     unfolding filledIf
     fill-other n = rw (← ranked, ne-eqb r k n)
 
-module _ (p : ℕ) (bs ix ranks : List ℕ) (now next first : List ℕ) where
+module _ (g ranks : List ℕ) (now next first : List ℕ) where
   -- procedure by procedure
-  module _ (f k m : ℕ) (so : now ≡ filledRank p bs ix ranks f k m first) where
-    pub procedures-more : next ≡ filledIf p bs ix ranks k (f + 1) m now → next ≡ filledRank p bs ix ranks (f + 1) k m first
+  module _ (f k m : ℕ) (so : now ≡ filledRank g ranks f k m first) where
+    pub procedures-more : next ≡ filledIf g ranks k (f + 1) m now → next ≡ filledRank g ranks (f + 1) k m first
     unfolding filledRank
     procedures-more e = rw (add-one f, ← so, ← add-one f) e
 
-    pub procedures-end : f ≤ p → p ≤ f → now ≡ filledRank p bs ix ranks p k m first
-    procedures-end a b = let e : f ≡ p = omega arith in so ∙ rw e
+    pub procedures-end : (p : ℕ) → p ≡ procedureCount g → f ≤ p → p ≤ f → now ≡ filledRank g ranks (procedureCount g) k m first
+    procedures-end p c a b = let e : f ≡ p = omega arith in so ∙ rw (e, c)
 
   -- rank by rank
-  module _ (k m : ℕ) (so : now ≡ filledLength p bs ix ranks k m first) where
-    pub length-more : next ≡ filledRank p bs ix ranks p (k + 1) m now → next ≡ filledLength p bs ix ranks (k + 1) m first
+  module _ (k m : ℕ) (so : now ≡ filledLength g ranks k m first) where
+    pub length-more : next ≡ filledRank g ranks (procedureCount g) (k + 1) m now → next ≡ filledLength g ranks (k + 1) m first
     unfolding filledLength
     length-more e = rw (add-one k, ← so, ← add-one k) e
 
-    pub length-end : k ≤ p → p ≤ k → now ≡ filledLength p bs ix ranks p m first
-    length-end a b = let e : k ≡ p = omega arith in so ∙ rw e
+    pub length-end : (p : ℕ) → p ≡ procedureCount g → k ≤ p → p ≤ k → now ≡ filledLength g ranks (procedureCount g) m first
+    length-end p c a b = let e : k ≡ p = omega arith in so ∙ rw (e, c)
 
   -- length by length
-  module _ (sums n m : ℕ) (so : now ≡ filled p bs ix ranks sums n m first) where
-    pub lengths-more : next ≡ filledAsked p bs ix ranks sums (n - (m + 1)) (m + 1) now → next ≡ filled p bs ix ranks sums n (m + 1) first
+  module _ (sums n m : ℕ) (so : now ≡ filled g ranks sums n m first) where
+    pub lengths-more : next ≡ filledAsked g ranks sums (n - (m + 1)) (m + 1) now → next ≡ filled g ranks sums n (m + 1) first
     unfolding filled
     lengths-more e = rw (add-one m, ← so, ← add-one m) e
 
-    pub lengths-end : (matrix : List ℕ) (counts : ℕ) → ranks ≡ ranksIn matrix p → counts ≡ countsBelow p bs ix (suc p) → sums ≡ sumsBelow counts mostQubits →
-        m ≤ n → n ≤ m → now ≡ filled p bs ix (ranksIn matrix p) (sumsIn p bs ix) n n first
-    lengths-end matrix counts r c s a b = let e : m ≡ n = omega arith in rw (← r, ← c, ← s) (so ∙ rw e)
+    pub lengths-end : (matrix : List ℕ) (p counts : ℕ) → p ≡ procedureCount g → ranks ≡ ranksIn matrix p →
+        counts ≡ countsBelow g (suc (procedureCount g)) → sums ≡ sumsBelow counts mostQubits →
+        m ≤ n → n ≤ m → now ≡ filled g (ranksIn matrix (procedureCount g)) (sumsIn g) n n first
+    lengths-end matrix p counts q r c s a b = let e : m ≡ n = omega arith in rw (← c, ← s, ← q, ← r) (so ∙ rw e)
 
-module _ (p : ℕ) (bs ix ranks : List ℕ) (first : List ℕ) where
-  pub procedures-start : (k m : ℕ) → first ≡ filledRank p bs ix ranks 0 k m first
+module _ (g ranks : List ℕ) (first : List ℕ) where
+  pub procedures-start : (k m : ℕ) → first ≡ filledRank g ranks 0 k m first
   unfolding filledRank
   procedures-start k m = refl
 
-  pub length-start : (m : ℕ) → first ≡ filledLength p bs ix ranks 0 m first
+  pub length-start : (m : ℕ) → first ≡ filledLength g ranks 0 m first
   unfolding filledLength
   length-start m = refl
 
-  pub lengths-start : (sums n : ℕ) → first ≡ filled p bs ix ranks sums n 0 first
+  pub lengths-start : (sums n : ℕ) → first ≡ filled g ranks sums n 0 first
   unfolding filled
   lengths-start sums n = refl
 
   -- lengths that calls can lead to
   module _ (sums gone m : ℕ) (b : Bool) (e : b ≡ rowIs sums gone) where
-    pub asked-yes : (next : List ℕ) → b ≡ true → next ≡ filledLength p bs ix ranks p m first → next ≡ filledAsked p bs ix ranks sums gone m first
+    pub asked-yes : (next : List ℕ) → b ≡ true → next ≡ filledLength g ranks (procedureCount g) m first → next ≡ filledAsked g ranks sums gone m first
     unfolding filledAsked
     asked-yes next y h = rw (← e, y) h
 
-    pub asked-not : b ≡ false → first ≡ filledAsked p bs ix ranks sums gone m first
+    pub asked-not : b ≡ false → first ≡ filledAsked g ranks sums gone m first
     unfolding filledAsked
     asked-not n = rw (← e, n)
 
 -- main, by the whole table
-pub main-row : (p : ℕ) (bs ix matrix known : List ℕ) (n root row : ℕ) (r : Bool) →
-    known ≡ filled p bs ix (ranksIn matrix p) (sumsIn p bs ix) n n (replicate rowCount 0) → root ≡ rootOf ix 0 →
-    row ≡ rowOf (touches (knownTouches known) (statementAt p bs ix mostDepth root) (min n mostQubits)) → r ≡ rowIs row 0 → r ≡ faultsAt p bs ix matrix n
+pub main-row : (g matrix known : List ℕ) (n root row : ℕ) (r : Bool) →
+    known ≡ filled g (ranksIn matrix (procedureCount g)) (sumsIn g) n n (replicate rowCount 0) → root ≡ rootOf g 0 →
+    row ≡ rowOf (touches (knownTouches known) (statementAt g mostDepth root) (min n mostQubits)) → r ≡ rowIs row 0 → r ≡ faultsAt g matrix n
 unfolding faultsAt
-main-row p bs ix matrix known n root row r k at t e =
-    rw (← k, ← at) (e ∙ rw t (row-at (touches (knownTouches known) (statementAt p bs ix mostDepth root) (min n mostQubits)) 0 (lit< tt)))
+main-row g matrix known n root row r k at t e =
+    rw (← k, ← at) (e ∙ rw t (row-at (touches (knownTouches known) (statementAt g mostDepth root) (min n mostQubits)) 0 (lit< tt)))
 
 pub ruleset filling = (needs, store-within, store-past, row-filled, fill-ranked, fill-other, procedures-more, procedures-end, procedures-start,
     length-more, length-end, length-start, asked-yes, asked-not, lengths-more, lengths-end, lengths-start, main-row)

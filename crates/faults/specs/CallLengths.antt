@@ -7,7 +7,7 @@ use lib.Bits.{bitOr}
 use lib.ListN.{length}
 use Rattle.model.specs.Limits.{mostQubits}
 use Rattle.model.specs.Syntax.{Statement, skip, NOT, sequence, if, qcase, call}
-use Rattle.table.specs.Index.{bodyAt}
+use Rattle.decoded.specs.DecodedTable.{procedureCount, bodyAt}
 use Rattle.faults.specs.TouchedPositions.{Touched, touchesNone, touchesOne, joined}
 use Rattle.faults.specs.Rows.{rowOf, rowIs}
 
@@ -21,9 +21,9 @@ removalCounts (qcase rs a s t) = joined (removalCounts s) (removalCounts t)
 removalCounts (call rs f) = touchesOne (length rs)
 
 -- those in the bodies below n
-unfoldable pub countsBelow : ℕ → List ℕ → List ℕ → ℕ → ℕ
-countsBelow p bs ix zero = 0
-countsBelow p bs ix (suc f) = bitOr (countsBelow p bs ix f) (rowOf (removalCounts (bodyAt p bs ix f)))
+unfoldable pub countsBelow : List ℕ → ℕ → ℕ
+countsBelow g zero = 0
+countsBelow g (suc f) = bitOr (countsBelow g f) (rowOf (removalCounts (bodyAt g f)))
 
 -- 0, and what one number of the set more makes of the sums below n
 unfoldable pub sumsBelow : ℕ → ℕ → ℕ
@@ -31,5 +31,5 @@ sumsBelow counts zero = 1
 sumsBelow counts (suc j) = cond (rowIs (sumsBelow counts j) j) (bitOr (sumsBelow counts j) ((counts * 2 ^ j) % 2 ^ 64)) (sumsBelow counts j)
 
 -- how many entries of main's list calls can remove
-abbrev pub sumsIn : ℕ → List ℕ → List ℕ → ℕ
-sumsIn p bs ix = sumsBelow (countsBelow p bs ix (suc p)) mostQubits
+abbrev pub sumsIn : List ℕ → ℕ
+sumsIn g = sumsBelow (countsBelow g (suc (procedureCount g))) mostQubits

@@ -7,7 +7,7 @@ use lib.Dec.{eqb, ltb}
 use Rattle.limits.specs.Sizes.{bodyCount, rowCount}
 use Rattle.model.specs.Limits.{mostQubits}
 use Rattle.model.specs.Meaning.{digit}
-use Rattle.table.specs.Index.{bodyAt}
+use Rattle.decoded.specs.DecodedTable.{procedureCount, bodyAt}
 use Rattle.reach.specs.Matrix.{recursiveIn}
 use Rattle.faults.specs.TouchedPositions.{touches}
 use Rattle.faults.specs.Rows.{rowOf, rowIs, knownTouches, stored}
@@ -40,13 +40,13 @@ abbrev pub rankAt : List ℕ → ℕ → ℕ
 rankAt ranks f = cond (ltb f bodyCount) (getD ranks f 0) 0
 
 -- the row of procedure f on lists of length m: what its body touches, by the table so far
-unfoldable pub filledRow : ℕ → List ℕ → List ℕ → ℕ → ℕ → List ℕ → List ℕ
-filledRow p bs ix f m known = stored f m (rowOf (touches (knownTouches known) (bodyAt p bs ix f) (min m mostQubits))) known
+unfoldable pub filledRow : List ℕ → ℕ → ℕ → List ℕ → List ℕ
+filledRow g f m known = stored f m (rowOf (touches (knownTouches known) (bodyAt g f) (min m mostQubits))) known
 
-module _ (p : ℕ) (bs ix ranks : List ℕ) where
+module _ (g ranks : List ℕ) where
   -- only where f has rank k
   unfoldable pub filledIf : ℕ → ℕ → ℕ → List ℕ → List ℕ
-  filledIf k f m known = cond (eqb (rankAt ranks f) k) (filledRow p bs ix f m known) known
+  filledIf k f m known = cond (eqb (rankAt ranks f) k) (filledRow g f m known) known
 
   -- procedures 1 to n, those of rank k
   unfoldable pub filledRank : ℕ → ℕ → ℕ → List ℕ → List ℕ
@@ -56,11 +56,11 @@ module _ (p : ℕ) (bs ix ranks : List ℕ) where
   -- ranks 1 to n
   unfoldable pub filledLength : ℕ → ℕ → List ℕ → List ℕ
   filledLength zero m known = known
-  filledLength (suc k) m known = filledRank p (suc k) m (filledLength k m known)
+  filledLength (suc k) m known = filledRank (procedureCount g) (suc k) m (filledLength k m known)
 
   -- only where calls can have removed `gone` entries of main's list
   unfoldable pub filledAsked : ℕ → ℕ → ℕ → List ℕ → List ℕ
-  filledAsked sums gone m known = cond (rowIs sums gone) (filledLength p m known) known
+  filledAsked sums gone m known = cond (rowIs sums gone) (filledLength (procedureCount g) m known) known
 
   -- lengths 1 to m, of main's n
   unfoldable pub filled : ℕ → ℕ → ℕ → List ℕ → List ℕ
@@ -68,6 +68,6 @@ module _ (p : ℕ) (bs ix ranks : List ℕ) where
   filled sums n (suc m) known = filledAsked sums (n - suc m) (suc m) (filled sums n m known)
 
 -- does main fault on n qubits, by the table of lengths 1 to n? Position 0 of its row says so
-unfoldable pub faultsAt : ℕ → List ℕ → List ℕ → List ℕ → ℕ → Bool
-faultsAt p bs ix matrix n =
-    touches (knownTouches (filled p bs ix (ranksIn matrix p) (sumsIn p bs ix) n n (replicate rowCount 0))) (bodyAt p bs ix 0) (min n mostQubits) 0
+unfoldable pub faultsAt : List ℕ → List ℕ → ℕ → Bool
+faultsAt g matrix n =
+    touches (knownTouches (filled g (ranksIn matrix (procedureCount g)) (sumsIn g) n n (replicate rowCount 0))) (bodyAt g 0) (min n mostQubits) 0

@@ -6,7 +6,6 @@ use lib.Bits.{bitOr}
 use lib.ListN.{getD, set}
 use lib.Dec.{ltb}
 use Rattle.limits.specs.Sizes.{lengthCount, rowCount}
-use Rattle.model.specs.Lists.{entry}
 use Rattle.model.specs.Meaning.{bit, wordFrom}
 use Rattle.faults.specs.TouchedPositions.{Touched, CallTouches}
 
@@ -37,10 +36,6 @@ knownRow known f m = cond (ltb (place f m) rowCount) (getD known (place f m) 0) 
 -- what the table says that calls touch
 abbrev pub knownTouches : List ℕ → CallTouches
 knownTouches known f m = rowIs (knownRow known f m)
-
--- position u of the callee's list l, where it is touched, goes into the caller's row as the entry that stands there
-unfoldable pub carriedOn : ℕ → List ℕ → ℕ → ℕ → ℕ
-carriedOn callee l u row = cond (rowIs callee u) (marked row (entry l u)) row
 
 -- the row of procedure f on lists of length m, written; nothing past the table's end
 unfoldable pub stored : ℕ → ℕ → ℕ → List ℕ → List ℕ

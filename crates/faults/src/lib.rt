@@ -4,22 +4,23 @@ ghost use mathlib.Core.Path.{_≡_};
 ghost use Prim.Native.Nat.{min, suc};
 ghost use Rattle.model.specs.Limits.{mostQubits};
 ghost use Rattle.model.specs.Meaning.{digit};
-ghost use Rattle.table.specs.Index.{statementAt};
-ghost use Rattle.step.specs.Steps.{qubitsOf};
+ghost use Rattle.decoded.specs.DecodedTable.{statementAt, procedureCount};
+ghost use Rattle.sets.specs.Sets.{membersOf};
 ghost use Rattle.faults.specs.TouchedPositions.{callTouches, touches};
-ghost use Rattle.faults.specs.Rows.{rowOf, rowIs, marked, closedRow, place, knownRow, knownTouches, carriedOn, stored};
+ghost use Rattle.faults.specs.Rows.{rowOf, rowIs, marked, closedRow, place, knownRow, knownTouches, stored};
 ghost use Rattle.faults.specs.CallLengths.{removalCounts, countsBelow, sumsBelow, sumsIn};
 ghost use Rattle.faults.specs.RowTable.{fromIn, rankIn, ranksIn, rankAt};
 ghost use Rattle.faults.specs.RowTable.{filledRow, filledIf, filledRank, filledLength, filledAsked, filled, faultsAt};
-use limits::{BODIES, BODY_COUNT, LENGTH_COUNT, MATRIX_LENGTH, MOST_DEPTH, MOST_QUBITS, ROW_COUNT};
-use reach::{Parts, parts_at, recursive, removal_count, root};
-use step::{Qubits, Step, all, chosen, entry, remaining, size, step_at};
+use limits::{BODIES, BODY_COUNT, LENGTH_COUNT, MATRIX_LENGTH, MOST_DEPTH, MOST_QUBITS, PROGRAM_LENGTH, ROW_COUNT};
+use reach::{Parts, parts_at, recursive};
+use sets::{QubitSet, carried, size};
+use step::{Step, all, chosen, procedures, remaining, removal_count, root, step_at};
 
 // A set of numbers below 64 is a word, whose bit t says whether t is in it. A row is the set of the positions touched, counted from 1; 0 is in it
 // for a fault inside.
 
 // The set with one number more; none past 63.
-fn mark(word: u64, t: u8) -> u64
+fn mark(word: u64, t: u32) -> u64
     ensures { λ r. ⌜ r ≡ marked word t ⌝ }
 {
     if t < 64 { word | (1u64 << t) } else { word }
@@ -36,7 +37,7 @@ fn contains(word: u64, t: u8) -> bool
 fn closes(q: u8, row: u64) -> u64
     ensures { λ r. ⌜ r ≡ closedRow q row ⌝ }
 {
-    let closed = mark(row, q);
+    let closed = mark(row, q as u32);
     if contains(row, q) {
         return mark(closed, 0);
     }
@@ -58,61 +59,48 @@ fn row_at(known: &[u64; ROW_COUNT], f: u8, m: u8) -> u64
     if at < ROW_COUNT { known[at] } else { 0 }
 }
 
-// Position u of the callee's list, where it is touched, is the caller's position that stands there; a fault stays one.
-fn carry(callee: u64, list: Qubits, u: u8, row: u64) -> u64
-    ensures { λ r. ⌜ r ≡ carriedOn callee (qubitsOf list) u row ⌝ }
+// What a call of f with a list touches: the positions of the callee's list are the caller's that stand there, and a fault stays one. "A call with
+// an empty list does nothing."
+fn called(known: &[u64; ROW_COUNT], f: u8, list: QubitSet) -> u64
+    ensures { λ r. ⌜ r ≡ rowOf (callTouches (knownTouches (now (known .entry))) f (membersOf list)) ⌝ }
 {
-    if contains(callee, u) {
-        return mark(row, entry(list, u as i32));
-    }
-    row
-}
-
-// What a call of f with a list touches. "A call with an empty list does nothing."
-fn called(known: &[u64; ROW_COUNT], f: u8, list: Qubits) -> u64
-    ensures { λ r. ⌜ r ≡ rowOf (callTouches (knownTouches (now (known .entry))) f (qubitsOf list)) ⌝ }
-{
-    let m = size(list);
-    if m == 0 {
+    if list == 0 {
         return 0;
     }
-    let callee = row_at(known, f, m);
-    let mut row = 0;
-    for u in 0..=m {
-        row = carry(callee, list, u, row);
-    }
-    row
+    let callee = row_at(known, f, size(list));
+    (carried(callee >> 1, list) << 1) | (callee & 1)
 }
 
-// What the statement at record i touches of a list of m entries, of as many as a list can have, by their positions: both branches of a qcase, the chosen branch of an if.
-fn touches(table: &[u8], index: &[u16], p: u8, i: usize, depth: u8, m: u8, known: &[u64; ROW_COUNT]) -> u64
+// What the statement at record i touches of a list of m entries, of as many as a list can have, by their positions: both branches of a qcase, the
+// chosen branch of an if.
+fn touches(program: &[u32; PROGRAM_LENGTH], i: u32, depth: u8, m: u8, known: &[u64; ROW_COUNT]) -> u64
     ensures {
-        λ r. ⌜ r ≡ rowOf (touches (knownTouches (now (known .entry))) (statementAt p (now (table .entry)) (now (index .entry)) depth i) (min m mostQubits)) ⌝
+        λ r. ⌜ r ≡ rowOf (touches (knownTouches (now (known .entry))) (statementAt (now (program .entry)) depth i) (min m mostQubits)) ⌝
     }
 {
     if depth == 0 {
         return 0;
     }
     let list = all(m);
-    let step = step_at(table, index, p, i, list);
+    let step = step_at(program, i, list);
     match step {
         Step::Nothing => 0,
-        Step::Touches(q) => mark(0, q),
+        Step::Touches(q) => mark(0, q as u32),
         Step::Sequence(first, second) => {
-            let a = touches(table, index, p, first, depth - 1, m, known);
-            let b = touches(table, index, p, second, depth - 1, m, known);
+            let a = touches(program, first, depth - 1, m, known);
+            let b = touches(program, second, depth - 1, m, known);
             a | b
         }
         Step::Chooses(test, yes, no) => {
-            let part = chosen(table, index, p, test, yes, no, list, depth - 1);
-            touches(table, index, p, part, depth - 1, m, known)
+            let part = chosen(program, test, yes, no, list, depth - 1);
+            touches(program, part, depth - 1, m, known)
         }
         Step::Branches(q, zero, one) => {
-            let a = touches(table, index, p, zero, depth - 1, m, known);
-            let b = touches(table, index, p, one, depth - 1, m, known);
+            let a = touches(program, zero, depth - 1, m, known);
+            let b = touches(program, one, depth - 1, m, known);
             closes(q, a | b)
         }
-        Step::Calls(f, at) => called(known, f, remaining(table, at, list)),
+        Step::Calls(f, at) => called(known, f, remaining(program, at, list)),
         Step::Holds(_) => 0,
         Step::Both(_, _) => 0,
         Step::Either(_, _) => 0,
@@ -124,27 +112,28 @@ fn touches(table: &[u8], index: &[u16], p: u8, i: usize, depth: u8, m: u8, known
 // calls lead to lists that are shorter by a sum of such numbers.
 
 // How many removals the calls in the statement at record i carry, as a set.
-fn counts(table: &[u8], index: &[u16], p: u8, i: usize, depth: u8) -> u64
-    ensures { λ r. ⌜ r ≡ rowOf (removalCounts (statementAt p (now (table .entry)) (now (index .entry)) depth i)) ⌝ }
+fn counts(program: &[u32; PROGRAM_LENGTH], i: u32, depth: u8) -> u64
+    ensures { λ r. ⌜ r ≡ rowOf (removalCounts (statementAt (now (program .entry)) depth i)) ⌝ }
 {
     if depth == 0 {
         return 0;
     }
-    let found = parts_at(table, index, p, i);
+    let found = parts_at(program, i);
     match found {
         Parts::Neither => 0,
-        Parts::Two(a, b, _) => counts(table, index, p, a, depth - 1) | counts(table, index, p, b, depth - 1),
-        Parts::Call(_, at) => mark(0, removal_count(table, at)),
+        Parts::Two(a, b, _) => counts(program, a, depth - 1) | counts(program, b, depth - 1),
+        Parts::Call(_, at) => mark(0, removal_count(program, at)),
     }
 }
 
 // The same for all bodies.
-fn all_counts(table: &[u8], index: &[u16], p: u8) -> u64
-    ensures { λ r. ⌜ r ≡ countsBelow p (now (table .entry)) (now (index .entry)) (suc p) ⌝ }
+fn all_counts(program: &[u32; PROGRAM_LENGTH]) -> u64
+    ensures { λ r. ⌜ r ≡ countsBelow (now (program .entry)) (suc (procedureCount (now (program .entry)))) ⌝ }
 {
+    let p = procedures(program);
     let mut all = 0;
     for f in 0..=p {
-        all |= counts(table, index, p, root(index, f), MOST_DEPTH);
+        all |= counts(program, root(program, f), MOST_DEPTH);
     }
     all
 }
@@ -213,85 +202,86 @@ fn store(known: &mut [u64; ROW_COUNT], f: u8, m: u8, row: u64)
 }
 
 // The row of procedure f on lists of length m: what its body touches, by the table so far.
-fn fill_row(table: &[u8], index: &[u16], p: u8, f: u8, m: u8, known: &mut [u64; ROW_COUNT])
+fn fill_row(program: &[u32; PROGRAM_LENGTH], f: u8, m: u8, known: &mut [u64; ROW_COUNT])
     ensures {
-        λ r. ⌜ now (known .exit) ≡ filledRow p (now (table .entry)) (now (index .entry)) f m (now (known .entry)) ⌝
+        λ r. ⌜ now (known .exit) ≡ filledRow (now (program .entry)) f m (now (known .entry)) ⌝
     }
 {
-    let row = touches(table, index, p, root(index, f), MOST_DEPTH, m, known);
+    let row = touches(program, root(program, f), MOST_DEPTH, m, known);
     store(known, f, m, row);
 }
 
 // The same, but only where f has rank k.
-fn fill_if(table: &[u8], index: &[u16], p: u8, k: usize, f: u8, m: u8, ranks: &[usize; BODY_COUNT], known: &mut [u64; ROW_COUNT])
+fn fill_if(program: &[u32; PROGRAM_LENGTH], k: usize, f: u8, m: u8, ranks: &[usize; BODY_COUNT], known: &mut [u64; ROW_COUNT])
     ensures {
-        λ r. ⌜ now (known .exit) ≡ filledIf p (now (table .entry)) (now (index .entry)) (now (ranks .entry)) k f m (now (known .entry)) ⌝
+        λ r. ⌜ now (known .exit) ≡ filledIf (now (program .entry)) (now (ranks .entry)) k f m (now (known .entry)) ⌝
     }
 {
     if rank_at(ranks, f) == k {
-        fill_row(table, index, p, f, m, known);
+        fill_row(program, f, m, known);
     }
 }
 
 // All procedures of rank k, on lists of length m.
-fn fill_rank(table: &[u8], index: &[u16], p: u8, k: usize, m: u8, ranks: &[usize; BODY_COUNT], known: &mut [u64; ROW_COUNT])
+fn fill_rank(program: &[u32; PROGRAM_LENGTH], k: usize, m: u8, ranks: &[usize; BODY_COUNT], known: &mut [u64; ROW_COUNT])
     ensures {
-        λ r. ⌜ now (known .exit) ≡ filledRank p (now (table .entry)) (now (index .entry)) (now (ranks .entry)) p k m (now (known .entry)) ⌝
+        λ r. ⌜ now (known .exit) ≡ filledRank (now (program .entry)) (now (ranks .entry)) (procedureCount (now (program .entry))) k m (now (known .entry)) ⌝
     }
 {
+    let p = procedures(program);
     let mut f = 0;
     while f < p {
         f += 1;
-        fill_if(table, index, p, k, f, m, ranks, known);
+        fill_if(program, k, f, m, ranks, known);
     }
 }
 
 // All procedures, on lists of length m: by rank, so that what a body calls on lists of the same length is there before it.
-fn fill_length(table: &[u8], index: &[u16], p: u8, m: u8, ranks: &[usize; BODY_COUNT], known: &mut [u64; ROW_COUNT])
+fn fill_length(program: &[u32; PROGRAM_LENGTH], m: u8, ranks: &[usize; BODY_COUNT], known: &mut [u64; ROW_COUNT])
     ensures {
-        λ r. ⌜ now (known .exit) ≡ filledLength p (now (table .entry)) (now (index .entry)) (now (ranks .entry)) p m (now (known .entry)) ⌝
+        λ r. ⌜ now (known .exit) ≡ filledLength (now (program .entry)) (now (ranks .entry)) (procedureCount (now (program .entry))) m (now (known .entry)) ⌝
     }
 {
-    let highest = p as usize;
+    let highest = procedures(program) as usize;
     let mut k = 0;
     while k < highest {
         k += 1;
-        fill_rank(table, index, p, k, m, ranks, known);
+        fill_rank(program, k, m, ranks, known);
     }
 }
 
 // The same, but only where calls can have removed `gone` entries of main's list, so that m are left.
-fn fill_asked(table: &[u8], index: &[u16], p: u8, gone: u8, m: u8, sums: u64, ranks: &[usize; BODY_COUNT], known: &mut [u64; ROW_COUNT])
+fn fill_asked(program: &[u32; PROGRAM_LENGTH], gone: u8, m: u8, sums: u64, ranks: &[usize; BODY_COUNT], known: &mut [u64; ROW_COUNT])
     ensures {
-        λ r. ⌜ now (known .exit) ≡ filledAsked p (now (table .entry)) (now (index .entry)) (now (ranks .entry)) sums gone m (now (known .entry)) ⌝
+        λ r. ⌜ now (known .exit) ≡ filledAsked (now (program .entry)) (now (ranks .entry)) sums gone m (now (known .entry)) ⌝
     }
 {
     if contains(sums, gone) {
-        fill_length(table, index, p, m, ranks, known);
+        fill_length(program, m, ranks, known);
     }
 }
 
 // All procedures, on lists of the lengths 1 to n that calls can lead to, the shortest first.
-fn fill(table: &[u8], index: &[u16], p: u8, n: u8, matrix: &[u8; MATRIX_LENGTH], known: &mut [u64; ROW_COUNT])
+fn fill(program: &[u32; PROGRAM_LENGTH], n: u8, matrix: &[u8; MATRIX_LENGTH], known: &mut [u64; ROW_COUNT])
     ensures {
-        λ r. ⌜ now (known .exit) ≡ filled p (now (table .entry)) (now (index .entry)) (ranksIn (now (matrix .entry)) p)
-            (sumsIn p (now (table .entry)) (now (index .entry))) n n (now (known .entry)) ⌝
+        λ r. ⌜ now (known .exit) ≡ filled (now (program .entry)) (ranksIn (now (matrix .entry)) (procedureCount (now (program .entry))))
+            (sumsIn (now (program .entry))) n n (now (known .entry)) ⌝
     }
 {
-    let ranks = all_ranks(matrix, p);
-    let sums = sums_of(all_counts(table, index, p));
+    let ranks = all_ranks(matrix, procedures(program));
+    let sums = sums_of(all_counts(program));
     let mut m = 0;
     while m < n {
         m += 1;
-        fill_asked(table, index, p, n - m, m, sums, &ranks, known);
+        fill_asked(program, n - m, m, sums, &ranks, known);
     }
 }
 
 // Refusal 12: does main fault on n qubits? `matrix` says which procedure reaches which.
-pub fn faults(table: &[u8], index: &[u16], p: u8, n: u8, matrix: &[u8; MATRIX_LENGTH]) -> bool
-    ensures { λ r. ⌜ r ≡ faultsAt p (now (table .entry)) (now (index .entry)) (now (matrix .entry)) n ⌝ }
+pub fn faults(program: &[u32; PROGRAM_LENGTH], n: u8, matrix: &[u8; MATRIX_LENGTH]) -> bool
+    ensures { λ r. ⌜ r ≡ faultsAt (now (program .entry)) (now (matrix .entry)) n ⌝ }
 {
     let mut known = [0; ROW_COUNT];
-    fill(table, index, p, n, matrix, &mut known);
-    contains(touches(table, index, p, root(index, 0), MOST_DEPTH, n, &known), 0)
+    fill(program, n, matrix, &mut known);
+    contains(touches(program, root(program, 0), MOST_DEPTH, n, &known), 0)
 }

@@ -17,8 +17,7 @@ use Rattle.model.proofs.Acceptance.{accepted-exactly}
 use Rattle.model.proofs.WrittenTables.{table-written}
 use Rattle.model.proofs.InverseTables.{inverse-long}
 use Rattle.answers.specs.Structs.{answerOf, lengthAnswer}
-use Rattle.table.specs.Index.{programAt}
-use Rattle.verdict.specs.declared.Checked.{Checked}
+use Rattle.decoded.specs.DecodedTable.{programAt}
 use Rattle.verdict.specs.VerdictAnswers.{checkedOutcome, PlacedChecked}
 use Rattle.verdict.proofs.AcceptanceAndRefusal.{refused-checked, accepted-checked}
 use Rattle.text.specs.AppendedBytes.{written, puts}
@@ -36,28 +35,28 @@ module _ (o : Outcome (List ℕ)) (k : ℕ) (e : o ≡ refuses k) (room : List �
   unfolding roomAfter
   refusal-room = rw e
 
-module _ (bs ix room : List ℕ) (n : ℕ) (j : Checked) (is : checkedOutcome j bs ix ≡ accepted bs n) where
+module _ (bs g room : List ℕ) (n j : ℕ) (is : checkedOutcome j g ≡ accepted bs n) where
   abbrev o : Outcome (List ℕ)
   o = inverseTable bs n (length room)
 
   abbrev P : Program
-  P = programAt (j .procedures) bs ix
+  P = programAt g
 
   -- the table is refused
-  module _ (some : j .number ≡ 0 → ⊥) where
-    refused : o ≡ refuses (j .number)
+  module _ (some : j ≡ 0 → ⊥) where
+    refused : o ≡ refuses j
     unfolding inverseTable after
-    refused = rw (refused-checked bs ix n 0 j is some)
+    refused = rw (refused-checked bs g n 0 j is some)
 
-    pub refused-answer : record { number = j .number; value = 0 } ≡ lengthAnswer o
-    refused-answer = refusal-answer o (j .number) refused room
+    pub refused-answer : record { number = j; value = 0 } ≡ lengthAnswer o
+    refused-answer = refusal-answer o j refused room
 
     pub refused-room : room ≡ roomAfter o room
-    refused-room = refusal-room o (j .number) refused room
+    refused-room = refusal-room o j refused room
 
-  module _ (none : j .number ≡ 0) where
+  module _ (none : j ≡ 0) where
     checked : accepted bs n ≡ gives P
-    checked = accepted-checked bs ix n 0 j is none
+    checked = accepted-checked bs g n 0 j is none
 
     -- the room is shorter than the table
     module _ (less : length room < length bs) where
@@ -72,8 +71,8 @@ module _ (bs ix room : List ℕ) (n : ℕ) (j : Checked) (is : checkedOutcome j 
       short-room = refusal-room o shortTableRoom short room
 
     -- the table turned round is put
-    module _ (enough : length bs ≤ length room) (placed : PlacedChecked j bs ix) (byte : (k : ℕ) → Fits w8 (getD bs k 0))
-        (end : List ℕ) (last : ℕ) (put : written end last ≡ puts (turnedTable (j .procedures) bs ix) room 0) (few : length room < 2 ^ 64) where
+    module _ (enough : length bs ≤ length room) (placed : PlacedChecked j bs g) (byte : (k : ℕ) → Fits w8 (getD bs k 0))
+        (end : List ℕ) (last : ℕ) (put : written end last ≡ puts (turnedTable bs g) room 0) (few : length room < 2 ^ 64) where
       abbrev inverted : List ℕ
       inverted = writeTable (inverseProgram P)
 
@@ -81,9 +80,9 @@ module _ (bs ix room : List ℕ) (n : ℕ) (j : Checked) (is : checkedOutcome j 
       unfolding inverseTable after require
       given = rw (checked, le-leb (length bs) (length room) enough)
 
-      turned : turnedTable (j .procedures) bs ix ≡ inverted
+      turned : turnedTable bs g ≡ inverted
       unfolding PlacedChecked
-      turned = turned-program (j .procedures) bs ix (placed none) (λ k. byte k .fits) (accepted-exactly bs n P .0 checked .reads)
+      turned = turned-program bs g (placed none) (λ k. byte k .fits) (accepted-exactly bs n P .0 checked .reads)
 
       as-long : length inverted ≡ length bs
       as-long = inverse-long P ∙ ap length (table-written bs (λ k. byte k .fits) (accepted-exactly bs n P .0 checked .reads))

@@ -15,24 +15,24 @@ use Rattle.model.proofs.RoundTrip.{Bytes}
 use Rattle.model.proofs.WrittenTables.{table-written}
 use Rattle.records.specs.declared.Record.{Record}
 use Rattle.records.specs.declared.Record.the-variants as kind
-use Rattle.records.specs.Fields.{recordAt}
-use Rattle.table.specs.Index.{startOf, statementOf, testAt, statementAt, bodyAt, programAt, Placed, BodiesPlaced}
+use Rattle.decoded.specs.RecordWords.{rowAt}
+use Rattle.decoded.specs.DecodedTable.{procedureCount, recordIn, statementOf, testAt, statementAt, bodyAt, programAt}
+use Rattle.table.specs.ReadTable.{Placed, BodiesPlaced}
 use Rattle.step.specs.Steps.{stepOf}
-use Rattle.step.proofs.RecordsPastTheEnd.{next-in}
 use Rattle.reach.specs.CallsInATable.{partsOf}
 use Rattle.inverse.specs.TurnedRecords.{inOrder, turnedOf, turnedAt, turnedBelow, turnedTable}
 
 -- a record by its kind, where its parts are copied as their inverses
-module _ (bs ix : List ℕ) (test : ℕ → Condition) (part : ℕ → Statement) (turned : ℕ → ℕ → List ℕ)
-    (parts-are : (j end : ℕ) → Placed bs ix j end (part j) → turned j end ≡ statementBytes (inverse (part j))) (i end : ℕ) where
-  turned-record : (r : Record) → Placed bs ix i end (statementOf test part bs ix i r) →
-      turnedOf turned bs ix i end (partsOf (stepOf bs ix i [] r)) ≡ statementBytes (inverse (statementOf test part bs ix i r))
+module _ (bs g : List ℕ) (test : ℕ → Condition) (part : ℕ → Statement) (turned : ℕ → ℕ → List ℕ)
+    (parts-are : (j end : ℕ) → Placed bs g j end (part j) → turned j end ≡ statementBytes (inverse (part j))) (i end : ℕ) where
+  turned-record : (r : Record) → Placed bs g i end (statementOf test part g i r) →
+      turnedOf turned bs g i end (partsOf (stepOf g i [] r)) ≡ statementBytes (inverse (statementOf test part g i r))
   unfolding statementOf partsOf stepOf turnedOf inOrder Placed headBytes statementBytes inverse
   turned-record kind.Skip h = h
   turned-record (kind.Not at a) h = h
-  turned-record kind.Sequence h = rw (next-in ix i (h .0), h .1, parts-are _ _ (h .2), parts-are _ _ (h .3))
-  turned-record kind.If h = rw (next-in ix i (h .0), h .1, parts-are _ _ (h .2), parts-are _ _ (h .3))
-  turned-record (kind.Qcase at a) h = rw (next-in ix i (h .0), h .1, parts-are _ _ (h .2), parts-are _ _ (h .3))
+  turned-record kind.Sequence h = rw (h .1, parts-are _ _ (h .2), parts-are _ _ (h .3))
+  turned-record kind.If h = rw (h .1, parts-are _ _ (h .2), parts-are _ _ (h .3))
+  turned-record (kind.Qcase at a) h = rw (h .1, parts-are _ _ (h .2), parts-are _ _ (h .3))
   turned-record (kind.Call at f) h = h
   turned-record (kind.Greater a b) h = h
   turned-record (kind.AtLeast a b) h = h
@@ -42,13 +42,13 @@ module _ (bs ix : List ℕ) (test : ℕ → Condition) (part : ℕ → Statement
   turned-record kind.Negation h = h
 
 -- a statement that is placed
-turned-statement : (p : ℕ) (bs ix : List ℕ) (depth i end : ℕ) → Placed bs ix i end (statementAt p bs ix depth i) →
-    turnedAt p bs ix depth i end ≡ statementBytes (inverse (statementAt p bs ix depth i))
+turned-statement : (bs g : List ℕ) (depth i end : ℕ) → Placed bs g i end (statementAt g depth i) →
+    turnedAt bs g depth i end ≡ statementBytes (inverse (statementAt g depth i))
 unfolding turnedAt statementAt Placed inverse statementBytes
-turned-statement p bs ix zero i end h = h
-turned-statement p bs ix (suc depth) i end h =
-    turned-record bs ix (testAt p bs ix depth) (statementAt p bs ix depth) (turnedAt p bs ix depth) (turned-statement p bs ix depth) i end
-      (recordAt p bs (startOf ix i)) h
+turned-statement bs g zero i end h = h
+turned-statement bs g (suc depth) i end h =
+    turned-record bs g (testAt g depth) (statementAt g depth) (turnedAt bs g depth) (turned-statement bs g depth) i end
+      (recordIn g (rowAt i)) h
 
 -- statements one behind the other, and one more
 bytes-more : (ss : List Statement) (s : Statement) → statementsBytes (ss ++ (s ∷ [])) ≡ statementsBytes ss ++ statementBytes s
@@ -69,22 +69,22 @@ inverse-each : (h : ℕ → Statement) (l : List ℕ) → map inverse (map h l) 
 inverse-each h [] = refl
 inverse-each h (f ∷ l) = ap (λ ss. inverse (h f) ∷ ss) (inverse-each h l)
 
-module _ (p : ℕ) (bs ix : List ℕ) (placed : BodiesPlaced p bs ix) where
+module _ (bs g : List ℕ) (placed : BodiesPlaced bs g) where
   -- the bodies below n
-  turned-bodies : (n : ℕ) → n ≤ suc p → turnedBelow p bs ix n ≡ statementsBytes (map (λ f. inverse (bodyAt p bs ix f)) (range n 0))
+  turned-bodies : (n : ℕ) → n ≤ suc (procedureCount g) → turnedBelow bs g n ≡ statementsBytes (map (λ f. inverse (bodyAt g f)) (range n 0))
   unfolding turnedBelow
-  turned-bodies zero h = sym (bytes-none (λ f. inverse (bodyAt p bs ix f)))
+  turned-bodies zero h = sym (bytes-none (λ f. inverse (bodyAt g f)))
   turned-bodies (suc n) h =
-      let body : ℕ → Statement = λ f. inverse (bodyAt p bs ix f) in
+      let body : ℕ → Statement = λ f. inverse (bodyAt g f) in
       let e : 0 + n ≡ n = omega arith in
-      rw (turned-bodies n (omega arith), turned-statement p bs ix mostDepth _ _ (placed n (omega arith)))
+      rw (turned-bodies n (omega arith), turned-statement bs g mostDepth _ _ (placed n (omega arith)))
       (sym (bytes-more (map body (range n 0)) (body n)) ∙ ap statementsBytes (sym (rw e at (range-more body n 0))))
 
   -- the whole table
-  pub turned-program : Bytes bs → {i : Input} → readTable bs ≡ parsed (programAt p bs ix) i →
-      turnedTable p bs ix ≡ writeTable (inverseProgram (programAt p bs ix))
+  pub turned-program : Bytes bs → {i : Input} → readTable bs ≡ parsed (programAt g) i →
+      turnedTable bs g ≡ writeTable (inverseProgram (programAt g))
   unfolding turnedTable writeTable inverseProgram range
   turned-program ok read =
-      let P = programAt p bs ix in
+      let P = programAt g in
       let first : take 2 bs ≡ tableEdition ∷ count P ∷ [] = sym (ap (take 2) (table-written bs ok read)) in
-      rw (first, turned-bodies (suc p) (omega arith), length-map (P .procedures) inverse, inverse-each (bodyAt p bs ix) (range p 1))
+      rw (first, turned-bodies (suc (procedureCount g)) (omega arith), length-map (P .procedures) inverse, inverse-each (bodyAt g) (range (procedureCount g) 1))

@@ -1,10 +1,11 @@
--- A table's records copied by its index, those of a sequence's second statement before those of its first. A law says that, of a table that was read, these
+-- A table's records copied by their places, those of a sequence's second statement before those of its first. A law says that, of a table that was read, these
 -- are the bytes of the inverse program.
 use Prim.Native.Nat.{ℕ, zero, suc}
 use mathlib.Core.Bool.{Bool, true, false}
 use mathlib.Core.List.{List, [], _++_}
 use Rattle.model.specs.Limits.{mostDepth}
-use Rattle.table.specs.Index.{startOf, rootOf, piece, bodyEnd}
+use Rattle.decoded.specs.DecodedTable.{startOf, rootOf, procedureCount}
+use Rattle.table.specs.ReadTable.{piece, bodyEnd}
 use Rattle.reach.specs.declared.Parts.{Parts}
 use Rattle.reach.specs.declared.Parts.the-variants as parts
 use Rattle.reach.specs.CallsInATable.{partsAt}
@@ -16,25 +17,25 @@ inOrder false first second = first ++ second
 
 -- a statement at record i, by its parts: up to its first statement it is copied as it stands
 unfoldable pub turnedOf : (ℕ → ℕ → List ℕ) → List ℕ → List ℕ → ℕ → ℕ → Parts → List ℕ
-turnedOf part bs ix i end parts.Neither = piece bs (startOf ix i) end
-turnedOf part bs ix i end (parts.Call g at) = piece bs (startOf ix i) end
-turnedOf part bs ix i end (parts.Two a b inTurn) =
-    piece bs (startOf ix i) (startOf ix a) ++ inOrder inTurn (part a (startOf ix b)) (part b end)
+turnedOf part bs g i end parts.Neither = piece bs (startOf g i) end
+turnedOf part bs g i end (parts.Call f at) = piece bs (startOf g i) end
+turnedOf part bs g i end (parts.Two a b inTurn) =
+    piece bs (startOf g i) (startOf g a) ++ inOrder inTurn (part a (startOf g b)) (part b end)
 
 -- the statement at record i, up to a place, of at most `depth` records from its root down
-unfoldable pub turnedAt : ℕ → List ℕ → List ℕ → ℕ → ℕ → ℕ → List ℕ
-turnedAt p bs ix zero i end = piece bs (startOf ix i) end
-turnedAt p bs ix (suc depth) i end = turnedOf (turnedAt p bs ix depth) bs ix i end (partsAt p bs ix i)
+unfoldable pub turnedAt : List ℕ → List ℕ → ℕ → ℕ → ℕ → List ℕ
+turnedAt bs g zero i end = piece bs (startOf g i) end
+turnedAt bs g (suc depth) i end = turnedOf (turnedAt bs g depth) bs g i end (partsAt g i)
 
 -- the body of f, main at 0
-abbrev pub turnedBody : ℕ → List ℕ → List ℕ → ℕ → List ℕ
-turnedBody p bs ix f = turnedAt p bs ix mostDepth (rootOf ix f) (bodyEnd p bs ix f)
+abbrev pub turnedBody : List ℕ → List ℕ → ℕ → List ℕ
+turnedBody bs g f = turnedAt bs g mostDepth (rootOf g f) (bodyEnd bs g f)
 
 -- the bodies below n, one behind the other
-unfoldable pub turnedBelow : ℕ → List ℕ → List ℕ → ℕ → List ℕ
-turnedBelow p bs ix zero = []
-turnedBelow p bs ix (suc n) = turnedBelow p bs ix n ++ turnedBody p bs ix n
+unfoldable pub turnedBelow : List ℕ → List ℕ → ℕ → List ℕ
+turnedBelow bs g zero = []
+turnedBelow bs g (suc n) = turnedBelow bs g n ++ turnedBody bs g n
 
 -- the whole table: its first two bytes, edition and p, and the bodies of p procedures with main
-unfoldable pub turnedTable : ℕ → List ℕ → List ℕ → List ℕ
-turnedTable p bs ix = piece bs 0 2 ++ turnedBelow p bs ix (suc p)
+unfoldable pub turnedTable : List ℕ → List ℕ → List ℕ
+turnedTable bs g = piece bs 0 2 ++ turnedBelow bs g (suc (procedureCount g))

@@ -5,15 +5,25 @@ ghost use Prim.Native.Nat.{suc};
 ghost use lib.ListN.{length};
 ghost use Rattle.model.specs.Answers.{inverseTable, roomAfter};
 ghost use Rattle.answers.specs.Structs.{lengthAnswer};
-ghost use Rattle.table.specs.Index.{piece, bodyEnd};
+ghost use Rattle.decoded.specs.DecodedTable.{startOf};
+ghost use Rattle.table.specs.ReadTable.{piece, bodyEnd};
 ghost use Rattle.text.specs.AppendedBytes.{written, puts};
 ghost use Rattle.inverse.specs.TurnedRecords.{turnedAt, turnedBody, turnedBelow, turnedTable};
 use answers::Answer;
-use limits::{INDEX_LENGTH, MOST_DEPTH, SHORT_TABLE_ROOM};
-use reach::{Parts, parts_at, root};
-use step::start;
+use limits::{MOST_DEPTH, PLACE_FIELD, PROGRAM_LENGTH, RECORDS_AT, RECORD_LENGTH, SHORT_TABLE_ROOM};
+use reach::{Parts, parts_at};
+use step::{procedures, root};
 use text::put;
 use verdict::check_table;
+
+// Where record i begins in the table.
+fn start(program: &[u32; PROGRAM_LENGTH], i: u32) -> usize
+    ensures { λ r. ⌜ r ≡ startOf (now (program .entry)) i ⌝ }
+{
+    let words = &program[..];
+    let at = RECORDS_AT + RECORD_LENGTH * i as usize + PLACE_FIELD;
+    if at < words.len() { words[at] as usize } else { 0 }
+}
 
 // The bytes of the table from one place up to another, put into the room.
 fn put_piece(table: &[u8], from: usize, to: usize, room: &mut [u8], at: usize) -> usize
@@ -32,66 +42,66 @@ fn put_piece(table: &[u8], from: usize, to: usize, room: &mut [u8], at: usize) -
 }
 
 // The statement at record i, whose bytes stand up to `end`, turned round: what stands before its own statements, and then these.
-fn put_turned(table: &[u8], index: &[u16], p: u8, i: usize, end: usize, depth: u8, room: &mut [u8], at: usize) -> usize
+fn put_turned(table: &[u8], program: &[u32; PROGRAM_LENGTH], i: u32, end: usize, depth: u8, room: &mut [u8], at: usize) -> usize
     ensures { λ r. ⌜ written (now (room .exit)) r ≡
-        puts (turnedAt p (now (table .entry)) (now (index .entry)) depth i end) (now (room .entry)) at ⌝ }
+        puts (turnedAt (now (table .entry)) (now (program .entry)) depth i end) (now (room .entry)) at ⌝ }
 {
-    let from = start(index, i);
+    let from = start(program, i);
     if depth == 0 {
         return put_piece(table, from, end, room, at);
     }
-    let parts = parts_at(table, index, p, i);
+    let parts = parts_at(program, i);
     match parts {
         Parts::Neither => put_piece(table, from, end, room, at),
         Parts::Call(_, _) => put_piece(table, from, end, room, at),
         Parts::Two(first, second, in_turn) => {
-            let middle = start(index, second);
-            let head_end = put_piece(table, from, start(index, first), room, at);
+            let middle = start(program, second);
+            let head_end = put_piece(table, from, start(program, first), room, at);
             if in_turn {
-                let second_end = put_turned(table, index, p, second, end, depth - 1, room, head_end);
-                return put_turned(table, index, p, first, middle, depth - 1, room, second_end);
+                let second_end = put_turned(table, program, second, end, depth - 1, room, head_end);
+                return put_turned(table, program, first, middle, depth - 1, room, second_end);
             }
-            let first_end = put_turned(table, index, p, first, middle, depth - 1, room, head_end);
-            put_turned(table, index, p, second, end, depth - 1, room, first_end)
+            let first_end = put_turned(table, program, first, middle, depth - 1, room, head_end);
+            put_turned(table, program, second, end, depth - 1, room, first_end)
         }
     }
 }
 
 // Where the body of f ends: where the next one starts, or with the table.
-fn body_end(table: &[u8], index: &[u16], p: u8, f: u8) -> usize
-    ensures { λ r. ⌜ r ≡ bodyEnd p (now (table .entry)) (now (index .entry)) f ⌝ }
+fn body_end(table: &[u8], program: &[u32; PROGRAM_LENGTH], f: u8) -> usize
+    ensures { λ r. ⌜ r ≡ bodyEnd (now (table .entry)) (now (program .entry)) f ⌝ }
 {
-    if f < p {
-        return start(index, root(index, f + 1));
+    if f < procedures(program) {
+        return start(program, root(program, f + 1));
     }
     table.len()
 }
 
 // The body of f, main at 0, turned round.
-fn put_body(table: &[u8], index: &[u16], p: u8, f: u8, room: &mut [u8], at: usize) -> usize
-    ensures { λ r. ⌜ written (now (room .exit)) r ≡ puts (turnedBody p (now (table .entry)) (now (index .entry)) f) (now (room .entry)) at ⌝ }
+fn put_body(table: &[u8], program: &[u32; PROGRAM_LENGTH], f: u8, room: &mut [u8], at: usize) -> usize
+    ensures { λ r. ⌜ written (now (room .exit)) r ≡ puts (turnedBody (now (table .entry)) (now (program .entry)) f) (now (room .entry)) at ⌝ }
 {
-    put_turned(table, index, p, root(index, f), body_end(table, index, p, f), MOST_DEPTH, room, at)
+    put_turned(table, program, root(program, f), body_end(table, program, f), MOST_DEPTH, room, at)
 }
 
 // The bodies of main and each procedure, one behind the other, each turned round.
-fn put_bodies(table: &[u8], index: &[u16; INDEX_LENGTH], p: u8, room: &mut [u8], at: usize) -> usize
+fn put_bodies(table: &[u8], program: &[u32; PROGRAM_LENGTH], p: u8, room: &mut [u8], at: usize) -> usize
     ensures { λ r. ⌜ written (now (room .exit)) r ≡
-        puts (turnedBelow p (now (table .entry)) (now (index .entry)) (suc p)) (now (room .entry)) at ⌝ }
+        puts (turnedBelow (now (table .entry)) (now (program .entry)) (suc p)) (now (room .entry)) at ⌝ }
 {
     let mut place = at;
     for f in 0..=p {
-        place = put_body(table, &index[..], p, f, room, place);
+        place = put_body(table, program, f, room, place);
     }
     place
 }
 
 // The whole table: edition and p as they stand, then the bodies.
-fn put_table(table: &[u8], index: &[u16; INDEX_LENGTH], p: u8, room: &mut [u8]) -> usize
-    ensures { λ r. ⌜ written (now (room .exit)) r ≡ puts (turnedTable p (now (table .entry)) (now (index .entry))) (now (room .entry)) 0 ⌝ }
+fn put_table(table: &[u8], program: &[u32; PROGRAM_LENGTH], room: &mut [u8]) -> usize
+    ensures { λ r. ⌜ written (now (room .exit)) r ≡ puts (turnedTable (now (table .entry)) (now (program .entry))) (now (room .entry)) 0 ⌝ }
 {
     let first_end = put_piece(table, 0, 2, room, 0);
-    put_bodies(table, index, p, room, first_end)
+    put_bodies(table, program, procedures(program), room, first_end)
 }
 
 // "9; header 1 .., 2, 3; each record ..; 8; 10 over the whole table, then 11, then 12", then 24 for a room that is shorter than the table; then the
@@ -100,15 +110,14 @@ pub fn inverse(table: &[u8], n: u32, room: &mut [u8]) -> Answer
     ensures { λ r. ⌜ r ≡ lengthAnswer (inverseTable (now (table .entry)) n (length (now (room .entry)))) ⌝ }
     ensures { λ r. ⌜ now (room .exit) ≡ roomAfter (inverseTable (now (table .entry)) n (length (now (room .entry)))) (now (room .entry)) ⌝ }
 {
-    let mut index = [0u16; INDEX_LENGTH];
-    let checked = check_table(table, n, &mut index);
-    let number = checked.number;
+    let mut program = [0u32; PROGRAM_LENGTH];
+    let number = check_table(table, n, &mut program);
     if number != 0 {
         return Answer { number: number as u32, value: 0 };
     }
     if room.len() < table.len() {
         return Answer { number: SHORT_TABLE_ROOM as u32, value: 0 };
     }
-    let length = put_table(table, &index, checked.procedures, room);
+    let length = put_table(table, &program, room);
     Answer { number: 0, value: length as u64 }
 }

@@ -1,7 +1,7 @@
 -- Numbers that the code needs beside document 01's limits and refusals: of the form of a table, and the sizes of what the code keeps, each of which
 -- follows from the limits.
 use Prim.Native.Nat.{ℕ, _+_, _-_, _*_, _^_}
-use Rattle.model.specs.Limits.{mostProcedures, mostRecords, mostDepth, mostQubits, mostWires, blockLength}
+use Rattle.model.specs.Limits.{mostProcedures, mostRecords, mostDepth, mostRemovals, mostQubits, mostWires, blockLength}
 use Rattle.model.specs.Page.{numberColumns, bandGates}
 
 -- "Kinds: 0 skip; .. 5 call, procedure; 6 a > b; .. 11 not, one condition": kinds from 6 on are conditions
@@ -27,20 +27,57 @@ matrixLength = bodyCount * bodyCount
 abbrev pub lengthCount : ℕ
 lengthCount = mostQubits + 1
 
+-- a set of qubits is a word: it has a member for each bit at most
+abbrev pub setLength : ℕ
+setLength = 64
+
 -- what a body touches of a list: a row for each body and each length
 abbrev pub rowCount : ℕ
 rowCount = bodyCount * lengthCount
 
--- the index of a table: where each record starts, from 0 on; the record after each subtree, from `endsAt` on; the root of each body, from `rootsAt` on.
--- A record's number, and the number after the last, is below `endsAt`.
-abbrev pub endsAt : ℕ
-endsAt = mostRecords + 1
+-- a table that was read, decoded: its number of procedures at place 0; the root of each body, from `rootsAt` on; a width for each record, from `widthsAt`
+-- on; and the words of each record, from `recordsAt` on. A record's number, and the number after the last, is below `recordCount`.
+abbrev pub recordCount : ℕ
+recordCount = mostRecords + 1
 
 abbrev pub rootsAt : ℕ
-rootsAt = endsAt + endsAt
+rootsAt = 1
 
-abbrev pub indexLength : ℕ
-indexLength = rootsAt + bodyCount
+-- as many roots as a byte has numbers
+abbrev pub rootCount : ℕ
+rootCount = 2 ^ 8
+
+abbrev pub widthsAt : ℕ
+widthsAt = rootsAt + rootCount
+
+abbrev pub recordsAt : ℕ
+recordsAt = widthsAt + recordCount
+
+-- the words of a record: its kind; the record behind its subtree; its place in the table; the procedure that it calls; how many removals it has; number a; and
+-- its removals, or number b in the place of the first
+abbrev pub endField : ℕ
+endField = 1
+
+abbrev pub placeField : ℕ
+placeField = 2
+
+abbrev pub procedureField : ℕ
+procedureField = 3
+
+abbrev pub countField : ℕ
+countField = 4
+
+abbrev pub numberField : ℕ
+numberField = 5
+
+abbrev pub removalsField : ℕ
+removalsField = 6
+
+abbrev pub recordLength : ℕ
+recordLength = removalsField + mostRemovals
+
+abbrev pub programLength : ℕ
+programLength = recordsAt + recordLength * recordCount
 
 -- a place in a table is kept in 16 bits: reading comes to none past them
 abbrev pub placeCount : ℕ
@@ -58,11 +95,11 @@ swapLength = 5
 abbrev pub wireCount : ℕ
 wireCount = mostWires + 1
 
--- what an ancilla keeps of the call that took it: procedure, list length, and the list
+-- what an ancilla keeps of the call that took it, in words: procedure, then the list
 abbrev pub slotLength : ℕ
-slotLength = 2 + mostQubits
+slotLength = 2
 
--- the slots of all wires, in the workspace
+-- the slots of all wires
 abbrev pub slotsLength : ℕ
 slotsLength = slotLength * wireCount
 

@@ -12,8 +12,9 @@ ghost use Rattle.model.specs.Limits.{
 ghost use Rattle.model.specs.Reading.{mostBase};
 ghost use Rattle.model.specs.Page.{bandGates};
 ghost use Rattle.limits.specs.Sizes.{
-  bodyCount, matrixLength, lengthCount, rowCount, endsAt, rootsAt, indexLength, placeCount, mostControls, slotLength, mostCalls, kindCount,
-  firstCondition, mostConstant, wireCount, marksLength, lineColumns, lookupLength, mostCount, swapLength,
+  bodyCount, matrixLength, lengthCount, rowCount, recordCount, rootsAt, rootCount, widthsAt, recordsAt, endField, placeField, procedureField, countField, numberField,
+  removalsField, recordLength, programLength, placeCount, mostControls, setLength, slotLength, slotsLength, mostCalls, kindCount, firstCondition,
+  mostConstant, wireCount, marksLength, lineColumns, lookupLength, mostCount, swapLength,
 };
 
 // "Byte 0 is the edition, 1." "Byte 1 is p, the number of procedures, 0 to 16."
@@ -118,18 +119,49 @@ pub const MATRIX_LENGTH: usize = BODY_COUNT * BODY_COUNT;
 // As many entries as a list of qubits has room for.
 pub const LIST_LENGTH: usize = MOST_QUBITS as usize;
 
+// A set of qubits is a word: it has a member for each bit at most.
+pub const MOST_MEMBERS: u8 = 64;
+
+pub const SET_LENGTH: usize = MOST_MEMBERS as usize;
+
 // The lengths of a list: 0 to the most.
 pub const LENGTH_COUNT: usize = LIST_LENGTH + 1;
 
 // What a body touches of a list: a row for each body and each length.
 pub const ROW_COUNT: usize = BODY_COUNT * LENGTH_COUNT;
 
-// The index of a table: starts of records, ends of subtrees, roots of bodies.
-pub const ENDS_AT: usize = MOST_RECORDS + 1;
+// A table that was read, decoded: how many procedures it has, the root of each body, a width for each record, and for each record its words. Record numbers
+// are below RECORD_COUNT.
+pub const RECORD_COUNT: usize = MOST_RECORDS + 1;
 
-pub const ROOTS_AT: usize = ENDS_AT + ENDS_AT;
+pub const LAST_RECORD: u32 = MOST_RECORDS as u32;
 
-pub const INDEX_LENGTH: usize = ROOTS_AT + BODY_COUNT;
+pub const ROOTS_AT: usize = 1;
+
+// As many roots as a byte has numbers: a procedure's number needs no test.
+pub const ROOT_COUNT: usize = 256;
+
+pub const WIDTHS_AT: usize = ROOTS_AT + ROOT_COUNT;
+
+pub const RECORDS_AT: usize = WIDTHS_AT + RECORD_COUNT;
+
+// The words of a record: its kind, the record behind its subtree, its place in the table, the procedure that it calls, how many removals it has, number a, and
+// its removals, or number b in the place of the first.
+pub const END_FIELD: usize = 1;
+
+pub const PLACE_FIELD: usize = 2;
+
+pub const PROCEDURE_FIELD: usize = 3;
+
+pub const COUNT_FIELD: usize = 4;
+
+pub const NUMBER_FIELD: usize = 5;
+
+pub const REMOVALS_FIELD: usize = 6;
+
+pub const RECORD_LENGTH: usize = REMOVALS_FIELD + MOST_REMOVALS as usize;
+
+pub const PROGRAM_LENGTH: usize = RECORDS_AT + RECORD_LENGTH * RECORD_COUNT;
 
 // A place in a table is kept in 16 bits.
 pub const PLACE_COUNT: usize = 65536;
@@ -142,8 +174,11 @@ pub const CONTROLS_LENGTH: usize = MOST_CONTROLS as usize;
 // A swap under one control: map, target, count, control, second wire.
 pub const SWAP_LENGTH: usize = 5;
 
-// What an ancilla keeps of the call that took it: procedure, list length, and the list.
-pub const SLOT_LENGTH: usize = 2 + LIST_LENGTH;
+// What an ancilla keeps of the call that took it, in words: procedure, then the list.
+pub const SLOT_LENGTH: usize = 2;
+
+// The slots of all wires.
+pub const SLOTS_LENGTH: usize = SLOT_LENGTH * WIRE_COUNT;
 
 // The calls of a body are counted in 16 bits, and no further.
 pub const MOST_CALLS: u16 = 65535;
@@ -201,15 +236,28 @@ fn numbers() -> [u8; 18]
 }
 
 // Each size is the one that follows from the definitions' limits.
-fn sizes() -> [usize; 14]
+fn sizes() -> [usize; 13]
     ensures {
-        λ r. ⌜ r ≡ bodyCount ∷ matrixLength ∷ lengthCount ∷ rowCount ∷ endsAt ∷ rootsAt ∷ indexLength ∷ placeCount ∷ mostControls ∷
-            slotLength ∷ mostCalls ∷ lookupLength ∷ mostCount ∷ swapLength ∷ [] ⌝
+        λ r. ⌜ r ≡ bodyCount ∷ matrixLength ∷ lengthCount ∷ rowCount ∷ placeCount ∷ mostControls ∷ setLength ∷ slotLength ∷ slotsLength ∷ mostCalls ∷
+            lookupLength ∷ mostCount ∷ swapLength ∷ [] ⌝
     }
 {
     [
-        BODY_COUNT, MATRIX_LENGTH, LENGTH_COUNT, ROW_COUNT, ENDS_AT, ROOTS_AT, INDEX_LENGTH, PLACE_COUNT, CONTROLS_LENGTH, SLOT_LENGTH,
-        MOST_CALLS as usize, LOOKUP_LENGTH, MOST_COUNT as usize, SWAP_LENGTH,
+        BODY_COUNT, MATRIX_LENGTH, LENGTH_COUNT, ROW_COUNT, PLACE_COUNT, CONTROLS_LENGTH, SET_LENGTH, SLOT_LENGTH, SLOTS_LENGTH, MOST_CALLS as usize,
+        LOOKUP_LENGTH, MOST_COUNT as usize, SWAP_LENGTH,
+    ]
+}
+
+// Each place in a decoded table is the definition's.
+fn places() -> [usize; 13]
+    ensures {
+        λ r. ⌜ r ≡ recordCount ∷ rootsAt ∷ rootCount ∷ widthsAt ∷ recordsAt ∷ endField ∷ placeField ∷ procedureField ∷ countField ∷ numberField ∷ removalsField ∷
+            recordLength ∷ programLength ∷ [] ⌝
+    }
+{
+    [
+        RECORD_COUNT, ROOTS_AT, ROOT_COUNT, WIDTHS_AT, RECORDS_AT, END_FIELD, PLACE_FIELD, PROCEDURE_FIELD, COUNT_FIELD, NUMBER_FIELD, REMOVALS_FIELD, RECORD_LENGTH,
+        PROGRAM_LENGTH,
     ]
 }
 

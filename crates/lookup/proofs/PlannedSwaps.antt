@@ -1,5 +1,6 @@
 -- The plan of an entry's swaps, made by one loop over k: its pairs are the definition's swaps.
 use mathlib.Core.Path.{_≡_, refl, sym, ap, _∙_}
+use mathlib.Core.Bool.{true}
 use mathlib.Core.List.{List, [], _∷_, _++_, map, append-nil}
 use Prim.Native.Nat.{ℕ, zero, suc, _+_, _*_, _≤_, _<_, min, max}
 use native.Mathlib.Numerals.{add-one}
@@ -9,14 +10,18 @@ use mir.Val.{Fits}
 use borrow.Author.Needs.{needs}
 use borrow.Author.Tests.{eq-eqb, ne-eqb}
 use lib.ListN.{length, getD, set, take, drop, length-append, length-set, length-take, drop-of-length-le}
-use lib.Seq.{drop-cons, getD-take, take-suc-set, take-set-le, append-snoc}
-use Rattle.limits.specs.Sizes.{lookupLength, mostCount}
-use Rattle.model.specs.Limits.{mostQubits, mostWires}
+use lib.Seq.{drop-cons, drop-drop, getD-drop, getD-take, take-suc-set, take-set-le, append-snoc}
+use Rattle.limits.specs.Sizes.{setLength, lookupLength, mostCount}
+use Rattle.model.specs.Limits.{mostWires}
+use Rattle.model.specs.Lists.{entry}
 use Rattle.model.specs.Gates.{swapOf, exchange}
 use Rattle.model.specs.Emission.{Event, places, under, swaps}
+use Rattle.model.specs.Circuit.{ascends}
 use Rattle.model.proofs.BooleanLaws.{byEq, byLt}
-use Rattle.step.specs.declared.Qubits.{Qubits}
-use Rattle.step.specs.Steps.{qubitsOf}
+use Rattle.model.proofs.ListLaws.{member-head}
+use Rattle.model.proofs.AscendingWires.{ascends-tail, ascends-larger}
+use Rattle.sets.specs.Sets.{membersOf}
+use Rattle.sets.proofs.Members.{members-ascend, members-length}
 use Rattle.lookup.specs.declared.Plan.{Plan}
 use Rattle.lookup.specs.Entries.{counted, wireAt, qubitAt, built, pushed, tracked, accesses}
 use Rattle.lookup.specs.Plans.{
@@ -34,34 +39,33 @@ count-apart from to h = rw (ne-eqb from to h)
 
 pub ruleset counting = (needs, count-equal, count-apart)
 
--- a list's entry stands in its array, and no list is longer than that
-pub in-array : (q : Qubits) (i : ℕ) → i < length (qubitsOf q) → getD (q .at) i 0 ≡ getD (qubitsOf q) i 0
-in-array q i h = sym (getD-take (q .len) (q .at) i 0 (omega (arith, length-take (q .len) (q .at))))
+-- the highest wire of a list that ascends is its last
+last-highest : (l : List ℕ) → ascends l ≡ true → entry l (length l) ≡ highest l
+unfolding highest
+last-highest [] a = refl
+last-highest (x ∷ []) a = omega arith
+last-highest (x ∷ y ∷ l) a =
+    let less : x < y = ascends-larger x (y ∷ l) a y (member-head y l) in
+    last-highest (y ∷ l) (ascends-tail x (y ∷ l) a) ∙ omega arith
 
-pub size-few : (q : Qubits) (m : ℕ) → length (q .at) ≡ mostQubits → m ≡ length (qubitsOf q) → m ≤ mostQubits
-size-few q m e is = omega (arith, length-take (q .len) (q .at))
+-- the way out of `covered`
+pub covers : (n f l a b c r : ℕ) → a ≡ entry (membersOf f) (length (membersOf f)) → b ≡ entry (membersOf l) (length (membersOf l)) → c ≡ max a b → r ≡ max n c →
+    r ≡ covered n (membersOf f) (membersOf l)
+covers n f l a b c r p q s t =
+    rw (t, s, p, q, last-highest (membersOf f) (members-ascend f), last-highest (membersOf l) (members-ascend l))
 
--- `highest` so far
-pub top-starts : (l : List ℕ) → max 0 (highest (drop 0 l)) ≡ highest l
-top-starts l = omega arith
+-- a set that has what is left of a list behind i entries: its lowest member, and the set without that
+pub data Rest (l : List ℕ) (i w : ℕ) : Type 0 where
+  left-behind : membersOf w ≡ drop i l → Rest l i w
 
-module _ (q : Qubits) (top i m : ℕ) (is : m ≡ length (qubitsOf q)) (inv : max top (highest (drop i (qubitsOf q))) ≡ highest (qubitsOf q)) where
-  pub top-next : (next : ℕ) → i < m → next ≡ max top (getD (q .at) i 0) → max next (highest (drop (i + 1) (qubitsOf q))) ≡ highest (qubitsOf q)
-  unfolding highest
-  top-next next h e =
-    let k : i < length (qubitsOf q) = omega arith in
-    let split : highest (drop i (qubitsOf q)) ≡ max (getD (q .at) i 0) (highest (drop (i + 1) (qubitsOf q))) =
-          rw (drop-cons (qubitsOf q) i 0 k, in-array q i k, add-one i) in
-    omega arith
+pub rest-starts : (w : ℕ) → Rest (membersOf w) 0 w
+rest-starts w = left-behind refl
 
-  pub top-ends : m ≤ i → top ≡ highest (qubitsOf q)
-  unfolding highest
-  top-ends h =
-    let k : length (qubitsOf q) ≤ i = omega arith in
-    let none : highest (drop i (qubitsOf q)) ≡ 0 = rw (drop-of-length-le (qubitsOf q) k) in
-    omega arith
+pub rest-first : (l : List ℕ) (i w q : ℕ) → Rest l i w → q ≡ entry (membersOf w) 1 → q ≡ getD l i 0
+rest-first l i w q (left-behind is) e = e ∙ rw is (getD-drop i l 0 0 ∙ ap (λ (k : ℕ). getD l k 0) (omega arith))
 
-pub ruleset topping = (needs, size-few, top-starts, top-next, top-ends)
+pub rest-next : (l : List ℕ) (i w r : ℕ) → Rest l i w → membersOf r ≡ drop 1 (membersOf w) → Rest l (i + 1) r
+rest-next l i w r (left-behind is) e = left-behind (e ∙ rw is (drop-drop 1 i l))
 
 -- no entry of a list is above the highest
 entry-low : (l : List ℕ) (i : ℕ) → getD l i 0 ≤ highest l
@@ -185,11 +189,11 @@ abbrev pub planned : List ℕ → List ℕ → ℕ → List (ℕ × ℕ)
 planned from to len = pairs (take len from) (take len to)
 
 pub data Planning (last : ℕ) (first later l from to : List ℕ) (count len i : ℕ) : Type 0 where
-  before-k : length from ≡ mostQubits → length to ≡ mostQubits → len ≤ i → BeforeK last first later l (planned from to len) count i →
+  before-k : length from ≡ setLength → length to ≡ setLength → len ≤ i → BeforeK last first later l (planned from to len) count i →
       Planning last first later l from to count len i
 
 -- the arrays with one pair more in them, or with a store behind the pairs
-module _ (from to : List ℕ) (len u v : ℕ) (lf : length from ≡ mostQubits) (lt : length to ≡ mostQubits) (h : len < mostQubits) where
+module _ (from to : List ℕ) (len u v : ℕ) (lf : length from ≡ setLength) (lt : length to ≡ setLength) (h : len < setLength) where
   sides : length (take len from) ≡ length (take len to)
   sides = length-take len from ∙ rw (lf, ← lt) (sym (length-take len to))
 
@@ -204,10 +208,10 @@ module _ (from to : List ℕ) (len u v : ℕ) (lf : length from ≡ mostQubits) 
     (pairs-next (take len from) (take len to) u v sides)
 
 -- the way out of `pair_count`, and the pair at a place
-pub count-pairs : (r : Plan) (n : ℕ) → length (r .from) ≡ mostQubits → length (r .to) ≡ mostQubits → n ≡ min (r .len) mostQubits → n ≡ length (pairsOf r)
+pub count-pairs : (r : Plan) (n : ℕ) → length (r .from) ≡ setLength → length (r .to) ≡ setLength → n ≡ min (r .len) setLength → n ≡ length (pairsOf r)
 count-pairs r n lf lt e =
-    let a : length (take (r .len) (r .from)) ≡ min (r .len) mostQubits = length-take (r .len) (r .from) ∙ rw lf in
-    let b : length (take (r .len) (r .to)) ≡ min (r .len) mostQubits = length-take (r .len) (r .to) ∙ rw lt in
+    let a : length (take (r .len) (r .from)) ≡ min (r .len) setLength = length-take (r .len) (r .from) ∙ rw lf in
+    let b : length (take (r .len) (r .to)) ≡ min (r .len) setLength = length-take (r .len) (r .to) ∙ rw lt in
     e ∙ sym (pairs-length (take (r .len) (r .from)) (take (r .len) (r .to)) (a ∙ sym b) ∙ a)
 
 pairs-drop : (xs ys : List ℕ) (i : ℕ) → i < length (pairs xs ys) → drop i (pairs xs ys) ≡ (getD xs i 0, getD ys i 0) ∷ drop (suc i) (pairs xs ys)
@@ -223,7 +227,7 @@ pairs-short [] ys = (omega arith, omega arith)
 pairs-short (x ∷ xs) [] = (omega arith, omega arith)
 pairs-short (x ∷ xs) (y ∷ ys) = let t = pairs-short xs ys in (omega arith, omega arith)
 
-pub pairs-most : (r : Plan) (n : ℕ) → length (r .from) ≡ mostQubits → n ≡ length (pairsOf r) → n ≤ mostQubits
+pub pairs-most : (r : Plan) (n : ℕ) → length (r .from) ≡ setLength → n ≡ length (pairsOf r) → n ≤ setLength
 pairs-most r n e is =
     let t = pairs-short (take (r .len) (r .from)) (take (r .len) (r .to)) in omega (arith, t .0, length-take (r .len) (r .from))
 
@@ -236,15 +240,15 @@ pair-at r i h =
 
 -- the ways out of `plan_swaps`
 pub plan-starts : (n last : ℕ) (first later l₀ l from to : List ℕ) (count : ℕ) → last ≡ covered n first later → last ≤ mostWires → length l₀ ≡ lookupLength →
-    wireAt l₀ 0 ≡ 0 → qubitAt l₀ 0 ≡ 0 → length from ≡ mostQubits → length to ≡ mostQubits → l ≡ built l₀ last → count ≡ counted 0 (2 * last) →
+    wireAt l₀ 0 ≡ 0 → qubitAt l₀ 0 ≡ 0 → length from ≡ setLength → length to ≡ setLength → l ≡ built l₀ last → count ≡ counted 0 (2 * last) →
     Planning (covered n first later) first later l from to count 0 0
 unfolding pairs
 plan-starts n last first later l₀ l from to count is h long w q lf lt e c =
     rw (← is) (before-k lf lt (omega arith) (before-first last first later l₀ l count h long w q e c))
 
-module _ (n m : ℕ) (first later l from to : List ℕ) (count len i : ℕ) (is-m : m ≡ min (length first) (length later)) (few : m ≤ mostQubits)
+module _ (n m : ℕ) (first later l from to : List ℕ) (count len i : ℕ) (is-m : m ≡ min (length first) (length later)) (few : m ≤ setLength)
     (h : covered n first later ≤ mostWires) where
-  pub plan-room : Planning (covered n first later) first later l from to count len i → i < m → len < mostQubits
+  pub plan-room : Planning (covered n first later) first later l from to count len i → i < m → len < setLength
   plan-room (before-k lf lt le B) k = omega arith
 
   pub plan-next : (q wire held k count₁ : ℕ) (l₁ : List ℕ) → Planning (covered n first later) first later l from to count len i → i < m →
@@ -255,11 +259,11 @@ module _ (n m : ℕ) (first later l from to : List ℕ) (count len i : ℕ) (is-
     let last = covered n first later in
     let hq : q ≤ last = rw is-q (omega (arith, entry-low later i)) in
     let hw : wire ≤ last = rw is-w (omega (arith, entry-low first i)) in
-    let room : len < mostQubits = omega arith in
+    let room : len < setLength = omega arith in
     let pairs-are : length (planned from to len) ≡ len = planned-length from to len held wire lf lt room in
     let low : count + 6 ≤ mostCount = let t = B .touched in omega arith in
-    let lf₁ : length (set from len held) ≡ mostQubits = length-set from len held ∙ lf in
-    let lt₁ : length (set to len wire) ≡ mostQubits = length-set to len wire ∙ lt in
+    let lf₁ : length (set from len held) ≡ setLength = length-set from len held ∙ lf in
+    let lt₁ : length (set to len wire) ≡ setLength = length-set to len wire ∙ lt in
     byEq held wire
       (λ e.
         let same = eq-eqb (wireAt l q) wire (sym is-h ∙ e) in
@@ -313,11 +317,11 @@ pairs-few len i k from to h e = byEq from to
     (λ s. let z : k ≡ 0 = rw (e, eq-eqb from to s) in omega arith)
     (λ s. let z : k ≡ 1 = rw (e, ne-eqb from to s) in omega arith)
 
-pub pairs-fit : (len i m k from to : ℕ) → len ≤ i → i < m → m ≤ mostQubits → k ≡ swapCount from to → Fits w8 (len + k)
+pub pairs-fit : (len i m k from to : ℕ) → len ≤ i → i < m → m ≤ setLength → k ≡ swapCount from to → Fits w8 (len + k)
 pairs-fit len i m k from to h less few e = let t = pairs-few len i k from to h e in record { fits = omega arith }
 
 -- no k is past the end of an array
-pub turns-few : (q : Qubits) (m a b : ℕ) → length (q .at) ≡ mostQubits → a ≡ length (qubitsOf q) → m ≡ min a b → m ≤ mostQubits
-turns-few q m a b e is h = omega (arith, length-take (q .len) (q .at))
+pub turns-few : (w m a b : ℕ) → a ≡ length (membersOf w) → m ≡ min a b → m ≤ setLength
+turns-few w m a b is h = omega (arith, members-length w)
 
-pub ruleset planning = (needs, plan-starts, plan-room, plan-next, plan-swaps, plan-touched, plan-bounded, pairs-few, pairs-fit, turns-few)
+pub ruleset planning = (needs, plan-starts, plan-room, plan-next, plan-swaps, plan-touched, plan-bounded, pairs-few, pairs-fit, turns-few, rest-starts, rest-next)

@@ -3,17 +3,17 @@
 ghost use mathlib.Core.Path.{_≡_};
 ghost use Prim.Native.Nat.{_+_, _*_, _≤_, min, max};
 ghost use lib.ListN.{length, getD, set};
-ghost use Rattle.step.specs.Steps.{qubitsOf};
+ghost use Rattle.sets.specs.Sets.{membersOf};
 ghost use Rattle.lookup.specs.Entries.{raised, counted, wireAt, kept, built, pushed, tracked, accesses};
-ghost use Rattle.lookup.specs.Plans.{pairsOf, highest, covered, swapCount, entriesTouched, PlansSwaps};
-use limits::{LIST_LENGTH, LOOKUP_LENGTH, MOST_COUNT, MOST_QUBITS, WIRE_COUNT};
-use step::{Qubits, size};
+ghost use Rattle.lookup.specs.Plans.{pairsOf, covered, swapCount, entriesTouched, PlansSwaps};
+use limits::{LOOKUP_LENGTH, MOST_COUNT, MOST_MEMBERS, SET_LENGTH, WIRE_COUNT};
+use sets::{QubitSet, last_member, next_member, size, without_lowest};
 
 // The swaps of an entry as pairs of wires, in order: the wire that holds the qubit, and the one that it goes to. `touched` is how many entries of the lookup
 // were read and written for them.
 pub struct Plan {
-    pub from: [u8; LIST_LENGTH],
-    pub to: [u8; LIST_LENGTH],
+    pub from: [u8; SET_LENGTH],
+    pub to: [u8; SET_LENGTH],
     pub len: u8,
     pub touched: u16,
 }
@@ -106,26 +106,11 @@ fn smaller(a: u8, b: u8) -> u8
     if a < b { a } else { b }
 }
 
-// The highest wire that a list names, 0 for an empty list.
-fn highest(list: Qubits) -> u8
-    ensures { λ r. ⌜ r ≡ highest (qubitsOf list) ⌝ }
-{
-    let m = size(list);
-    let mut top = 0;
-    let mut i = 0;
-    while i < m {
-        let k = i as usize;
-        top = larger(top, list.at[k]);
-        i += 1;
-    }
-    top
-}
-
 // The last qubit that a lookup covers: n, for lists of qubits 1 to n, as those of an accepted table are.
-fn covered(n: u8, first: Qubits, later: Qubits) -> u8
-    ensures { λ r. ⌜ r ≡ covered n (qubitsOf first) (qubitsOf later) ⌝ }
+fn covered(n: u8, first: QubitSet, later: QubitSet) -> u8
+    ensures { λ r. ⌜ r ≡ covered n (membersOf first) (membersOf later) ⌝ }
 {
-    larger(n, larger(highest(first), highest(later)))
+    larger(n, larger(last_member(first), last_member(later)))
 }
 
 // One swap where the wires differ, none where they are equal.
@@ -137,27 +122,30 @@ fn swap_count(from: u8, to: u8) -> u8
 
 // "for k = 1 up to the length, swap, under the entry ancilla, the wire now holding the k-th qubit of the later list with the k-th wire of the first list,
 // unless equal": the pairs of wires, on n qubits.
-pub fn plan_swaps(n: u8, first: Qubits, later: Qubits) -> Plan
-    ensures { λ r. ⌜ PlansSwaps (qubitsOf first) (qubitsOf later) r ⌝ }
-    ensures { λ r. ⌜ r .touched ≡ entriesTouched n (qubitsOf first) (qubitsOf later) ⌝ }
-    ensures { λ r. ⌜ r .touched ≤ 4 * covered n (qubitsOf first) (qubitsOf later) + 8 * length (qubitsOf later) ⌝ }
+pub fn plan_swaps(n: u8, first: QubitSet, later: QubitSet) -> Plan
+    ensures { λ r. ⌜ PlansSwaps (membersOf first) (membersOf later) r ⌝ }
+    ensures { λ r. ⌜ r .touched ≡ entriesTouched n (membersOf first) (membersOf later) ⌝ }
+    ensures { λ r. ⌜ r .touched ≤ 4 * covered n (membersOf first) (membersOf later) + 8 * length (membersOf later) ⌝ }
 {
     let m = smaller(size(first), size(later));
     let mut entries = [0u8; LOOKUP_LENGTH];
     let mut count = 0u16;
     build(&mut entries[..], &mut count, covered(n, first, later));
-    let mut from = [0u8; LIST_LENGTH];
-    let mut to = [0u8; LIST_LENGTH];
+    let mut from = [0u8; SET_LENGTH];
+    let mut to = [0u8; SET_LENGTH];
     let mut len = 0u8;
+    let mut wires = first;
+    let mut qubits = later;
     let mut i = 0u8;
     while i < m {
-        let k = i as usize;
-        let wire = first.at[k];
-        let holder = track(&mut entries[..], &mut count, later.at[k], wire);
+        let wire = next_member(wires);
+        let holder = track(&mut entries[..], &mut count, next_member(qubits), wire);
         let place = len as usize;
         from[place] = holder;
         to[place] = wire;
         len += swap_count(holder, wire);
+        wires = without_lowest(wires);
+        qubits = without_lowest(qubits);
         i += 1;
     }
     Plan { from, to, len, touched: count }
@@ -167,5 +155,5 @@ pub fn plan_swaps(n: u8, first: Qubits, later: Qubits) -> Plan
 pub fn pair_count(plan: Plan) -> u8
     ensures { λ r. ⌜ r ≡ length (pairsOf plan) ⌝ }
 {
-    smaller(plan.len, MOST_QUBITS)
+    smaller(plan.len, MOST_MEMBERS)
 }

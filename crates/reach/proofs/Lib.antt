@@ -3,6 +3,5 @@ pub mod MatrixRelation
 pub mod MatrixOfAProgram
 pub mod MatrixOperations
 pub mod PartsOfARecord
-pub mod CallsAndWidths
-pub mod CalledProcedures
+pub mod CallsOfAStatement
 pub mod ReachByMatrix

@@ -14,7 +14,7 @@ use Rattle.model.specs.Reach.{calls, reachesBelow, reaches}
 use Rattle.model.proofs.BooleanLaws.{byLt}
 use Rattle.model.proofs.ListLaws.{range-length, tabulated}
 use Rattle.model.proofs.ReachAndRank.{body-out}
-use Rattle.table.specs.Index.{bodyAt, programAt}
+use Rattle.decoded.specs.DecodedTable.{procedureCount, bodyAt, programAt}
 use Rattle.reach.specs.Matrix.{closed, reachTable, noMarks}
 use Rattle.reach.specs.CallsInATable.{marked, markedBelow}
 use Rattle.reach.proofs.MatrixRelation.{Shows, shows-as, shows-mark, one-more, below-more, not-below, shows-none, shows-closed, shown-digits}
@@ -64,35 +64,38 @@ shows-below part (suc k) m R h =
       at : (x y : ℕ) → eqb k x ≡ true → (ltb x k ≡ false) × (calls (part k) y ≡ calls (part x) y)
       at x y e = rw (← eqb-true k x e) (not-below k, refl)
 
-module _ (p : ℕ) (bs ix : List ℕ) where
+module _ (g : List ℕ) where
+  abbrev p : ℕ
+  p = procedureCount g
+
   abbrev P : Program
-  P = programAt p bs ix
+  P = programAt g
 
-  -- p is the number of procedures of the program of a table
+  -- p is the number of procedures of the program
   pub count-at : count P ≡ p
-  count-at = length-map (range p 1) (bodyAt p bs ix) ∙ range-length p 1
+  count-at = length-map (range p 1) (bodyAt g) ∙ range-length p 1
 
-  -- and its body f is the one that the index roots
-  pub body-at : (f : ℕ) → f ≤ p → body P f ≡ bodyAt p bs ix f
+  -- and its body f is the one at the root of f
+  pub body-at : (f : ℕ) → f ≤ p → body P f ≡ bodyAt g f
   body-at zero l = refl
-  body-at (suc f) l = tabulated (bodyAt p bs ix) skip p 1 f l ∙ ap (bodyAt p bs ix) (omega arith)
+  body-at (suc f) l = tabulated (bodyAt g) skip p 1 f l ∙ ap (bodyAt g) (omega arith)
 
   -- the calls of a body, as its row is marked
-  calls-at : (f g : ℕ) → ltb f (suc p) && calls (bodyAt p bs ix f) g ≡ calls (body P f) g
+  calls-at : (f h : ℕ) → ltb f (suc p) && calls (bodyAt g f) h ≡ calls (body P f) h
   unfolding calls
-  calls-at f g = byLt f (suc p)
+  calls-at f h = byLt f (suc p)
     (λ l. rw (lt-ltb f (suc p) l, body-at f (omega arith)))
     (λ ge. let over : count P < f = rw count-at ge in rw (le-ltb f (suc p) ge, body-out P f over))
 
   -- marked for every body and closed, the matrix is the table of reach
-  pub filled-reach : p ≤ mostProcedures → closed (suc p) (markedBelow (bodyAt p bs ix) (suc p) noMarks) ≡ reachTable P
+  pub filled-reach : p ≤ mostProcedures → closed (suc p) (markedBelow (bodyAt g) (suc p) noMarks) ≡ reachTable P
   unfolding reachTable
   filled-reach l = shown-digits (reaches P) (closed (suc p) m)
     (subst (λ (n : ℕ). Shows (closed (suc p) m) (reachesBelow P (suc n))) (sym count-at) (shows-closed P m shown (suc p) (suc-le-suc l)))
     where
       m : List ℕ
-      m = markedBelow (bodyAt p bs ix) (suc p) noMarks
+      m = markedBelow (bodyAt g) (suc p) noMarks
 
       shown : Shows m (λ f g. calls (body P f) g)
-      shown = shows-as m (λ f g. ltb f (suc p) && calls (bodyAt p bs ix f) g) (λ f g. calls (body P f) g)
-        (λ f g lf lg. calls-at f g) (shows-below (bodyAt p bs ix) (suc p) noMarks (λ f g. false) shows-none)
+      shown = shows-as m (λ f h. ltb f (suc p) && calls (bodyAt g f) h) (λ f h. calls (body P f) h)
+        (λ f h lf lg. calls-at f h) (shows-below (bodyAt g) (suc p) noMarks (λ f g. false) shows-none)

@@ -1,12 +1,12 @@
--- The calls of a table's statements: what each record is for them, the marks that they leave, and refusals 10 and 11 by a matrix.
+-- The calls of a program's statements: what each record is for them, the marks that they leave, and refusal 10 by a matrix.
 use Prim.Native.Nat.{ℕ, zero, suc}
 use mathlib.Core.Bool.{Bool, true, false, cond}
 use mathlib.Core.List.{List, []}
 use lib.Dec.{ltb}
 use Rattle.model.specs.Limits.{mostProcedures}
 use Rattle.model.specs.Syntax.{Statement, skip, NOT, sequence, if, qcase, call}
-use Rattle.model.specs.Reach.{lacksRemoval, width, anyBelow}
-use Rattle.table.specs.Index.{bodyAt, programAt}
+use Rattle.model.specs.Reach.{lacksRemoval, anyBelow}
+use Rattle.decoded.specs.DecodedTable.{procedureCount, bodyAt, programAt}
 use Rattle.step.specs.declared.Step.{Step}
 use Rattle.step.specs.declared.Step.the-variants as step
 use Rattle.step.specs.Steps.{stepAt}
@@ -28,8 +28,8 @@ partsOf (step.Either a b) = parts.Neither
 partsOf (step.Negates a) = parts.Neither
 
 -- those of record i: they do not depend on the list
-abbrev pub partsAt : ℕ → List ℕ → List ℕ → ℕ → Parts
-partsAt p bs ix i = partsOf (stepAt p bs ix i [])
+abbrev pub partsAt : List ℕ → ℕ → Parts
+partsAt g i = partsOf (stepAt g i [])
 
 -- row f marked for every call in a statement
 unfoldable pub marked : ℕ → Statement → List ℕ → List ℕ
@@ -45,20 +45,14 @@ unfoldable pub markedBelow : (ℕ → Statement) → ℕ → List ℕ → List �
 markedBelow part zero m = m
 markedBelow part (suc f) m = marked f (part f) (markedBelow part f m)
 
--- the matrix of the program that a table's bytes and index have; no mark where there would be more procedures than a table can have
-unfoldable pub reachAt : ℕ → List ℕ → List ℕ → List ℕ
-reachAt p bs ix = cond (ltb mostProcedures p) noMarks (reachTable (programAt p bs ix))
+-- the matrix of a program; no mark where there would be more procedures than a table can have
+unfoldable pub reachAt : List ℕ → List ℕ
+reachAt g = cond (ltb mostProcedures (procedureCount g)) noMarks (reachTable (programAt g))
 
--- does the body of f lack a removal, by the matrix? Is it too wide?
-unfoldable pub lacksIn : List ℕ → ℕ → List ℕ → List ℕ → ℕ → Bool
-lacksIn m p bs ix f = lacksRemoval (recursiveIn m f) (bodyAt p bs ix f)
+-- does the body of f lack a removal, by the matrix?
+unfoldable pub lacksIn : List ℕ → List ℕ → ℕ → Bool
+lacksIn m g f = lacksRemoval (recursiveIn m f) (bodyAt g f)
 
-unfoldable pub wideIn : List ℕ → ℕ → List ℕ → List ℕ → ℕ → Bool
-wideIn m p bs ix f = ltb 1 (width (recursiveIn m f) (bodyAt p bs ix f))
-
--- does one of the bodies 0 to p?
-abbrev pub anyLacksIn : List ℕ → ℕ → List ℕ → List ℕ → Bool
-anyLacksIn m p bs ix = anyBelow (suc p) (lacksIn m p bs ix)
-
-abbrev pub anyWideIn : List ℕ → ℕ → List ℕ → List ℕ → Bool
-anyWideIn m p bs ix = anyBelow (suc p) (wideIn m p bs ix)
+-- does one of the bodies, main and each procedure?
+abbrev pub anyLacksIn : List ℕ → List ℕ → Bool
+anyLacksIn m g = anyBelow (suc (procedureCount g)) (lacksIn m g)

@@ -1,25 +1,20 @@
-// Which procedure reaches which, and refusals 10 and 11: a recursive call without removal, width over 1.
+// Which procedure reaches which, and refusal 10: a recursive call without removal.
 ghost use mathlib.Core.Path.{_≡_};
-ghost use Prim.Native.Nat.{_+_, suc, min, max};
-ghost use lib.ListN.{length};
+ghost use Prim.Native.Nat.{suc};
 ghost use Rattle.limits.specs.Sizes.{bodyCount};
-ghost use Rattle.model.specs.Meaning.{digit};
-ghost use Rattle.model.specs.Reach as model;
-ghost use Rattle.model.specs.Reach.{lacksRemoval};
-ghost use Rattle.records.specs.Fields.{removalsOf};
-ghost use Rattle.table.specs.Index.{rootOf, statementAt, bodyAt};
+ghost use Rattle.model.specs.Reach.{lacksRemoval, anyBelow};
+ghost use Rattle.decoded.specs.DecodedTable.{statementAt, bodyAt};
 ghost use Rattle.reach.specs.Matrix.{cell, markAt, entry, recursiveIn, mark, carried, joined, extended, through, closed};
-ghost use Rattle.reach.specs.CallsInATable.{partsOf, partsAt, marked, markedBelow, reachAt, lacksIn, wideIn, anyLacksIn, anyWideIn};
-use limits::{BODIES, BODY_COUNT, LIST_LENGTH, MATRIX_LENGTH, MOST_DEPTH, MOST_PROCEDURES, ROOTS_AT};
-use records::byte;
-use step::{Qubits, Step, start, step_at};
+ghost use Rattle.reach.specs.CallsInATable.{partsOf, partsAt, marked, markedBelow, reachAt, lacksIn, anyLacksIn};
+use limits::{BODIES, BODY_COUNT, MATRIX_LENGTH, MOST_DEPTH, MOST_PROCEDURES, PROGRAM_LENGTH};
+use step::{Step, procedures, removal_count, root, step_at};
 
 // What a record is for calls: a statement without parts, one of two parts, which come in turn or of which one is chosen, or a call with the
 // place of its removals.
 pub enum Parts {
     Neither,
-    Two(usize, usize, bool),
-    Call(u8, usize),
+    Two(u32, u32, bool),
+    Call(u8, u32),
 }
 
 // The place of row f, column g.
@@ -140,91 +135,77 @@ fn parts_of(found: Step) -> Parts
 }
 
 // What record i is for calls, whatever the list.
-pub fn parts_at(table: &[u8], index: &[u16], p: u8, i: usize) -> Parts
-    ensures { λ r. ⌜ r ≡ partsAt p (now (table .entry)) (now (index .entry)) i ⌝ }
+pub fn parts_at(program: &[u32; PROGRAM_LENGTH], i: u32) -> Parts
+    ensures { λ r. ⌜ r ≡ partsAt (now (program .entry)) i ⌝ }
 {
-    let none = Qubits { at: [0; LIST_LENGTH], len: 0 };
-    parts_of(step_at(table, index, p, i, none))
-}
-
-// The root of the body of f, main at 0.
-pub fn root(index: &[u16], f: u8) -> usize
-    ensures { λ r. ⌜ r ≡ rootOf (now (index .entry)) f ⌝ }
-{
-    start(index, ROOTS_AT + f as usize)
-}
-
-// How many removals stand at a place? Place 0 has none.
-pub fn removal_count(table: &[u8], at: usize) -> u8
-    ensures { λ r. ⌜ r ≡ length (removalsOf (now (table .entry)) at) ⌝ }
-{
-    if at == 0 { 0 } else { byte(table, at) }
+    parts_of(step_at(program, i, 0))
 }
 
 // Row f is marked for every call in the statement at record i, of at most `depth` records from its root down.
-fn mark_calls(table: &[u8], index: &[u16], p: u8, i: usize, depth: u8, f: u8, matrix: &mut [u8; MATRIX_LENGTH])
-    ensures { λ r. ⌜ now (matrix .exit) ≡ marked f (statementAt p (now (table .entry)) (now (index .entry)) depth i) (now (matrix .entry)) ⌝ }
+fn mark_calls(program: &[u32; PROGRAM_LENGTH], i: u32, depth: u8, f: u8, matrix: &mut [u8; MATRIX_LENGTH])
+    ensures { λ r. ⌜ now (matrix .exit) ≡ marked f (statementAt (now (program .entry)) depth i) (now (matrix .entry)) ⌝ }
 {
     if depth == 0 {
         return;
     }
-    let found = parts_at(table, index, p, i);
+    let found = parts_at(program, i);
     match found {
         Parts::Neither => {}
         Parts::Two(a, b, _) => {
-            mark_calls(table, index, p, a, depth - 1, f, matrix);
-            mark_calls(table, index, p, b, depth - 1, f, matrix);
+            mark_calls(program, a, depth - 1, f, matrix);
+            mark_calls(program, b, depth - 1, f, matrix);
         }
         Parts::Call(g, _) => mark(matrix, f, g),
     }
 }
 
 // Row f is marked for every call in the body of f.
-fn mark_body(table: &[u8], index: &[u16], p: u8, f: u8, matrix: &mut [u8; MATRIX_LENGTH])
-    ensures { λ r. ⌜ now (matrix .exit) ≡ marked f (bodyAt p (now (table .entry)) (now (index .entry)) f) (now (matrix .entry)) ⌝ }
+fn mark_body(program: &[u32; PROGRAM_LENGTH], f: u8, matrix: &mut [u8; MATRIX_LENGTH])
+    ensures { λ r. ⌜ now (matrix .exit) ≡ marked f (bodyAt (now (program .entry)) f) (now (matrix .entry)) ⌝ }
 {
-    mark_calls(table, index, p, root(index, f), MOST_DEPTH, f, matrix);
+    mark_calls(program, root(program, f), MOST_DEPTH, f, matrix);
 }
 
-// The rows of main and each procedure are marked, each for every call in its body.
-fn mark_bodies(table: &[u8], index: &[u16], p: u8, matrix: &mut [u8; MATRIX_LENGTH])
-    ensures { λ r. ⌜ now (matrix .exit) ≡ markedBelow (bodyAt p (now (table .entry)) (now (index .entry))) (suc p) (now (matrix .entry)) ⌝ }
+// The rows of main and procedures 1 to p are marked, each for every call in its body.
+fn mark_bodies(program: &[u32; PROGRAM_LENGTH], p: u8, matrix: &mut [u8; MATRIX_LENGTH])
+    ensures { λ r. ⌜ now (matrix .exit) ≡ markedBelow (bodyAt (now (program .entry))) (suc p) (now (matrix .entry)) ⌝ }
 {
     for f in 0..=p {
-        mark_body(table, index, p, f, matrix);
+        mark_body(program, f, matrix);
     }
 }
 
 // Which procedure reaches which, in the program of a table with p procedures. Of more than a table can have, nothing is marked.
-pub fn fill_reach(table: &[u8], index: &[u16], p: u8, matrix: &mut [u8; MATRIX_LENGTH])
-    ensures { λ r. ⌜ now (matrix .exit) ≡ reachAt p (now (table .entry)) (now (index .entry)) ⌝ }
+pub fn fill_reach(program: &[u32; PROGRAM_LENGTH], matrix: &mut [u8; MATRIX_LENGTH])
+    ensures { λ r. ⌜ now (matrix .exit) ≡ reachAt (now (program .entry)) ⌝ }
 {
     *matrix = [0; MATRIX_LENGTH];
+    let p = procedures(program);
     if MOST_PROCEDURES < p {
         return;
     }
-    mark_bodies(table, index, p, matrix);
+    mark_bodies(program, p, matrix);
     close(matrix, p);
 }
 
 // Does a recursive call in the statement at record i, in the body of f, lack a removal?
-fn lacks_removal(table: &[u8], index: &[u16], p: u8, i: usize, depth: u8, f: u8, matrix: &[u8; MATRIX_LENGTH]) -> bool
-    ensures { λ r. ⌜ r ≡ lacksRemoval (recursiveIn (now (matrix .entry)) f) (statementAt p (now (table .entry)) (now (index .entry)) depth i) ⌝ }
+fn lacks_removal(program: &[u32; PROGRAM_LENGTH], i: u32, depth: u8, f: u8, matrix: &[u8; MATRIX_LENGTH]) -> bool
+    ensures { λ r. ⌜ r ≡ lacksRemoval (recursiveIn (now (matrix .entry)) f) (statementAt (now (program .entry)) depth i) ⌝ }
 {
     if depth == 0 {
         return false;
     }
-    let found = parts_at(table, index, p, i);
+    let found = parts_at(program, i);
     match found {
         Parts::Neither => false,
         Parts::Two(a, b, _) => {
-            if lacks_removal(table, index, p, a, depth - 1, f, matrix) {
+            if lacks_removal(program, a, depth - 1, f, matrix) {
                 return true;
             }
-            lacks_removal(table, index, p, b, depth - 1, f, matrix)
+            lacks_removal(program, b, depth - 1, f, matrix)
         }
         Parts::Call(g, at) => {
-            if 0 < removal_count(table, at) {
+            if 0 < removal_count(program, at) {
                 return false;
             }
             recursive(matrix, f, g)
@@ -232,87 +213,28 @@ fn lacks_removal(table: &[u8], index: &[u16], p: u8, i: usize, depth: u8, f: u8,
     }
 }
 
-// The sum of two widths, of which more than 2 is no more than 2.
-fn sum(a: u8, b: u8) -> u8
-    ensures { λ r. ⌜ r ≡ min 2 (a + b) ⌝ }
-{
-    if 2 <= a {
-        return 2;
-    }
-    if 2 <= b {
-        return 2;
-    }
-    a + b
-}
-
-fn larger(a: u8, b: u8) -> u8
-    ensures { λ r. ⌜ r ≡ max a b ⌝ }
-{
-    if a < b { b } else { a }
-}
-
-// "recursive call 1, other call 0"
-fn one_if(counts: bool) -> u8
-    ensures { λ r. ⌜ r ≡ digit counts ⌝ }
-{
-    if counts { 1 } else { 0 }
-}
-
-// "Width: skip and NOT 0, sequence the sum, if and qcase the larger, recursive call 1, other call 0": of the statement at record i, in the
-// body of f. More than 2 is given as 2.
-pub fn width(table: &[u8], index: &[u16], p: u8, i: usize, depth: u8, f: u8, matrix: &[u8; MATRIX_LENGTH]) -> u8
-    ensures { λ r. ⌜ r ≡ min 2 (model.width (recursiveIn (now (matrix .entry)) f)
-        (statementAt p (now (table .entry)) (now (index .entry)) depth i)) ⌝ }
-{
-    if depth == 0 {
-        return 0;
-    }
-    let found = parts_at(table, index, p, i);
-    match found {
-        Parts::Neither => 0,
-        Parts::Two(a, b, in_turn) => {
-            let first = width(table, index, p, a, depth - 1, f, matrix);
-            let second = width(table, index, p, b, depth - 1, f, matrix);
-            if in_turn { sum(first, second) } else { larger(first, second) }
-        }
-        Parts::Call(g, _) => one_if(recursive(matrix, f, g)),
-    }
-}
-
 // Does a recursive call in the body of f lack a removal?
-fn body_lacks_removal(table: &[u8], index: &[u16], p: u8, f: u8, matrix: &[u8; MATRIX_LENGTH]) -> bool
-    ensures { λ r. ⌜ r ≡ lacksIn (now (matrix .entry)) p (now (table .entry)) (now (index .entry)) f ⌝ }
+fn body_lacks_removal(program: &[u32; PROGRAM_LENGTH], f: u8, matrix: &[u8; MATRIX_LENGTH]) -> bool
+    ensures { λ r. ⌜ r ≡ lacksIn (now (matrix .entry)) (now (program .entry)) f ⌝ }
 {
-    lacks_removal(table, index, p, root(index, f), MOST_DEPTH, f, matrix)
+    lacks_removal(program, root(program, f), MOST_DEPTH, f, matrix)
 }
 
-// Has the body of f a width over 1?
-fn body_too_wide(table: &[u8], index: &[u16], p: u8, f: u8, matrix: &[u8; MATRIX_LENGTH]) -> bool
-    ensures { λ r. ⌜ r ≡ wideIn (now (matrix .entry)) p (now (table .entry)) (now (index .entry)) f ⌝ }
+// Does a recursive call in one of the bodies 0 to p lack a removal?
+fn one_lacks_removal(program: &[u32; PROGRAM_LENGTH], p: u8, matrix: &[u8; MATRIX_LENGTH]) -> bool
+    ensures { λ r. ⌜ r ≡ anyBelow (suc p) (lacksIn (now (matrix .entry)) (now (program .entry))) ⌝ }
 {
-    1 < width(table, index, p, root(index, f), MOST_DEPTH, f, matrix)
+    for f in 0..=p {
+        if body_lacks_removal(program, f, matrix) {
+            return true;
+        }
+    }
+    false
 }
 
 // Refusal 10: does a recursive call in one of the bodies lack a removal?
-pub fn any_lacks_removal(table: &[u8], index: &[u16], p: u8, matrix: &[u8; MATRIX_LENGTH]) -> bool
-    ensures { λ r. ⌜ r ≡ anyLacksIn (now (matrix .entry)) p (now (table .entry)) (now (index .entry)) ⌝ }
+pub fn any_lacks_removal(program: &[u32; PROGRAM_LENGTH], matrix: &[u8; MATRIX_LENGTH]) -> bool
+    ensures { λ r. ⌜ r ≡ anyLacksIn (now (matrix .entry)) (now (program .entry)) ⌝ }
 {
-    for f in 0..=p {
-        if body_lacks_removal(table, index, p, f, matrix) {
-            return true;
-        }
-    }
-    false
-}
-
-// Refusal 11: has one of the bodies a width over 1?
-pub fn any_too_wide(table: &[u8], index: &[u16], p: u8, matrix: &[u8; MATRIX_LENGTH]) -> bool
-    ensures { λ r. ⌜ r ≡ anyWideIn (now (matrix .entry)) p (now (table .entry)) (now (index .entry)) ⌝ }
-{
-    for f in 0..=p {
-        if body_too_wide(table, index, p, f, matrix) {
-            return true;
-        }
-    }
-    false
+    one_lacks_removal(program, procedures(program), matrix)
 }

@@ -29,7 +29,7 @@ use Rattle.records.specs.Fields.{
   byteAt, writtenAt, andThenPlace, andThenNumber, andThenProcedure, based, numberAt, numbersAt, removalsAt, maybeRemovalsAt,
 }
 use Rattle.records.specs.Fields.{
-  placeOf, afterRemovals, plainRecord, touchRecord, comparisonRecord, callRecord, withNumber, withNumbers, withProcedure, fieldsAt, recordOf, recordAt,
+  placeOf, afterRemovals, plainRecord, touchRecord, comparisonRecord, withNumber, withNumbers, withProcedure, fieldsAt,
 }
 
 -- a conjunction as the code takes it, test by test
@@ -284,35 +284,6 @@ pub written-there : (bs : List ℕ) (at low high : ℕ) (z : ℤ) (a : Number) �
     low ≡ byteAt bs (at + 1) → high ≡ byteAt bs (at + 2) → z ≡ signed16 low high → a ≡ based (byteAt bs at) (toZ w32 (ofZ w32 z)) → a ≡ writtenAt bs at
 written-there bs at low high z a f l h e made = made ∙ rw (toZ-ofZ f, e, l, h)
 
--- a record past the end is skip
-pub record-none : (p : ℕ) (bs : List ℕ) (at : ℕ) → length bs ≤ at → kind.Skip ≡ recordAt p bs at
-unfolding recordAt recordOf plainRecord
-record-none p bs at h = rw (← past-end bs (at + 1) (omega arith))
-
--- any other goes by the bits that the map of its kind must have
-module _ (p : ℕ) (bs : List ℕ) (at k m : ℕ) (removes : Bool)
-    (s : removes ≡ stands 0 (getD bs at 0)) (b : k ≡ byteAt bs (at + 1)) (e : m ≡ requiredMap k) where
-  pub record-number :
-      (next q : ℕ) (a : Number) (r : Record) → next ≡ afterRemovals removes bs (at + 2) → m ≡ 2 → q ≡ placeOf removes (at + 2) →
-      a ≡ writtenAt bs next → r ≡ touchRecord k q a → r ≡ recordAt p bs at
-  unfolding recordAt recordOf
-  record-number next q a r n t place number made = rw (← b, ← s, ← e, t, made, number, place, n)
-
-  pub record-numbers :
-      (a c : Number) (r : Record) → m ≡ 6 → a ≡ writtenAt bs (at + 2) → c ≡ writtenAt bs (at + 2 + 3) → r ≡ comparisonRecord k a c → r ≡ recordAt p bs at
-  unfolding recordAt recordOf
-  record-numbers a c r t first second made = rw (← b, ← s, ← e, t, made, first, second)
-
-  pub record-procedure :
-      (next q f : ℕ) (r : Record) → next ≡ afterRemovals removes bs (at + 2) → m ≡ 8 → q ≡ placeOf removes (at + 2) →
-      f ≡ byteAt bs next → r ≡ callRecord p q f → r ≡ recordAt p bs at
-  unfolding recordAt recordOf
-  record-procedure next q f r n t place called made = rw (← b, ← s, ← e, t, made, called, place, n)
-
-  pub record-plain : (r : Record) → (m ≡ 2 → ⊥) → (m ≡ 6 → ⊥) → (m ≡ 8 → ⊥) → r ≡ plainRecord k → r ≡ recordAt p bs at
-  unfolding recordAt recordOf
-  record-plain r f2 f6 f8 made = rw (← b, ← s, ← e, ne-eqb m 2 f2, ne-eqb m 6 f6, ne-eqb m 8 f8, made)
-
 pub ruleset tests = (needs, lt-ltb, le-ltb, le-leb, lt-leb, eq-eqb, ne-eqb, bytes-there, bytes-lack, number-there)
 
 pub ruleset bases = (needs, based-constant, based-size, based-left)
@@ -360,9 +331,4 @@ pub ruleset kinds = (
   fields-numbers,
   fields-procedure,
   fields-none,
-  record-none,
-  record-number,
-  record-numbers,
-  record-procedure,
-  record-plain,
 )

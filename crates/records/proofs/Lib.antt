@@ -1,4 +1,3 @@
 -- What the proofs of several functions use.
 pub mod FieldLaws
 pub mod ReadingAtAPlace
-pub mod RecordKinds

@@ -2,7 +2,7 @@
 use Prim.Native.Nat.{ℕ, zero, suc, _+_, _*_, _≤_, _<_}
 use native.Mathlib.Numerals.{add-one}
 use native.Mathlib.Omega.{arith}
-use mathlib.Core.Path.{_≡_, refl, sym}
+use mathlib.Core.Path.{_≡_, refl, sym, ap}
 use mathlib.Core.Bool.{Bool, true, false, _||_}
 use mathlib.Core.List.{List, [], _∷_}
 use borrow.Author.Tests.{lt-ltb, le-ltb, le-leb, lt-leb, ne-eqb, eqb-true}
@@ -15,7 +15,7 @@ use Rattle.model.specs.Reading as model
 use Rattle.model.specs.Reading.{Input, inputAt, Parsed, parsed, refused, andThen, provided, byte, mostBase, number, numbers, removals, procedure}
 use Rattle.model.specs.Reading.{permitted, stands, Fields, optional, fields}
 use Rattle.model.specs.Writing.{noFields, touchedFields, comparedFields, calledFields}
-use Rattle.model.proofs.BooleanLaws.{byEq, byLt, or-cases}
+use Rattle.model.proofs.BooleanLaws.{byEq, byLt, or-cases, clash}
 use Rattle.model.proofs.ByteAtAPlace.{byte-there, byte-past}
 use Rattle.records.specs.declared.Number.{Number}
 use Rattle.records.specs.declared.Record.{Record}
@@ -25,7 +25,7 @@ use Rattle.records.specs.declared.Answer.the-variants as answer
 use Rattle.records.specs.Fields.{byteAt, andThenPlace, andThenNumber, andThenProcedure, based, writtenAt, numberAt, numbersAt, removalsAt, procedureAt}
 use Rattle.records.specs.Fields.{maybeRemovalsAt, placeOf, afterRemovals, plainRecord, touchRecord, comparisonRecord, callRecord, withNumber, withNumbers, withProcedure}
 use Rattle.records.specs.Fields.{
-  fieldsAt, recordOf, recordAt, numberOf, numbersFrom, removalsOf, fieldsOf,
+  fieldsAt, recordOf, numberOf, numbersFrom, removalsOf, fieldsOf,
   fieldsParsed, FieldsRead,
 }
 
@@ -192,7 +192,7 @@ unfolding callRecord
 calling-is p at f z l = rw (ne-eqb f 0 (omega arith), le-ltb p f l)
 
 -- the map of a kind that has one map only
-only : (map m : ℕ) → eqb map m || eqb map m ≡ true → map ≡ m
+pub only : (map m : ℕ) → eqb map m || eqb map m ≡ true → map ≡ m
 only map m t = or-cases (eqb map m) (eqb map m) t (eqb-true map m) (eqb-true map m)
 
 -- a kind's fields, by what its map has
@@ -275,7 +275,7 @@ module _ (p : ℕ) (bs : List ℕ) (at k : ℕ) (h : at ≤ length bs) where
         (λ q. rw (eqb-true map 8 q) (called-from false)) (λ q. rw (eqb-true map 9 q) (called-from true))
 
 -- the kinds 0 to 11
-by-kinds :
+pub by-kinds :
     (C : ℕ → Type 0) → C 0 → C 1 → C 2 → C 3 → C 4 → C 5 → C 6 → C 7 → C 8 → C 9 → C 10 → C 11 → (j : ℕ) → j < kindCount → C j
 by-kinds C c0 c1 c2 c3 c4 c5 c6 c7 c8 c9 c10 c11 j l =
     byEq j 0 (λ e. rw e c0) λ f0. let l1 = past 0 j (omega arith) f0 in
@@ -338,13 +338,45 @@ module _ (p j map : ℕ) (bs : List ℕ) (at k : ℕ) (z : 0 < at) (s : at < pla
       go (reads next e w) = give _ next refl e w
       go (refuses m) = refuse m
 
+-- a record that was read has at most 8 removals, which stand inside the table
+no-record : (k : ℕ) (r : Record) (next : ℕ) → answer.Refused k ≡ answer.Record r next → ⊥
+no-record k r next e = let z : _≡_ {A = ℕ} 1 0 = ap refusing e in omega arith
+  where
+    refusing : Answer → ℕ
+    refusing (answer.Place n) = 0
+    refusing (answer.Number a n) = 0
+    refusing (answer.Procedure f n) = 0
+    refusing (answer.Record q n) = 0
+    refusing (answer.Refused m) = 1
+
+few-removals :
+    (bs : List ℕ) (at : ℕ) (f : ℕ → Answer) (r : Record) (next : ℕ) → andThenPlace (removalsAt bs at) f ≡ answer.Record r next →
+    (at < length bs) × (byteAt bs at ≤ mostRemovals)
+unfolding removalsAt andThenPlace
+few-removals bs at f r next e =
+    byLt at (length bs)
+    (λ h. byLt mostRemovals (byteAt bs at)
+    (λ m. absurd (no-record wrongField r next (rw (lt-ltb at (length bs) h, ne-eqb (byteAt bs at) 0 (omega arith), lt-ltb mostRemovals (byteAt bs at) m) at e)))
+    (λ m. (h, m)))
+    (λ h. absurd (no-record tableStops r next (rw (le-ltb at (length bs) h) at e)))
+
+pub removals-read :
+    (p j map : ℕ) (bs : List ℕ) (at : ℕ) (r : Record) (next : ℕ) → j < kindCount → permitted j map ≡ true →
+    fieldsAt p j (stands 0 map) bs at ≡ answer.Record r next → stands 0 map ≡ true → (at < length bs) × (byteAt bs at ≤ mostRemovals)
+unfolding fieldsAt withNumber withProcedure maybeRemovalsAt
+removals-read p j map bs at r next l t e q =
+    by-kinds (λ (j : ℕ). permitted j map ≡ true → fieldsAt p j true bs at ≡ answer.Record r next → (at < length bs) × (byteAt bs at ≤ mostRemovals))
+    (λ t e. none t) (λ t e. few-removals bs at _ r next e) (λ t e. none t) (λ t e. none t) (λ t e. few-removals bs at _ r next e)
+    (λ t e. few-removals bs at _ r next e) (λ t e. compares t) (λ t e. compares t) (λ t e. compares t) (λ t e. none t) (λ t e. none t) (λ t e. none t)
+    j l t (rw q at e)
+  where
+    none : eqb map 0 || eqb map 0 ≡ true → (at < length bs) × (byteAt bs at ≤ mostRemovals)
+    none t = clash q (rw (only map 0 t))
+
+    compares : eqb map 6 || eqb map 6 ≡ true → (at < length bs) × (byteAt bs at ≤ mostRemovals)
+    compares t = clash q (rw (only map 6 t))
+
 -- the reader's answer says what the model reads
 pub fields-are-read : (p kind : ℕ) (removes : Bool) (bs : List ℕ) (at : ℕ) (r : Answer) → r ≡ fieldsAt p kind removes bs at → FieldsRead p kind removes bs at r
 unfolding FieldsRead
 fields-are-read p kind removes bs at r e map k t m l z s h = rw (e, ← m) (sym (fields-read p kind map bs at k z s h l t))
-
--- a record whose fields were read is found again from the place of its map
-pub record-again :
-    (p : ℕ) (bs : List ℕ) (at : ℕ) (r : Record) → recordOf p (byteAt bs (at + 1)) (stands 0 (byteAt bs at)) bs (at + 2) ≡ r → recordAt p bs at ≡ r
-unfolding recordAt
-record-again p bs at r e = e

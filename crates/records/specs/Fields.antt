@@ -166,10 +166,6 @@ recordOf p k removes bs at =
     (callRecord p (placeOf removes at) (byteAt bs (afterRemovals removes bs at)))
     (plainRecord k)
 
--- the record whose map and kind stand at a place
-unfoldable pub recordAt : ℕ → List ℕ → ℕ → Record
-recordAt p bs at = recordOf p (byteAt bs (at + 1)) (stands 0 (byteAt bs at)) bs (at + 2)
-
 -- a number as the model has it
 unfoldable pub numberOf : Number → syntax.Number
 numberOf (Constant z) = syntax.constant z

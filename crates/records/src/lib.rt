@@ -1,11 +1,11 @@
-// The records of a table, one at a time: read with refusals 1 and 6, and taken as they are written from a table that has been read.
+// The records of a table, one at a time, read with refusals 1 and 6.
 ghost use mathlib.Core.Path.{_≡_};
 ghost use Prim.Native.Nat.{_+_, _≤_};
 ghost use lib.ListN.{length};
 ghost use Rattle.model.specs.Reading.{signed16, requiredMap, stands};
 ghost use Rattle.model.specs.Reading as model;
 ghost use Rattle.records.specs.Fields.{byteAt, based, writtenAt, numberAt, numbersAt, removalsAt, maybeRemovalsAt, placeOf, afterRemovals, procedureAt};
-ghost use Rattle.records.specs.Fields.{plainRecord, touchRecord, comparisonRecord, callRecord, withNumber, withNumbers, withProcedure, fieldsAt, recordAt, FieldsRead};
+ghost use Rattle.records.specs.Fields.{plainRecord, touchRecord, comparisonRecord, withNumber, withNumbers, withProcedure, fieldsAt, FieldsRead};
 use limits::{KIND_COUNT, MOST_BASE, MOST_REMOVALS, PLACE_COUNT, TABLE_STOPS, WRONG_FIELD};
 
 // "The permitted map of each kind stands in one table of twelve entries": the bits that must stand, and 16 times the bit that may.
@@ -19,7 +19,7 @@ pub enum Number {
     LeftPlus(i32),
 }
 
-// The twelve kinds. Removals stand in the table: here is the place of their count, 0 where there are none. It has 16 bits, as places in the index have.
+// The twelve kinds. Removals stand in the table: here is the place of their count, 0 where there are none. It has 16 bits, as places in a decoded program have.
 pub enum Record {
     Skip,
     Not(u16, Number),
@@ -45,7 +45,7 @@ pub enum Answer {
 }
 
 // "a signed 16-bit constant, little-endian"
-fn signed(low: u8, high: u8) -> i32
+pub fn signed(low: u8, high: u8) -> i32
     ensures { λ r. ⌜ r ≡ signed16 low high ⌝ }
 {
     let bits = low as u32 + 256 * (high as u32);
@@ -64,7 +64,7 @@ pub fn byte(table: &[u8], at: usize) -> u8
 }
 
 // The number of a base and a constant. No table that has been read has a base above 2.
-fn based(base: u8, constant: i32) -> Number
+pub fn based(base: u8, constant: i32) -> Number
     ensures { λ r. ⌜ r ≡ based base constant ⌝ }
 {
     match base {
@@ -75,7 +75,7 @@ fn based(base: u8, constant: i32) -> Number
 }
 
 // The number whose three bytes stand from a place on: a base byte and a constant.
-pub fn written_at(table: &[u8], at: usize) -> Number
+fn written_at(table: &[u8], at: usize) -> Number
     ensures { λ r. ⌜ r ≡ writtenAt (now (table .entry)) at ⌝ }
 {
     if table.len() <= at {
@@ -208,19 +208,6 @@ fn comparison_record(kind: u8, a: Number, b: Number) -> Record
     }
 }
 
-// The call of a procedure, 1 to p. Any other counts as skip: no table that has been read has one.
-fn call_record(place: u16, called: u8, p: u8) -> Record
-    ensures { λ r. ⌜ r ≡ callRecord p place called ⌝ }
-{
-    if called == 0 {
-        return Record::Skip;
-    }
-    if p < called {
-        return Record::Skip;
-    }
-    Record::Call(place, called)
-}
-
 // Removals, if any, then number a: NOT and qcase.
 fn with_number(table: &[u8], at: usize, kind: u8, removes: bool) -> Answer
     ensures { λ r. ⌜ r ≡ withNumber (touchRecord kind) removes (now (table .entry)) at ⌝ }
@@ -310,28 +297,9 @@ pub fn removes(map: u8) -> bool
 }
 
 // The place behind the removals at a place, if any: a count byte, then that many numbers.
-fn after_removals(table: &[u8], at: usize, removes: bool) -> usize
+pub fn after_removals(table: &[u8], at: usize, removes: bool) -> usize
     requires { ⌜ at ≤ length (now table) + 1 ⌝ }
     ensures { λ r. ⌜ r ≡ afterRemovals removes (now (table .entry)) at ⌝ }
 {
     if removes { at + 1 + 3 * byte(table, at) as usize } else { at }
-}
-
-// The record whose map and kind stand at a place of a table that has been read. It is taken as it is written: the reader's tests are not made again.
-pub fn record_at(table: &[u8], at: usize, p: u8) -> Record
-    ensures { λ r. ⌜ r ≡ recordAt p (now (table .entry)) at ⌝ }
-{
-    if table.len() <= at {
-        return Record::Skip;
-    }
-    let removing = removes(table[at]);
-    let kind = byte(table, at + 1);
-    let fields = at + 2;
-    let next = after_removals(table, fields, removing);
-    match required(kind) {
-        2 => touch_record(kind, place(removing, fields), written_at(table, next)),
-        6 => comparison_record(kind, written_at(table, fields), written_at(table, fields + 3)),
-        8 => call_record(place(removing, fields), byte(table, next), p),
-        _ => plain_record(kind),
-    }
 }

@@ -11,26 +11,25 @@ use Rattle.model.specs.Limits.{mostQubits, leastWorkspace, wrongQubits, highBit
 use Rattle.model.specs.Syntax.{Program}
 use Rattle.model.specs.Answers.{gives, after, require, accepted, run}
 use Rattle.agreement.proofs.CompilePromise.{Accepted, accepted-is}
-use Rattle.table.specs.Index.{programAt}
-use Rattle.verdict.specs.declared.Checked.{Checked}
+use Rattle.decoded.specs.DecodedTable.{programAt}
 use Rattle.verdict.specs.VerdictAnswers.{checkedOutcome}
 use Rattle.verdict.proofs.AcceptanceAndRefusal.{refused-checked, accepted-checked}
 use Rattle.run.specs.RunOnWords.{ranWord}
 use Rattle.answers.specs.Structs.{answerOf}
 use Rattle.run.proofs.WordsAndStates.{ran-min}
 
-module _ (bs ix : List ℕ) (n word space : ℕ) (j : Checked) (is : checkedOutcome j bs ix ≡ accepted bs n) where
+module _ (bs g : List ℕ) (n word space j : ℕ) (is : checkedOutcome j g ≡ accepted bs n) where
   abbrev P : Program
-  P = programAt (j .procedures) bs ix
+  P = programAt g
 
   -- the table is refused
-  pub run-refused : (j .number ≡ 0 → ⊥) → record { number = j .number; value = 0 } ≡ answerOf (run bs n word space)
+  pub run-refused : (j ≡ 0 → ⊥) → record { number = j; value = 0 } ≡ answerOf (run bs n word space)
   unfolding run after answerOf
-  run-refused some = rw (refused-checked bs ix n space j is some)
+  run-refused some = rw (refused-checked bs g n space j is some)
 
-  module _ (none : j .number ≡ 0) where
+  module _ (none : j ≡ 0) where
     checked : accepted bs n ≡ gives P
-    checked = accepted-checked bs ix n space j is none
+    checked = accepted-checked bs g n space j is none
 
     range : Accepted n P
     range = accepted-is bs n P checked

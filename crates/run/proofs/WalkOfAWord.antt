@@ -5,6 +5,8 @@ use mathlib.Core.List.{List, [], _∷_}
 use Prim.Native.Nat.{ℕ, zero, suc, _+_, _-_, _*_, _/_, _%_, _^_, _≤_, _<_}
 use native.Mathlib.Nat.{le-refl}
 use native.Mathlib.Omega.{arith}
+use mir.Syntax.{w64}
+use mir.Val.{Fits}
 use borrow.Author.Needs.{needs}
 use borrow.Author.Tests.{lt-ltb}
 use lib.Bits.{bitAnd, bitXor}
@@ -17,8 +19,10 @@ use Rattle.model.specs.Meaning.{stateOf}
 use Rattle.model.proofs.BooleanLaws.{byBool}
 use Rattle.model.proofs.ReachAndRank.{body-out}
 use Rattle.model.proofs.ListLaws.{range-length}
-use Rattle.records.specs.Fields.{removalsOf}
-use Rattle.table.specs.Index.{rootOf, testAt, statementAt, programAt}
+use Rattle.sets.specs.Sets.{membersOf}
+use Rattle.sets.proofs.Members.{members-empty}
+use Rattle.sets.proofs.Readings.{members-split}
+use Rattle.decoded.specs.DecodedTable.{rootOf, procedureCount, removalsIn, testAt, statementAt, programAt}
 use Rattle.step.specs.declared.Step.{Step}
 use Rattle.step.specs.declared.Step.the-variants as step
 use Rattle.step.specs.Steps.{stepAt}
@@ -64,102 +68,101 @@ bit-bit (suc k) word some h = rw (qubit-is (suc k) h, sub-one) (tested word k)
 -- ---- walk
 
 -- what its loop keeps: the statement at record `at` makes of the word as it is now what the whole statement makes of the word given
-module _ (p : ℕ) (bs ix : List ℕ) (left at : ℕ) (l : List ℕ) (fuel word whole : ℕ) (inv : walked p bs ix left at l fuel word ≡ whole) where
+module _ (g : List ℕ) (left at : ℕ) (l : List ℕ) (fuel word whole : ℕ) (inv : walked g left at l fuel word ≡ whole) where
   -- skip gives its word back
-  skipped : statementAt p bs ix left at ≡ skip → word ≡ whole
+  skipped : statementAt g left at ≡ skip → word ≡ whole
   unfolding wordDoes
   skipped e = rw (← inv, e)
 
   -- too deep is nothing
   pub walk-spent : left ≤ 0 → word ≡ whole
-  walk-spent h = skipped (spent-skip p bs ix left at (omega arith))
+  walk-spent h = skipped (spent-skip g left at (omega arith))
 
-  module _ (st : Step) (more : 0 < left) (steps : st ≡ stepAt p bs ix at l) where
+  module _ (st : Step) (more : 0 < left) (steps : st ≡ stepAt g at l) where
     deep : left ≡ 0 → ⊥
     deep e = omega arith
 
     pub walk-idle : (x : Step) → st ≡ x → Idle x → word ≡ whole
-    walk-idle x e o = skipped (idle-skip p bs ix left at l deep steps x e o)
+    walk-idle x e o = skipped (idle-skip g left at l deep steps x e o)
 
     -- NOT flips the bit of the qubit that it touches
     pub walk-touches : (q r : ℕ) → st ≡ step.Touches q → r ≡ flippedWord q word → r ≡ whole
     unfolding wordDoes
-    walk-touches q r e h = let t = at-step p bs ix left at l deep steps e in rw (← inv, t .2) (h ∙ ap (λ (x : ℕ). flippedWord x word) (t .3))
+    walk-touches q r e h = let t = at-step g left at l deep steps e in rw (← inv, t .2) (h ∙ ap (λ (x : ℕ). flippedWord x word) (t .3))
 
     -- a sequence hands the first statement's word to the second
-    pub walk-sequence : (a b middle : ℕ) → st ≡ step.Sequence a b → middle ≡ walked p bs ix (left - 1) a l fuel word →
-        walked p bs ix (left - 1) b l fuel middle ≡ whole
+    pub walk-sequence : (a b middle : ℕ) → st ≡ step.Sequence a b → middle ≡ walked g (left - 1) a l fuel word →
+        walked g (left - 1) b l fuel middle ≡ whole
     unfolding wordDoes
-    walk-sequence a b middle e first = rw (← inv, at-step p bs ix left at l deep steps e)
-      (ap (λ (x : ℕ). walked p bs ix (left - 1) b l fuel x) first)
+    walk-sequence a b middle e first = rw (← inv, at-step g left at l deep steps e)
+      (ap (λ (x : ℕ). walked g (left - 1) b l fuel x) first)
 
     -- if goes on as the statement that is chosen
-    pub walk-chosen : (c a b x : ℕ) → st ≡ step.Chooses c a b → x ≡ cond (holds (testAt p bs ix (left - 1) c) l) a b →
-        walked p bs ix (left - 1) x l fuel word ≡ whole
+    pub walk-chosen : (c a b x : ℕ) → st ≡ step.Chooses c a b → x ≡ cond (holds (testAt g (left - 1) c) l) a b →
+        walked g (left - 1) x l fuel word ≡ whole
     walk-chosen c a b x e q =
-      let calls = callWordsWithin (programAt p bs ix) fuel in
+      let calls = callWordsWithin (programAt g) fuel in
       sym (chosen-means (λ s. wordDoes calls s l word) l (λ c s t. word-yes calls c s t l word) (λ c s t. word-no calls c s t l word)
-        p bs ix left at deep steps e q) ∙ inv
+        g left at deep steps e q) ∙ inv
 
     -- qcase reads the bit of the qubit it touches and goes on as zero or one
-    pub walk-taken : (q a b x : ℕ) → st ≡ step.Branches q a b → x ≡ cond (bitOf q word) b a → walked p bs ix (left - 1) x l fuel word ≡ whole
+    pub walk-taken : (q a b x : ℕ) → st ≡ step.Branches q a b → x ≡ cond (bitOf q word) b a → walked g (left - 1) x l fuel word ≡ whole
     walk-taken q a b x e k =
-      let calls = callWordsWithin (programAt p bs ix) fuel in
-      let s = at-step p bs ix left at l deep steps e in
-      let part = statementAt p bs ix (left - 1) in
+      let calls = callWordsWithin (programAt g) fuel in
+      let s = at-step g left at l deep steps e in
+      let part = statementAt g (left - 1) in
       let reads = ap (λ (y : ℕ). bitOf y word) (s .3) in
       rw (← inv, s .2) (byBool (bitOf q word)
         (λ h. rw (k, h) (sym (word-one calls (s .0) (s .1) (part a) (part b) l word (sym reads ∙ h))))
         (λ h. rw (k, h) (sym (word-zero calls (s .0) (s .1) (part a) (part b) l word (sym reads ∙ h)))))
 
     -- a call hands its word on, with what its removals left
-    pub walk-calls : (f place r : ℕ) (rest : List ℕ) → st ≡ step.Calls f place → rest ≡ remaining (removalsOf bs place) l →
-        r ≡ called p bs ix f rest fuel word → r ≡ whole
+    pub walk-calls : (f place r : ℕ) (rest : List ℕ) → st ≡ step.Calls f place → rest ≡ remaining (removalsIn g place) l →
+        r ≡ called g f rest fuel word → r ≡ whole
     unfolding wordDoes
-    walk-calls f place r rest e kept h = rw (← inv, at-step p bs ix left at l deep steps e, ← kept) h
+    walk-calls f place r rest e kept h = rw (← inv, at-step g left at l deep steps e, ← kept) h
 
 pub less-deep : (left depth : ℕ) → left ≤ depth → left - 1 ≤ depth
 less-deep left depth h = omega arith
 
 -- ---- call
 
-module _ (p : ℕ) (bs ix : List ℕ) where
+module _ (g : List ℕ) where
   module _ (f : ℕ) where
     -- an empty list gives the word back
-    pub call-empty : (l : List ℕ) (fuel word n : ℕ) → n ≡ length l → n ≡ 0 → word ≡ called p bs ix f l fuel word
+    pub call-empty : (list fuel word : ℕ) → list ≡ 0 → word ≡ called g f (membersOf list) fuel word
     unfolding callWords
-    call-empty [] fuel word n len e = refl
-    call-empty (q ∷ l) fuel word n len e = absurd (omega arith)
+    call-empty list fuel word e = rw (e, members-empty)
 
     -- so does a call that is too deep
-    pub call-spent : (l : List ℕ) (fuel word : ℕ) → fuel ≡ 0 → word ≡ called p bs ix f l fuel word
+    pub call-spent : (l : List ℕ) (fuel word : ℕ) → fuel ≡ 0 → word ≡ called g f l fuel word
     unfolding callWords callWordsWithin
     call-spent [] fuel word e = refl
     call-spent (q ∷ l) fuel word e = rw e
 
     -- and a call of no procedure
-    pub call-past : (l : List ℕ) (fuel word : ℕ) → p < f → word ≡ called p bs ix f l fuel word
+    pub call-past : (l : List ℕ) (fuel word p : ℕ) → p ≡ procedureCount g → p < f → word ≡ called g f l fuel word
     unfolding callWords callWordsWithin wordDoes
-    call-past [] fuel word h = refl
-    call-past (q ∷ l) zero word h = refl
-    call-past (q ∷ l) (suc fuel) word h = rw (body-out (programAt p bs ix) f (rw (count-at p bs ix) h))
+    call-past [] fuel word p n h = refl
+    call-past (q ∷ l) zero word p n h = refl
+    call-past (q ∷ l) (suc fuel) word p n h = rw (body-out (programAt g) f (rw (count-at g, ← n) h))
 
     -- any other goes on with the body, on the list that was left
-    pub call-body : (l : List ℕ) (fuel word n i r : ℕ) → n ≡ length l → (n ≡ 0 → ⊥) → (fuel ≡ 0 → ⊥) → f ≤ p → i ≡ rootOf ix f →
-        r ≡ walked p bs ix mostDepth i l (fuel - 1) word → r ≡ called p bs ix f l fuel word
+    pub call-body : (list fuel word p i r : ℕ) → Fits w64 list → (list ≡ 0 → ⊥) → (fuel ≡ 0 → ⊥) → p ≡ procedureCount g → f ≤ p →
+        i ≡ rootOf g f → r ≡ walked g mostDepth i (membersOf list) (fuel - 1) word → r ≡ called g f (membersOf list) fuel word
     unfolding callWords callWordsWithin
-    call-body [] fuel word n i r len some left named root h = absurd (some len)
-    call-body (q ∷ l) zero word n i r len some left named root h = absurd (left refl)
-    call-body (q ∷ l) (suc fuel) word n i r len some left named root h =
-      rw (body-at p bs ix f named) (rw (root, sub-one) at h)
+    call-body list zero word p i r fits some left n named root h = absurd (left refl)
+    call-body list (suc fuel) word p i r fits some left n named root h =
+      let split = members-split list fits some in
+      rw (split, body-at g f (rw n at named)) (rw (root, sub-one, split) at h)
 
   -- main, on n qubits: calls go at most p + n deep
-  pub main-ran : (m n i word r : ℕ) (l : List ℕ) → l ≡ qubits m → n ≡ length l → i ≡ rootOf ix 0 →
-      r ≡ walked p bs ix mostDepth i l (p + n) word → r ≡ ranWord (programAt p bs ix) m word
+  pub main-ran : (m n i word r p : ℕ) (l : List ℕ) → l ≡ qubits m → i ≡ rootOf g 0 → p ≡ procedureCount g → n ≡ length l →
+      r ≡ walked g mostDepth i l (p + n) word → r ≡ ranWord (programAt g) m word
   unfolding ranWord
-  main-ran m n i word r l all size root h =
+  main-ran m n i word r p l all root count size h =
     let len : n ≡ m = size ∙ ap length all ∙ range-length m 1 in
-    rw (count-at p bs ix) (rw (root, all, len) at h)
+    rw (count-at g) (rw (root, count, all, len) at h)
 
 pub ruleset walking = (
     needs, le-refl, less-deep, walk-spent, walk-idle, walk-touches, walk-sequence, walk-chosen, walk-taken, walk-calls)

@@ -9,7 +9,7 @@ use Rattle.model.specs.Syntax.{Statement, skip, NOT, sequence, if, qcase, call,
 use Rattle.model.specs.Lists.{qubits, remaining, touched, holds}
 use Rattle.model.specs.Faults.{enough}
 use Rattle.model.specs.Meaning.{stateOf}
-use Rattle.table.specs.Index.{statementAt, programAt}
+use Rattle.decoded.specs.DecodedTable.{statementAt, programAt}
 
 -- qubits have the numbers 1 to the most there can be. Any other number stands for none, as 0 does.
 abbrev pub qubitOf : ℕ → ℕ
@@ -56,9 +56,9 @@ unfoldable pub ranWord : Program → ℕ → ℕ → ℕ
 ranWord P n word = wordDoes (callWordsWithin P (enough P n)) (P .main) (qubits n) word
 
 -- what the statement at record i, of at most `depth` records from its root down, makes of a word; calls are followed as deep as `fuel`
-abbrev pub walked : ℕ → List ℕ → List ℕ → ℕ → ℕ → List ℕ → ℕ → ℕ → ℕ
-walked p bs ix depth i l fuel word = wordDoes (callWordsWithin (programAt p bs ix) fuel) (statementAt p bs ix depth i) l word
+abbrev pub walked : List ℕ → ℕ → ℕ → List ℕ → ℕ → ℕ → ℕ
+walked g depth i l fuel word = wordDoes (callWordsWithin (programAt g) fuel) (statementAt g depth i) l word
 
 -- what a call of procedure f makes of a word
-abbrev pub called : ℕ → List ℕ → List ℕ → ℕ → List ℕ → ℕ → ℕ → ℕ
-called p bs ix f l fuel word = callWords (callWordsWithin (programAt p bs ix) fuel) f l word
+abbrev pub called : List ℕ → ℕ → List ℕ → ℕ → ℕ → ℕ
+called g f l fuel word = callWords (callWordsWithin (programAt g) fuel) f l word

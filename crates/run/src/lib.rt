@@ -3,15 +3,15 @@ ghost use mathlib.Core.Bool.{cond};
 ghost use mathlib.Core.Path.{_≡_};
 ghost use Prim.Native.Nat.{min};
 ghost use Rattle.model.specs.Limits.{mostQubits};
-ghost use Rattle.table.specs.Index.{programAt};
-ghost use Rattle.step.specs.Steps.{qubitsOf};
+ghost use Rattle.decoded.specs.DecodedTable.{programAt};
+ghost use Rattle.sets.specs.Sets.{membersOf};
 ghost use Rattle.run.specs.RunOnWords.{flippedWord, bitOf, walked, called, ranWord};
 ghost use Rattle.answers.specs.Structs.{answerOf};
 ghost use Rattle.model.specs.Answers as model;
 use answers::Answer;
-use limits::{HIGH_BIT, INDEX_LENGTH, LEAST_WORKSPACE, MOST_DEPTH, MOST_N, MOST_QUBITS, SHORT_WORKSPACE, WRONG_QUBITS};
-use reach::root;
-use step::{all, chosen, remaining, size, step_at, Qubits, Step};
+use limits::{HIGH_BIT, LEAST_WORKSPACE, MOST_DEPTH, MOST_N, MOST_QUBITS, PROGRAM_LENGTH, SHORT_WORKSPACE, WRONG_QUBITS};
+use sets::{QubitSet, size};
+use step::{Step, all, chosen, procedures, remaining, root, step_at};
 use verdict::check_table;
 use wires::fits;
 
@@ -42,7 +42,7 @@ fn bit(word: u64, q: u8) -> bool
 }
 
 // A qcase goes on as one of its two statements: as `one` where the bit of its qubit is 1, otherwise as `zero`.
-fn taken(word: u64, q: u8, zero: usize, one: usize) -> usize
+fn taken(word: u64, q: u8, zero: u32, one: u32) -> u32
     ensures { λ r. ⌜ r ≡ cond (bitOf q word) one zero ⌝ }
 {
     if bit(word, q) { one } else { zero }
@@ -50,24 +50,24 @@ fn taken(word: u64, q: u8, zero: usize, one: usize) -> usize
 
 // What the statement at record i makes of a word, on the whole list of its procedure. It is followed `depth` records down, and its calls
 // `fuel` deep. An if, a qcase and the second statement of a sequence go on in place.
-fn walk(table: &[u8], index: &[u16], p: u8, i: usize, depth: u8, list: Qubits, fuel: u16, word: u64) -> u64
-    ensures { λ r. ⌜ r ≡ walked p (now (table .entry)) (now (index .entry)) depth i (qubitsOf list) fuel word ⌝ }
+fn walk(program: &[u32; PROGRAM_LENGTH], i: u32, depth: u8, list: QubitSet, fuel: u16, word: u64) -> u64
+    ensures { λ r. ⌜ r ≡ walked (now (program .entry)) depth i (membersOf list) fuel word ⌝ }
 {
     let mut at = i;
     let mut left = depth;
     let mut current = word;
     while 0 < left {
-        let step = step_at(table, index, p, at, list);
+        let step = step_at(program, at, list);
         left -= 1;
         match step {
             Step::Touches(q) => return flip(current, q),
             Step::Sequence(first, second) => {
-                current = walk(table, index, p, first, left, list, fuel, current);
+                current = walk(program, first, left, list, fuel, current);
                 at = second;
             }
-            Step::Chooses(condition, yes, no) => at = chosen(table, index, p, condition, yes, no, list, left),
+            Step::Chooses(condition, yes, no) => at = chosen(program, condition, yes, no, list, left),
             Step::Branches(q, zero, one) => at = taken(current, q, zero, one),
-            Step::Calls(f, removals) => return call(table, index, p, f, remaining(table, removals, list), fuel, current),
+            Step::Calls(f, record) => return call(program, f, remaining(program, record, list), fuel, current),
             Step::Nothing => return current,
             Step::Holds(_) => return current,
             Step::Both(_, _) => return current,
@@ -80,36 +80,35 @@ fn walk(table: &[u8], index: &[u16], p: u8, i: usize, depth: u8, list: Qubits, f
 
 // What a call of procedure f makes of a word: its body goes on with the list that the removals left, and with all its depth. No table that was
 // read calls a procedure past p.
-fn call(table: &[u8], index: &[u16], p: u8, f: u8, list: Qubits, fuel: u16, word: u64) -> u64
-    ensures { λ r. ⌜ r ≡ called p (now (table .entry)) (now (index .entry)) f (qubitsOf list) fuel word ⌝ }
+fn call(program: &[u32; PROGRAM_LENGTH], f: u8, list: QubitSet, fuel: u16, word: u64) -> u64
+    ensures { λ r. ⌜ r ≡ called (now (program .entry)) f (membersOf list) fuel word ⌝ }
 {
-    if size(list) == 0 {
+    if list == 0 {
         return word;
     }
     if fuel == 0 {
         return word;
     }
-    if f > p {
+    if f > procedures(program) {
         return word;
     }
-    walk(table, index, p, root(index, f), MOST_DEPTH, list, fuel - 1, word)
+    walk(program, root(program, f), MOST_DEPTH, list, fuel - 1, word)
 }
 
 // What main makes of a word on n qubits; past the limit there are no more.
-fn end_word(table: &[u8], index: &[u16; INDEX_LENGTH], p: u8, n: u8, word: u64) -> u64
-    ensures { λ r. ⌜ r ≡ ranWord (programAt p (now (table .entry)) (now (index .entry))) (min n mostQubits) word ⌝ }
+fn end_word(program: &[u32; PROGRAM_LENGTH], n: u8, word: u64) -> u64
+    ensures { λ r. ⌜ r ≡ ranWord (programAt (now (program .entry))) (min n mostQubits) word ⌝ }
 {
     let list = all(n);
-    walk(table, &index[..], p, root(&index[..], 0), MOST_DEPTH, list, p as u16 + size(list) as u16, word)
+    walk(program, root(program, 0), MOST_DEPTH, list, procedures(program) as u16 + size(list) as u16, word)
 }
 
 // The run: "9; header 1 .., 2, 3; each record ..; 8; 10 over the whole table, then 11, then 12; 13; 21", then the end word; for a workspace of that length.
 pub fn run(table: &[u8], n: u32, word: u64, space: usize) -> Answer
     ensures { λ r. ⌜ r ≡ answerOf (model.run (now (table .entry)) n word space) ⌝ }
 {
-    let mut index = [0u16; INDEX_LENGTH];
-    let checked = check_table(table, n, &mut index);
-    let number = checked.number as u32;
+    let mut program = [0u32; PROGRAM_LENGTH];
+    let number = check_table(table, n, &mut program) as u32;
     if number != 0 {
         return Answer { number, value: 0 };
     }
@@ -124,6 +123,6 @@ pub fn run(table: &[u8], n: u32, word: u64, space: usize) -> Answer
     if space < LEAST_WORKSPACE {
         return Answer { number: SHORT_WORKSPACE as u32, value: 0 };
     }
-    let value = end_word(table, &index, checked.procedures, qubits, word);
+    let value = end_word(&program, qubits, word);
     Answer { number: 0, value }
 }

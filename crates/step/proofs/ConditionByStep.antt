@@ -7,13 +7,12 @@ use borrow.Author.Needs.{needs}
 use Rattle.model.specs.Lists.{holds}
 use Rattle.records.specs.declared.Record.{Record}
 use Rattle.records.specs.declared.Record.the-variants as kind
-use Rattle.records.specs.Fields.{recordAt}
-use Rattle.table.specs.Index.{startOf, testOf, testAt}
+use Rattle.decoded.specs.RecordWords.{rowAt}
+use Rattle.decoded.specs.DecodedTable.{recordIn, testOf, testAt}
 use Rattle.step.specs.declared.Step.{Step}
 use Rattle.step.specs.declared.Step.the-variants as step
 use Rattle.step.specs.Steps.{stepOf, stepAt}
 use native.Mathlib.Numerals.{sub-one}
-use Rattle.step.proofs.RecordsPastTheEnd.{test-next, end-next}
 
 -- whether a condition holds, by its step, where `part` says it of the parts. A statement's step holds, as `noTest` does.
 abbrev pub holdsBy : (ℕ → Bool) → Step → Bool
@@ -28,11 +27,11 @@ holdsBy part (step.Both i j) = part i && part j
 holdsBy part (step.Either i j) = part i || part j
 holdsBy part (step.Negates i) = not (part i)
 
-module _ (p : ℕ) (bs ix : List ℕ) (d i : ℕ) (l : List ℕ) where
+module _ (g : List ℕ) (d i : ℕ) (l : List ℕ) where
   part : ℕ → Bool
-  part j = holds (testAt p bs ix d j) l
+  part j = holds (testAt g d j) l
 
-  test-of-step : (r : Record) → holds (testOf (testAt p bs ix d) ix i r) l ≡ holdsBy part (stepOf bs ix i l r)
+  test-of-step : (r : Record) → holds (testOf (testAt g d) g i r) l ≡ holdsBy part (stepOf g i l r)
   unfolding testOf stepOf holds part
   test-of-step kind.Skip = refl
   test-of-step (kind.Not at a) = refl
@@ -43,75 +42,75 @@ module _ (p : ℕ) (bs ix : List ℕ) (d i : ℕ) (l : List ℕ) where
   test-of-step (kind.Greater a b) = refl
   test-of-step (kind.AtLeast a b) = refl
   test-of-step (kind.Equal a b) = refl
-  test-of-step kind.And = rw (test-next p bs ix d i, end-next ix i)
-  test-of-step kind.Or = rw (test-next p bs ix d i, end-next ix i)
-  test-of-step kind.Negation = rw (test-next p bs ix d i)
+  test-of-step kind.And = refl
+  test-of-step kind.Or = refl
+  test-of-step kind.Negation = refl
 
   -- the condition at record i, by the record's step
-  pub test-step : holds (testAt p bs ix (suc d) i) l ≡ holdsBy (λ j. holds (testAt p bs ix d j) l) (stepAt p bs ix i l)
+  pub test-step : holds (testAt g (suc d) i) l ≡ holdsBy (λ j. holds (testAt g d j) l) (stepAt g i l)
   unfolding testAt part
-  test-step = test-of-step (recordAt p bs (startOf ix i))
+  test-step = test-of-step (recordIn g (rowAt i))
 
 -- the ways out of `holds`: too deep counts as no test, which holds
-pub held-none : (p : ℕ) (bs ix : List ℕ) (depth i : ℕ) (l : List ℕ) → depth ≡ 0 → true ≡ holds (testAt p bs ix depth i) l
+pub held-none : (g : List ℕ) (depth i : ℕ) (l : List ℕ) → depth ≡ 0 → true ≡ holds (testAt g depth i) l
 unfolding testAt holds
-held-none p bs ix depth i l e = rw e
+held-none g depth i l e = rw e
 
-module _ (p : ℕ) (bs ix : List ℕ) (depth i : ℕ) (l : List ℕ) (st : Step)
-    (deep : depth ≡ 0 → ⊥) (steps : st ≡ stepAt p bs ix i l) where
-  by-step : holds (testAt p bs ix depth i) l ≡ holdsBy (λ j. holds (testAt p bs ix (depth - 1) j) l) st
+module _ (g : List ℕ) (depth i : ℕ) (l : List ℕ) (st : Step)
+    (deep : depth ≡ 0 → ⊥) (steps : st ≡ stepAt g i l) where
+  by-step : holds (testAt g depth i) l ≡ holdsBy (λ j. holds (testAt g (depth - 1) j) l) st
   by-step = rw steps (deeper depth deep)
     where
       deeper : (depth : ℕ) → (depth ≡ 0 → ⊥)
-        → holds (testAt p bs ix depth i) l ≡ holdsBy (λ j. holds (testAt p bs ix (depth - 1) j) l) (stepAt p bs ix i l)
+        → holds (testAt g depth i) l ≡ holdsBy (λ j. holds (testAt g (depth - 1) j) l) (stepAt g i l)
       deeper zero h = absurd (h refl)
-      deeper (suc d) h = rw (sub-one) (test-step p bs ix d i l)
+      deeper (suc d) h = rw (sub-one) (test-step g d i l)
 
   -- a comparison was decided by its step
-  pub held-comparison : (b : Bool) → st ≡ step.Holds b → b ≡ holds (testAt p bs ix depth i) l
+  pub held-comparison : (b : Bool) → st ≡ step.Holds b → b ≡ holds (testAt g depth i) l
   held-comparison b e = rw (by-step, e)
 
   -- not: the other way round than its part
-  pub held-not : (first : ℕ) (b : Bool) → st ≡ step.Negates first → b ≡ holds (testAt p bs ix (depth - 1) first) l
-    → not b ≡ holds (testAt p bs ix depth i) l
+  pub held-not : (first : ℕ) (b : Bool) → st ≡ step.Negates first → b ≡ holds (testAt g (depth - 1) first) l
+    → not b ≡ holds (testAt g depth i) l
   held-not first b e h = rw (by-step, e, ← h)
 
-  module _ (first second : ℕ) (a : Bool) (left : a ≡ holds (testAt p bs ix (depth - 1) first) l) where
+  module _ (first second : ℕ) (a : Bool) (left : a ≡ holds (testAt g (depth - 1) first) l) where
     -- and: where the first part fails, it fails
-    pub held-and-no : st ≡ step.Both first second → a ≡ false → a ≡ holds (testAt p bs ix depth i) l
+    pub held-and-no : st ≡ step.Both first second → a ≡ false → a ≡ holds (testAt g depth i) l
     held-and-no e t = rw (by-step, e, ← left, t)
 
     -- else the second decides
-    pub held-and : st ≡ step.Both first second → a ≡ true → (b : Bool) → b ≡ holds (testAt p bs ix (depth - 1) second) l
-      → b ≡ holds (testAt p bs ix depth i) l
+    pub held-and : st ≡ step.Both first second → a ≡ true → (b : Bool) → b ≡ holds (testAt g (depth - 1) second) l
+      → b ≡ holds (testAt g depth i) l
     held-and e t b h = rw (by-step, e, ← left, t) h
 
     -- or: where the first part holds, it holds
-    pub held-or-yes : st ≡ step.Either first second → a ≡ true → a ≡ holds (testAt p bs ix depth i) l
+    pub held-or-yes : st ≡ step.Either first second → a ≡ true → a ≡ holds (testAt g depth i) l
     held-or-yes e t = rw (by-step, e, ← left, t)
 
     -- else the second decides
-    pub held-or : st ≡ step.Either first second → a ≡ false → (b : Bool) → b ≡ holds (testAt p bs ix (depth - 1) second) l
-      → b ≡ holds (testAt p bs ix depth i) l
+    pub held-or : st ≡ step.Either first second → a ≡ false → (b : Bool) → b ≡ holds (testAt g (depth - 1) second) l
+      → b ≡ holds (testAt g depth i) l
     held-or e t b h = rw (by-step, e, ← left, t) h
 
   -- a statement where a condition is asked for is no test, which holds: skip, NOT, sequence, if, qcase, call
-  pub held-nothing : st ≡ step.Nothing → true ≡ holds (testAt p bs ix depth i) l
+  pub held-nothing : st ≡ step.Nothing → true ≡ holds (testAt g depth i) l
   held-nothing e = rw (by-step, e)
 
-  pub held-touches : (q : ℕ) → st ≡ step.Touches q → true ≡ holds (testAt p bs ix depth i) l
+  pub held-touches : (q : ℕ) → st ≡ step.Touches q → true ≡ holds (testAt g depth i) l
   held-touches q e = rw (by-step, e)
 
-  pub held-sequence : (a b : ℕ) → st ≡ step.Sequence a b → true ≡ holds (testAt p bs ix depth i) l
+  pub held-sequence : (a b : ℕ) → st ≡ step.Sequence a b → true ≡ holds (testAt g depth i) l
   held-sequence a b e = rw (by-step, e)
 
-  pub held-chooses : (a b c : ℕ) → st ≡ step.Chooses a b c → true ≡ holds (testAt p bs ix depth i) l
+  pub held-chooses : (a b c : ℕ) → st ≡ step.Chooses a b c → true ≡ holds (testAt g depth i) l
   held-chooses a b c e = rw (by-step, e)
 
-  pub held-branches : (q a b : ℕ) → st ≡ step.Branches q a b → true ≡ holds (testAt p bs ix depth i) l
+  pub held-branches : (q a b : ℕ) → st ≡ step.Branches q a b → true ≡ holds (testAt g depth i) l
   held-branches q a b e = rw (by-step, e)
 
-  pub held-calls : (f at : ℕ) → st ≡ step.Calls f at → true ≡ holds (testAt p bs ix depth i) l
+  pub held-calls : (f at : ℕ) → st ≡ step.Calls f at → true ≡ holds (testAt g depth i) l
   held-calls f at e = rw (by-step, e)
 
 pub ruleset testing = (

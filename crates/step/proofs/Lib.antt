@@ -1,10 +1,7 @@
 pub mod NumberValues
-pub mod ListsInAnArray
-pub mod PlacesPastTheEnd
 pub mod ConstantRange
 pub mod Removals
 pub mod StepOfARecord
-pub mod RecordsPastTheEnd
 pub mod ConditionByStep
 pub mod StatementByStep
 pub mod StatementAtARecord

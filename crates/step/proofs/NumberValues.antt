@@ -1,21 +1,23 @@
--- Values of numbers: a sum with a size stays in i32, and a position is compared at zero and at the size before it is an index.
-use Prim.Native.Nat.{ℕ, suc, _-_, _≤_, _<_, zero-le}
+-- Values of numbers: a sum with a size stays in i32.
+use Prim.Native.Nat.{ℕ, suc, _-_, _≤_, _<_}
 use native.Mathlib.Omega.{arith}
 use mathlib.Core.Path.{_≡_, sym, _∙_}
-use mathlib.Core.Bool.{true, false, _&&_, false≢true}
-use borrow.Author.Tests.{ltb-true, ltb-false, lt-ltb, le-ltb, le-leb, lt-leb, eq-eqb, ne-eqb}
-use lib.Dec.{T, leb, eqb}
-use lib.IntN.{ℤ, pos, negsuc, natAbs, _+ℤ_}
-use lib.Signed.{ltZ, leZ, mag, nonNeg}
-use mir.Syntax.{w32, w64}
-use mir.Val.{Fits, SFits, toZ, ofZ}
-use mir.Facts.{toZ-ofZ, toZ-pos, fits-natAbs}
+use mathlib.Core.Bool.{true, false, _&&_}
+use borrow.Author.Tests.{ltb-false, lt-ltb, le-ltb, le-leb, lt-leb, eq-eqb, ne-eqb}
+use lib.Dec.{leb, eqb}
+use lib.IntN.{ℤ, pos, negsuc, _+ℤ_}
+use lib.ListN.{length}
+use lib.Signed.{ltZ, leZ, mag}
+use mir.Syntax.{w32}
+use mir.Val.{SFits, toZ, ofZ}
+use mir.Facts.{toZ-ofZ, toZ-pos}
 use Rattle.limits.specs.Sizes.{mostConstant}
 use Rattle.model.proofs.BooleanLaws.{byEq, byLt, eqb-same}
 use Rattle.records.specs.declared.Number.{Number}
 use Rattle.records.specs.declared.Number.the-variants.{Constant, SizePlus, LeftPlus}
-use Rattle.step.specs.declared.Sizes.{Sizes}
-use Rattle.step.specs.Steps.{sumOf, valueOf, within}
+use Rattle.sets.specs.Sets.{membersOf}
+use Rattle.step.specs.declared.Lists.{Lists}
+use Rattle.step.specs.Steps.{sumOf, valueOf}
 
 -- a byte, read as signed, is itself
 pub byte-signed : (n : ℕ) → n < 256 → toZ w32 n ≡ pos n
@@ -48,57 +50,18 @@ module _ (z : ℤ) (n : ℕ) (f : SFits w32 z) (h : n < 256) where
   sum-guarded t = let s : ltZ (pos mostConstant) z ≡ true = rw (toZ-ofZ f) at t in rw s
 
 -- the ways out of `value`, one for each base
-module _ (a : Number) (z : ℤ) (s : Sizes) (f : SFits w32 z) where
+module _ (a : Number) (z : ℤ) (s : Lists) (f : SFits w32 z) where
   pub value-constant : a ≡ Constant z → toZ w32 (ofZ w32 z) ≡ valueOf a s
   unfolding valueOf
   value-constant e = rw e (toZ-ofZ f)
 
-  pub value-size : a ≡ SizePlus z → (k : ℤ) → k ≡ sumOf (toZ w32 (ofZ w32 z)) (s .whole) → k ≡ valueOf a s
+  pub value-size : a ≡ SizePlus z → (n : ℕ) (k : ℤ) → n ≡ length (membersOf (s .whole)) → k ≡ sumOf (toZ w32 (ofZ w32 z)) n → k ≡ valueOf a s
   unfolding valueOf
-  value-size e k h = h ∙ rw (toZ-ofZ f, e)
+  value-size e n k size h = h ∙ rw (toZ-ofZ f, e, size)
 
-  pub value-left : a ≡ LeftPlus z → (k : ℤ) → k ≡ sumOf (toZ w32 (ofZ w32 z)) (s .left) → k ≡ valueOf a s
+  pub value-left : a ≡ LeftPlus z → (n : ℕ) (k : ℤ) → n ≡ length (membersOf (s .left)) → k ≡ sumOf (toZ w32 (ofZ w32 z)) n → k ≡ valueOf a s
   unfolding valueOf
-  value-left e k h = h ∙ rw (toZ-ofZ f, e)
-
--- a position that is tested at zero and at the size
-within-low : (n : ℕ) (k : ℤ) → ltZ k (pos 1) ≡ true → 0 ≡ within n k
-unfolding within
-within-low n (pos a) t = let b : a < 1 = ltb-true a 1 t in rw (le-ltb n a (omega arith)) (omega arith)
-within-low n (negsuc a) t = rw (le-ltb n 0 zero-le)
-
-within-high : (n : ℕ) (k : ℤ) → ltZ (pos n) k ≡ true → 0 ≡ within n k
-unfolding within
-within-high n (pos a) t = rw t
-within-high n (negsuc a) t = absurd (false≢true t)
-
-within-in : (n : ℕ) (k : ℤ) → ltZ k (pos 1) ≡ false → ltZ (pos n) k ≡ false → natAbs k ≡ within n k
-unfolding within
-within-in n (pos a) s t = rw t
-within-in n (negsuc a) s t = absurd (false≢true (sym s))
-
-not-negative : (k : ℤ) → ltZ k (pos 1) ≡ false → T (nonNeg k)
-not-negative (pos a) t = tt
-not-negative (negsuc a) t = absurd (false≢true (sym t))
-
-module _ (n : ℕ) (k : ℤ) (h : n < 256) (f : SFits w32 k) where
-  -- at or below zero
-  pub position-low : ltZ (toZ w32 (ofZ w32 k)) (pos 1) ≡ true → 0 ≡ within n k
-  position-low t = within-low n k (rw (toZ-ofZ f) at t)
-
-  -- past the end
-  pub position-high : ltZ (toZ w32 n) (toZ w32 (ofZ w32 k)) ≡ true → 0 ≡ within n k
-  position-high t = within-high n k (rw (byte-signed n h, toZ-ofZ f) at t)
-
-  -- inside
-  pub position-in : ltZ (toZ w32 (ofZ w32 k)) (pos 1) ≡ false → ltZ (toZ w32 n) (toZ w32 (ofZ w32 k)) ≡ false
-    → natAbs (toZ w32 (ofZ w32 k)) ≡ within n k
-  position-in s t = rw (toZ-ofZ f) (within-in n k (rw (toZ-ofZ f) at s) (rw (byte-signed n h, toZ-ofZ f) at t))
-
--- past the test at zero a position is an unsigned number
-pub position-unsigned : (k : ℤ) → SFits w32 k → ltZ (toZ w32 (ofZ w32 k)) (pos 1) ≡ false
-    → T (nonNeg (toZ w32 (ofZ w32 k))) × Fits w64 (natAbs (toZ w32 (ofZ w32 k)))
-position-unsigned k f t = rw (toZ-ofZ f) (not-negative k (rw (toZ-ofZ f) at t), fits-natAbs {w = w32} {w′ = w64} tt f)
+  value-left e n k size h = h ∙ rw (toZ-ofZ f, e, size)
 
 -- equal is at most, both ways
 both-ways : (a b : ℕ) → eqb a b ≡ leb a b && leb b a

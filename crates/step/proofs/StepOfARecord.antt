@@ -1,111 +1,116 @@
 -- The step of a record, one law for each of the kinds 0 to 11.
-use Prim.Native.Nat.{ℕ}
-use mathlib.Core.Path.{_≡_, sym, ap, _∙_, subst}
+use Prim.Native.Nat.{ℕ, _+_, _%_, _≤_}
+use native.Mathlib.Omega.{arith}
+use mathlib.Core.Path.{_≡_, refl, sym, ap, _∙_}
 use mathlib.Core.List.{List}
 use borrow.Author.Needs.{needs}
-use lib.ListN.{length}
+use lib.ListN.{length, List·getD-eq-default}
 use lib.Dec.{eqb}
 use lib.IntN.{ℤ}
 use lib.Signed.{ltZ, leZ}
 use mir.Syntax.{w32}
 use mir.Val.{SFits, toZ, ofZ}
-use Rattle.records.specs.declared.Number.{Number}
-use Rattle.records.specs.declared.Record.{Record}
-use Rattle.records.specs.declared.Record.the-variants as kind
-use Rattle.records.specs.Fields.{recordAt}
-use Rattle.table.specs.Index.{startOf, endOf}
+use Rattle.limits.specs.Sizes.{kindCount, numberField, procedureField, removalsField}
+use Rattle.model.specs.Lists.{comparedValue}
+use Rattle.model.specs.Reading.{requiredMap}
+use Rattle.records.specs.Fields.{numberOf, plainRecord, touchRecord, comparisonRecord}
+use Rattle.records.proofs.FieldLaws.{plain-last, required-none}
+use Rattle.records.proofs.ReadingAtAPlace.{by-kinds}
+use Rattle.model.proofs.BooleanLaws.{byLt}
+use Rattle.decoded.specs.RecordWords.{rowAt, wordNumber}
+use Rattle.decoded.specs.DecodedTable.{wordIn, endOf, recordIn}
 use Rattle.step.specs.declared.Step.the-variants as step
-use Rattle.step.specs.Steps.{valueOf, modelValue, touchedBy, firstChild, stepOf, stepAt}
+use Rattle.step.specs.Steps.{touchedBy, stepOf, stepAt}
 use Rattle.step.proofs.NumberValues.{less-signed, at-most-signed, equal-signed}
-use Rattle.step.proofs.ConstantRange.{Fair, RecordFair, record-fair}
 
-module _ (p : ℕ) (bs ix : List ℕ) (i : ℕ) (l : List ℕ) (s : ℕ) (found : Record)
-    (starts : s ≡ startOf ix i) (reads : found ≡ recordAt p bs s) where
-  -- the step is that of the record found
-  decided : stepOf bs ix i l found ≡ stepAt p bs ix i l
-  decided = rw (reads, starts)
+-- past the last record there is none
+pub step-past : (g : List ℕ) (i : ℕ) (l : List ℕ) (at : ℕ) → at ≡ rowAt i → length g ≤ at → step.Nothing ≡ stepAt g i l
+unfolding stepOf recordIn plainRecord touchRecord comparisonRecord
+step-past g i l at e h =
+    let past : length g ≤ rowAt i = rw e at h in
+    rw (List·getD-eq-default g 0 {n = rowAt i} past)
 
-  -- whose comparisons compare numbers of 16 bits
-  found-fair : RecordFair found
-  found-fair = subst RecordFair (sym reads) (record-fair p bs s)
+module _ (g : List ℕ) (i : ℕ) (l : List ℕ) (at : ℕ) (e : at ≡ rowAt i) where
+  -- the kind of the record
+  is-kind : (j : ℕ) → wordIn g at ≡ j → wordIn g (rowAt i) ≡ j
+  is-kind j k = rw (← e) k
 
   -- kind 0
-  pub step-skip : found ≡ kind.Skip → step.Nothing ≡ stepAt p bs ix i l
-  unfolding stepOf
-  step-skip e = rw (← decided, e)
+  pub step-skip : wordIn g at ≡ 0 → step.Nothing ≡ stepAt g i l
+  unfolding stepOf recordIn plainRecord touchRecord comparisonRecord
+  step-skip k = rw (is-kind 0 k)
 
   -- kind 1
-  pub step-not : (at : ℕ) (a : Number) (q : ℕ) → found ≡ kind.Not at a → q ≡ touchedBy bs at a l → step.Touches q ≡ stepAt p bs ix i l
-  unfolding stepOf
-  step-not at a q e t = rw (← decided, e, t)
+  pub step-not : wordIn g at ≡ 1 → (q : ℕ) → q ≡ touchedBy g at l → step.Touches q ≡ stepAt g i l
+  unfolding stepOf recordIn plainRecord touchRecord comparisonRecord
+  step-not k q t = rw (is-kind 1 k, t, e)
 
   -- kind 5
-  pub step-call : (at f : ℕ) → found ≡ kind.Call at f → step.Calls f at ≡ stepAt p bs ix i l
-  unfolding stepOf
-  step-call at f e = rw (← decided, e)
+  pub step-call : wordIn g at ≡ 5 → (f : ℕ) → f ≡ wordIn g (at + procedureField) → step.Calls (f % 256) at ≡ stepAt g i l
+  unfolding stepOf recordIn plainRecord touchRecord comparisonRecord
+  step-call k f p = rw (is-kind 5 k, p, e)
 
-  module _ (n : ℕ) (a b : Number) (x y : ℤ) (size : n ≡ length l) (f : SFits w32 x) (g : SFits w32 y)
-      (left : x ≡ valueOf a (record { whole = n; left = n })) (right : y ≡ valueOf b (record { whole = n; left = n })) where
-    left-value : Fair a → x ≡ modelValue a l
-    left-value h = left ∙ h (record { whole = n; left = n }) ∙ rw size
-
-    right-value : Fair b → y ≡ modelValue b l
-    right-value h = right ∙ h (record { whole = n; left = n }) ∙ rw size
-
+  module _ (x y : ℤ) (f : SFits w32 x) (h : SFits w32 y) (left : x ≡ comparedValue (numberOf (wordNumber (wordIn g (at + numberField)))) l)
+      (right : y ≡ comparedValue (numberOf (wordNumber (wordIn g (at + removalsField)))) l) where
     -- kind 6
-    pub step-greater : found ≡ kind.Greater a b → step.Holds (ltZ (toZ w32 (ofZ w32 y)) (toZ w32 (ofZ w32 x))) ≡ stepAt p bs ix i l
-    unfolding stepOf
-    step-greater e =
-        let h : Fair a × Fair b = subst RecordFair e found-fair in
-        rw (← decided, e, ← left-value (h .0), ← right-value (h .1)) (ap step.Holds (less-signed y x g f))
+    pub step-greater : wordIn g at ≡ 6 → step.Holds (ltZ (toZ w32 (ofZ w32 y)) (toZ w32 (ofZ w32 x))) ≡ stepAt g i l
+    unfolding stepOf recordIn plainRecord touchRecord comparisonRecord
+    step-greater k = ap step.Holds (less-signed y x h f) ∙ rw (is-kind 6 k, left, right, e)
 
     -- kind 7
-    pub step-at-least : found ≡ kind.AtLeast a b → step.Holds (leZ (toZ w32 (ofZ w32 y)) (toZ w32 (ofZ w32 x))) ≡ stepAt p bs ix i l
-    unfolding stepOf
-    step-at-least e =
-        let h : Fair a × Fair b = subst RecordFair e found-fair in
-        rw (← decided, e, ← left-value (h .0), ← right-value (h .1)) (ap step.Holds (at-most-signed y x g f))
+    pub step-at-least : wordIn g at ≡ 7 → step.Holds (leZ (toZ w32 (ofZ w32 y)) (toZ w32 (ofZ w32 x))) ≡ stepAt g i l
+    unfolding stepOf recordIn plainRecord touchRecord comparisonRecord
+    step-at-least k = ap step.Holds (at-most-signed y x h f) ∙ rw (is-kind 7 k, left, right, e)
 
     -- kind 8
-    pub step-equal : found ≡ kind.Equal a b → step.Holds (eqb (ofZ w32 x) (ofZ w32 y)) ≡ stepAt p bs ix i l
-    unfolding stepOf
-    step-equal e =
-        let h : Fair a × Fair b = subst RecordFair e found-fair in
-        rw (← decided, e, ← left-value (h .0), ← right-value (h .1)) (ap step.Holds (equal-signed x y f g))
+    pub step-equal : wordIn g at ≡ 8 → step.Holds (eqb (ofZ w32 x) (ofZ w32 y)) ≡ stepAt g i l
+    unfolding stepOf recordIn plainRecord touchRecord comparisonRecord
+    step-equal k = ap step.Holds (equal-signed x y f h) ∙ rw (is-kind 8 k, left, right, e)
 
-  module _ (first : ℕ) (next : first ≡ firstChild ix i) where
-    -- kind 11
-    pub step-negation : found ≡ kind.Negation → step.Negates first ≡ stepAt p bs ix i l
-    unfolding stepOf
-    step-negation e = rw (← decided, e, next)
+  -- kind 11
+  pub step-negation : wordIn g at ≡ 11 → step.Negates (i + 1) ≡ stepAt g i l
+  unfolding stepOf recordIn plainRecord touchRecord comparisonRecord
+  step-negation k = rw (is-kind 11 k)
 
-    module _ (second : ℕ) (subtree-end : second ≡ endOf ix first) where
-      -- kind 2
-      pub step-sequence : found ≡ kind.Sequence → step.Sequence first second ≡ stepAt p bs ix i l
-      unfolding stepOf
-      step-sequence e = rw (← decided, e, subtree-end, next)
+  -- no other kind stands in a program that was read; one would be skipped
+  pub step-none : (wordIn g at ≡ 0 → ⊥) → (wordIn g at ≡ 1 → ⊥) → (wordIn g at ≡ 2 → ⊥) → (wordIn g at ≡ 3 → ⊥) → (wordIn g at ≡ 4 → ⊥) →
+      (wordIn g at ≡ 5 → ⊥) → (wordIn g at ≡ 6 → ⊥) → (wordIn g at ≡ 7 → ⊥) → (wordIn g at ≡ 8 → ⊥) → (wordIn g at ≡ 9 → ⊥) →
+      (wordIn g at ≡ 10 → ⊥) → (wordIn g at ≡ 11 → ⊥) → step.Nothing ≡ stepAt g i l
+  unfolding stepOf recordIn
+  step-none f0 f1 f2 f3 f4 f5 f6 f7 f8 f9 f10 f11 =
+      let k = wordIn g at in
+      byLt k kindCount
+      (λ few. absurd (by-kinds (λ (j : ℕ). wordIn g at ≡ j → ⊥) f0 f1 f2 f3 f4 f5 f6 f7 f8 f9 f10 f11 k few refl))
+      (λ past.
+      let none : requiredMap k ≡ 0 = sym (required-none k k refl past) in
+      rw (← e, none) (ap (stepOf g i l) (plain-last k f2 f3 f9 f10 f11)))
 
-      -- kind 3
-      pub step-if : (third : ℕ) → third ≡ endOf ix second → found ≡ kind.If → step.Chooses first second third ≡ stepAt p bs ix i l
-      unfolding stepOf
-      step-if third t e = rw (← decided, e, t, subtree-end, next)
+  module _ (second : ℕ) (subtree-end : second ≡ endOf g (i + 1)) where
+    -- kind 2
+    pub step-sequence : wordIn g at ≡ 2 → step.Sequence (i + 1) second ≡ stepAt g i l
+    unfolding stepOf recordIn plainRecord touchRecord comparisonRecord
+    step-sequence k = rw (is-kind 2 k, subtree-end)
 
-      -- kind 4
-      pub step-qcase : (at : ℕ) (a : Number) (q : ℕ) → found ≡ kind.Qcase at a → q ≡ touchedBy bs at a l
-        → step.Branches q first second ≡ stepAt p bs ix i l
-      unfolding stepOf
-      step-qcase at a q e t = rw (← decided, e, t, subtree-end, next)
+    -- kind 3
+    pub step-if : wordIn g at ≡ 3 → (third : ℕ) → third ≡ endOf g second → step.Chooses (i + 1) second third ≡ stepAt g i l
+    unfolding stepOf recordIn plainRecord touchRecord comparisonRecord
+    step-if k third t = rw (is-kind 3 k, t, subtree-end)
 
-      -- kind 9
-      pub step-and : found ≡ kind.And → step.Both first second ≡ stepAt p bs ix i l
-      unfolding stepOf
-      step-and e = rw (← decided, e, subtree-end, next)
+    -- kind 4
+    pub step-qcase : wordIn g at ≡ 4 → (q : ℕ) → q ≡ touchedBy g at l → step.Branches q (i + 1) second ≡ stepAt g i l
+    unfolding stepOf recordIn plainRecord touchRecord comparisonRecord
+    step-qcase k q t = rw (is-kind 4 k, t, subtree-end, e)
 
-      -- kind 10
-      pub step-or : found ≡ kind.Or → step.Either first second ≡ stepAt p bs ix i l
-      unfolding stepOf
-      step-or e = rw (← decided, e, subtree-end, next)
+    -- kind 9
+    pub step-and : wordIn g at ≡ 9 → step.Both (i + 1) second ≡ stepAt g i l
+    unfolding stepOf recordIn plainRecord touchRecord comparisonRecord
+    step-and k = rw (is-kind 9 k, subtree-end)
+
+    -- kind 10
+    pub step-or : wordIn g at ≡ 10 → step.Either (i + 1) second ≡ stepAt g i l
+    unfolding stepOf recordIn plainRecord touchRecord comparisonRecord
+    step-or k = rw (is-kind 10 k, subtree-end)
 
 pub ruleset deciding = (
-    needs, step-skip, step-not, step-sequence, step-if, step-qcase, step-call,
-    step-greater, step-at-least, step-equal, step-and, step-or, step-negation)
+    needs, step-past, step-skip, step-not, step-sequence, step-if, step-qcase, step-call,
+    step-greater, step-at-least, step-equal, step-and, step-or, step-negation, step-none)

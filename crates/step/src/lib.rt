@@ -1,31 +1,27 @@
-// Lists of qubits, and the one step that check, run and emission take from a record.
+// The one step that check, run and emission take from a record, on a list of qubits, which is a set.
 ghost use mathlib.Core.Bool.{cond};
 ghost use mathlib.Core.Path.{_≡_};
-ghost use Prim.Native.Nat.{_≤_, min};
-ghost use lib.ListN.{length, take};
+ghost use Prim.Native.Nat.{min};
+ghost use lib.ListN.{length};
 ghost use Rattle.model.specs.Limits.{mostQubits};
-ghost use Rattle.model.specs.Lists.{qubits, entry, remove, remaining, position, holds};
-ghost use Rattle.records.specs.Fields.{removalsOf};
-ghost use Rattle.table.specs.Index.{startOf, endOf, testAt};
-ghost use Rattle.step.specs.Steps.{qubitsOf, sumOf, valueOf, within, touchedBy, firstChild, stepAt};
-use limits::{ENDS_AT, LIST_LENGTH, MOST_CONSTANT, MOST_QUBITS};
-use records::{Number, Record, record_at, written_at};
+ghost use Rattle.model.specs.Lists.{qubits, remaining, comparedValue, holds};
+ghost use Rattle.sets.specs.Sets.{membersOf};
+ghost use Rattle.decoded.specs.RecordWords.{rowAt, wordNumber};
+ghost use Rattle.decoded.specs.DecodedTable.{wordIn, endOf, removalsIn, testAt, procedureCount, rootOf};
+ghost use Rattle.records.specs.Fields.{numberOf};
+ghost use Rattle.step.specs.Steps.{sumOf, valueOf, touchedBy, stepAt};
+use decoded::number_of;
+use limits::{
+    COUNT_FIELD, END_FIELD, MOST_CONSTANT, MOST_QUBITS, NUMBER_FIELD, PROCEDURE_FIELD, PROGRAM_LENGTH, RECORDS_AT, RECORD_LENGTH, REMOVALS_FIELD,
+    ROOTS_AT,
+};
+use records::Number;
+use sets::{QubitSet, entry, full, remove, size};
 
-// All qubits there can be.
-const QUBITS: [u8; LIST_LENGTH] = [
-    1, 2, 3, 4, 5, 6, 7, 8, 9, 10, 11, 12, 13, 14, 15, 16, 17, 18, 19, 20, 21, 22, 23, 24, 25, 26, 27, 28, 29, 30, 31, 32,
-];
-
-// A list of qubits: its first `len` entries count.
-pub struct Qubits {
-    pub at: [u8; LIST_LENGTH],
-    pub len: u8,
-}
-
-// The sizes that a number can add: of the procedure's whole list, and of what the removals already done in the record have left of it.
-pub struct Sizes {
-    pub whole: u8,
-    pub left: u8,
+// What a number can add the size of: the procedure's whole list, and what the removals already done in the record have left of it.
+pub struct Lists {
+    pub whole: QubitSet,
+    pub left: QubitSet,
 }
 
 // What a record does on a list. Children go by their numbers.
@@ -35,42 +31,28 @@ pub enum Step {
     // NOT: the qubit it touches, 0 for none
     Touches(u8),
     // sequence: first, second
-    Sequence(usize, usize),
+    Sequence(u32, u32),
     // if: condition, yes, no
-    Chooses(usize, usize, usize),
+    Chooses(u32, u32, u32),
     // qcase: the qubit it touches, zero, one
-    Branches(u8, usize, usize),
-    // call: the procedure, and the place of its removals
-    Calls(u8, usize),
+    Branches(u8, u32, u32),
+    // call: the procedure, and where the words of the record begin, which has the removals
+    Calls(u8, u32),
     // a comparison: whether it holds
     Holds(bool),
     // and: first, second
-    Both(usize, usize),
+    Both(u32, u32),
     // or: first, second
-    Either(usize, usize),
+    Either(u32, u32),
     // not: the one
-    Negates(usize),
+    Negates(u32),
 }
 
-// A list is no longer than the longest.
-fn capped(n: u8) -> u8
-    ensures { λ r. ⌜ r ≡ min n mostQubits ⌝ }
+// Main's list: qubits 1 to n, of as many as there can be.
+pub fn all(n: u8) -> QubitSet
+    ensures { λ r. ⌜ membersOf r ≡ qubits (min n mostQubits) ⌝ }
 {
-    if n < MOST_QUBITS { n } else { MOST_QUBITS }
-}
-
-// The length of a list.
-pub fn size(list: Qubits) -> u8
-    ensures { λ r. ⌜ r ≡ length (qubitsOf list) ⌝ }
-{
-    capped(list.len)
-}
-
-// Main's list: qubits 1 to n.
-pub fn all(n: u8) -> Qubits
-    ensures { λ r. ⌜ qubitsOf r ≡ qubits (min n mostQubits) ⌝ }
-{
-    Qubits { at: QUBITS, len: capped(n) }
+    if n < MOST_QUBITS { full(n) } else { full(MOST_QUBITS) }
 }
 
 // A constant and a size. No table has a constant above 16 bits; without the test the sum could leave i32.
@@ -84,159 +66,131 @@ fn sum(constant: i32, size: u8) -> i32
 }
 
 // A number's value: its constant, alone or with one of the sizes.
-fn value(a: Number, sizes: Sizes) -> i32
-    ensures { λ r. ⌜ r ≡ valueOf a sizes ⌝ }
+fn value(a: Number, lists: Lists) -> i32
+    ensures { λ r. ⌜ r ≡ valueOf a lists ⌝ }
 {
     match a {
         Number::Constant(z) => z,
-        Number::SizePlus(z) => sum(z, sizes.whole),
-        Number::LeftPlus(z) => sum(z, sizes.left),
+        Number::SizePlus(z) => sum(z, size(lists.whole)),
+        Number::LeftPlus(z) => sum(z, size(lists.left)),
     }
 }
 
-// A position in a list of this size, counted from 1; 0 for one at or below zero, or past the end.
-fn within(size: u8, k: i32) -> usize
-    ensures { λ r. ⌜ r ≡ within size k ⌝ }
+// A word, 0 past the end.
+fn word(words: &[u32], at: usize) -> u32
+    ensures { λ r. ⌜ r ≡ wordIn (now (words .entry)) at ⌝ }
 {
-    if k < 1 {
-        return 0;
-    }
-    if k > size as i32 {
-        return 0;
-    }
-    k as usize
+    if at < words.len() { words[at] } else { 0 }
 }
 
-// The entry at a position, 0 where there is none.
-pub fn entry(list: Qubits, k: i32) -> u8
-    ensures { λ r. ⌜ r ≡ entry (qubitsOf list) (position k) ⌝ }
+// Where the words of record i begin.
+fn row(i: u32) -> usize
+    ensures { λ r. ⌜ r ≡ rowAt i ⌝ }
 {
-    let i = within(size(list), k);
-    if i == 0 {
-        return 0;
-    }
-    let before = i - 1;
-    list.at[before]
+    RECORDS_AT + RECORD_LENGTH * i as usize
 }
 
-// The entry at a position is taken out of the list that stands in an array: its new length. It is empty where there is no such entry.
-fn remove(at: &mut [u8; LIST_LENGTH], len: u8, k: i32) -> u8
-    requires { ⌜ length (now at) ≡ mostQubits ⌝ }
-    ensures { λ r. ⌜ take r (now (at .exit)) ≡ remove (position k) (take len (now (at .entry))) ⌝ }
-    ensures { λ r. ⌜ length (now (at .exit)) ≡ mostQubits ⌝ }
-    ensures { λ r. ⌜ r ≤ mostQubits ⌝ }
+// What the removals of the record whose words begin at a place leave of a list, "each from what the last one left"; each number may take the size of what is left
+// just before it.
+fn removed(words: &[u32], at: u32, list: QubitSet) -> QubitSet
+    ensures { λ r. ⌜ membersOf r ≡ remaining (removalsIn (now (words .entry)) at) (membersOf list) ⌝ }
 {
-    let size = capped(len);
-    let mut i = within(size, k);
-    if i == 0 {
-        return 0;
-    }
-    while i < size as usize {
-        at[i - 1] = at[i];
-        i += 1;
-    }
-    size - 1
-}
-
-// What the removals at a place leave of a list, "each from what the last one left"; each number may take the size of what is left just before it.
-// Place 0 has none.
-pub fn remaining(table: &[u8], at: usize, list: Qubits) -> Qubits
-    ensures { λ r. ⌜ qubitsOf r ≡ remaining (removalsOf (now (table .entry)) at) (qubitsOf list) ⌝ }
-{
-    if at == 0 {
-        return list;
-    }
-    if table.len() <= at {
-        return list;
-    }
-    let whole = size(list);
-    let mut rest = list.at;
-    let mut len = whole;
-    let mut left = table[at];
-    let mut place = at + 1;
+    let mut left = word(words, at as usize + COUNT_FIELD);
+    let mut place = at as usize + REMOVALS_FIELD;
+    let mut rest = list;
     while 0 < left {
-        let k = value(written_at(table, place), Sizes { whole, left: len });
-        len = remove(&mut rest, len, k);
-        place += 3;
+        // nothing is left to remove
+        if rest == 0 {
+            return 0;
+        }
+        rest = remove(rest, value(number_of(word(words, place)), Lists { whole: list, left: rest }));
+        place += 1;
         left -= 1;
     }
-    Qubits { at: rest, len }
+    rest
 }
 
-// "NOT and qcase touch the entry at position a of the remaining list"; 0 where they touch nothing.
-pub fn touched(table: &[u8], at: usize, a: Number, list: Qubits) -> u8
-    ensures { λ r. ⌜ r ≡ touchedBy (now (table .entry)) at a (qubitsOf list) ⌝ }
+// What the removals of a call leave of a list: its words begin at a place.
+pub fn remaining(program: &[u32; PROGRAM_LENGTH], at: u32, list: QubitSet) -> QubitSet
+    ensures { λ r. ⌜ membersOf r ≡ remaining (removalsIn (now (program .entry)) at) (membersOf list) ⌝ }
 {
-    let rest = remaining(table, at, list);
-    entry(rest, value(a, Sizes { whole: size(list), left: size(rest) }))
+    removed(&program[..], at, list)
 }
 
-// Where record i starts in the table.
-pub fn start(index: &[u16], i: usize) -> usize
-    ensures { λ r. ⌜ r ≡ startOf (now (index .entry)) i ⌝ }
+// How many removals has the record whose words begin at a place?
+pub fn removal_count(program: &[u32; PROGRAM_LENGTH], at: u32) -> u32
+    ensures { λ r. ⌜ r ≡ length (removalsIn (now (program .entry)) at) ⌝ }
 {
-    if i < index.len() { index[i] as usize } else { 0 }
+    word(&program[..], at as usize + COUNT_FIELD)
+}
+
+// "NOT and qcase touch the entry at position a of the remaining list"; 0 where they touch nothing. The words of the record begin at a place.
+fn touched(words: &[u32], at: u32, list: QubitSet) -> u8
+    ensures { λ r. ⌜ r ≡ touchedBy (now (words .entry)) at (membersOf list) ⌝ }
+{
+    let rest = removed(words, at, list);
+    entry(rest, value(number_of(word(words, at as usize + NUMBER_FIELD)), Lists { whole: list, left: rest }))
 }
 
 // The record behind the subtree of record i.
-fn subtree_end(index: &[u16], i: usize) -> usize
-    ensures { λ r. ⌜ r ≡ endOf (now (index .entry)) i ⌝ }
+fn subtree_end(words: &[u32], i: u32) -> u32
+    ensures { λ r. ⌜ r ≡ endOf (now (words .entry)) i ⌝ }
 {
-    if index.len() <= i {
-        return 0;
+    word(words, row(i) + END_FIELD)
+}
+
+// The value of a number in a comparison, whose word stands at a place: nothing is removed.
+fn compared(words: &[u32], at: usize, list: QubitSet) -> i32
+    ensures { λ r. ⌜ r ≡ comparedValue (numberOf (wordNumber (wordIn (now (words .entry)) at))) (membersOf list) ⌝ }
+{
+    value(number_of(word(words, at)), Lists { whole: list, left: list })
+}
+
+// What record i does on a list: one match over the kinds 0 to 11. Past the last record there is none.
+pub fn step_at(program: &[u32; PROGRAM_LENGTH], i: u32, list: QubitSet) -> Step
+    ensures { λ r. ⌜ r ≡ stepAt (now (program .entry)) i (membersOf list) ⌝ }
+{
+    let words = &program[..];
+    let at = row(i);
+    if words.len() <= at {
+        return Step::Nothing;
     }
-    start(index, ENDS_AT + i)
-}
-
-// The first child of record i, where it has one: the next record. Past the end of the index all numbers are alike.
-fn first_child(index: &[u16], i: usize) -> usize
-    ensures { λ r. ⌜ r ≡ firstChild (now (index .entry)) i ⌝ }
-{
-    if i < index.len() { i + 1 } else { i }
-}
-
-// What record i does on a list: one match over the kinds 0 to 11.
-pub fn step_at(table: &[u8], index: &[u16], p: u8, i: usize, list: Qubits) -> Step
-    ensures { λ r. ⌜ r ≡ stepAt p (now (table .entry)) (now (index .entry)) i (qubitsOf list) ⌝ }
-{
-    let whole = size(list);
-    let sizes = Sizes { whole, left: whole };
-    let first = first_child(index, i);
-    let second = subtree_end(index, first);
-    let found = record_at(table, start(index, i), p);
-    match found {
-        Record::Skip => Step::Nothing,
-        Record::Not(at, a) => Step::Touches(touched(table, at as usize, a, list)),
-        Record::Sequence => Step::Sequence(first, second),
-        Record::If => Step::Chooses(first, second, subtree_end(index, second)),
-        Record::Qcase(at, a) => Step::Branches(touched(table, at as usize, a, list), first, second),
-        Record::Call(at, f) => Step::Calls(f, at as usize),
-        Record::Greater(a, b) => Step::Holds(value(a, sizes) > value(b, sizes)),
-        Record::AtLeast(a, b) => Step::Holds(value(a, sizes) >= value(b, sizes)),
-        Record::Equal(a, b) => Step::Holds(value(a, sizes) == value(b, sizes)),
-        Record::And => Step::Both(first, second),
-        Record::Or => Step::Either(first, second),
-        Record::Negation => Step::Negates(first),
+    let kind = words[at];
+    let first = i + 1;
+    let place = at as u32;
+    match kind {
+        0 => Step::Nothing,
+        1 => Step::Touches(touched(words, place, list)),
+        2 => Step::Sequence(first, subtree_end(words, first)),
+        3 => {
+            let second = subtree_end(words, first);
+            Step::Chooses(first, second, subtree_end(words, second))
+        }
+        4 => Step::Branches(touched(words, place, list), first, subtree_end(words, first)),
+        5 => Step::Calls((word(words, at + PROCEDURE_FIELD) % 256) as u8, place),
+        6 => Step::Holds(compared(words, at + NUMBER_FIELD, list) > compared(words, at + REMOVALS_FIELD, list)),
+        7 => Step::Holds(compared(words, at + NUMBER_FIELD, list) >= compared(words, at + REMOVALS_FIELD, list)),
+        8 => Step::Holds(compared(words, at + NUMBER_FIELD, list) == compared(words, at + REMOVALS_FIELD, list)),
+        9 => Step::Both(first, subtree_end(words, first)),
+        10 => Step::Either(first, subtree_end(words, first)),
+        11 => Step::Negates(first),
+        _ => Step::Nothing,
     }
 }
 
 // Does the condition at record i hold for its numbers? It is followed `depth` records down; a statement there is no condition and holds.
-fn holds(table: &[u8], index: &[u16], p: u8, i: usize, list: Qubits, depth: u8) -> bool
-    ensures { λ r. ⌜ r ≡ holds (testAt p (now (table .entry)) (now (index .entry)) depth i) (qubitsOf list) ⌝ }
+fn holds(program: &[u32; PROGRAM_LENGTH], i: u32, list: QubitSet, depth: u8) -> bool
+    ensures { λ r. ⌜ r ≡ holds (testAt (now (program .entry)) depth i) (membersOf list) ⌝ }
 {
     if depth == 0 {
         return true;
     }
-    let step = step_at(table, index, p, i, list);
+    let step = step_at(program, i, list);
     match step {
         Step::Holds(result) => result,
-        Step::Both(first, second) => {
-            holds(table, index, p, first, list, depth - 1) && holds(table, index, p, second, list, depth - 1)
-        }
-        Step::Either(first, second) => {
-            holds(table, index, p, first, list, depth - 1) || holds(table, index, p, second, list, depth - 1)
-        }
-        Step::Negates(first) => !holds(table, index, p, first, list, depth - 1),
+        Step::Both(first, second) => holds(program, first, list, depth - 1) && holds(program, second, list, depth - 1),
+        Step::Either(first, second) => holds(program, first, list, depth - 1) || holds(program, second, list, depth - 1),
+        Step::Negates(first) => !holds(program, first, list, depth - 1),
         Step::Nothing => true,
         Step::Touches(_) => true,
         Step::Sequence(_, _) => true,
@@ -247,8 +201,22 @@ fn holds(table: &[u8], index: &[u16], p: u8, i: usize, list: Qubits, depth: u8) 
 }
 
 // An if goes on as one of its two statements: as `yes` where the condition at record c holds, otherwise as `no`.
-pub fn chosen(table: &[u8], index: &[u16], p: u8, c: usize, yes: usize, no: usize, list: Qubits, depth: u8) -> usize
-    ensures { λ r. ⌜ r ≡ cond (holds (testAt p (now (table .entry)) (now (index .entry)) depth c) (qubitsOf list)) yes no ⌝ }
+pub fn chosen(program: &[u32; PROGRAM_LENGTH], c: u32, yes: u32, no: u32, list: QubitSet, depth: u8) -> u32
+    ensures { λ r. ⌜ r ≡ cond (holds (testAt (now (program .entry)) depth c) (membersOf list)) yes no ⌝ }
 {
-    if holds(table, index, p, c, list, depth) { yes } else { no }
+    if holds(program, c, list, depth) { yes } else { no }
+}
+
+// How many procedures has the program?
+pub fn procedures(program: &[u32; PROGRAM_LENGTH]) -> u8
+    ensures { λ r. ⌜ r ≡ procedureCount (now (program .entry)) ⌝ }
+{
+    (program[0] % 256) as u8
+}
+
+// The root of the body of f, main at 0.
+pub fn root(program: &[u32; PROGRAM_LENGTH], f: u8) -> u32
+    ensures { λ r. ⌜ r ≡ rootOf (now (program .entry)) f ⌝ }
+{
+    program[ROOTS_AT + f as usize]
 }

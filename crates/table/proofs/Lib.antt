@@ -1,6 +1,6 @@
 -- What the proofs of several functions use, and what is proved of a table that was read.
 pub mod TreeReadingLaws
-pub mod IndexSlots
+pub mod KeptRecords
 pub mod SpannedBytes
-pub mod IndexedTrees
+pub mod DecodedTrees
 pub mod WholeTable

@@ -12,7 +12,7 @@ use Rattle.model.specs.Writing.{recordBytes}
 use Rattle.model.proofs.RoundTrip.{Bytes}
 use Rattle.model.proofs.WrittenTables.{bytes-drop, record-written}
 use Rattle.records.specs.Fields.{byteAt}
-use Rattle.table.specs.Index.{piece}
+use Rattle.table.specs.ReadTable.{piece}
 
 pub record Spans (bs : List ℕ) (from to : ℕ) (bytes : List ℕ) : Type 0 where
   pub long : to ≡ from + length bytes

@@ -10,7 +10,7 @@ use borrow.Author.Tests.{lt-ltb, le-ltb, not-true, not-false}
 use lib.Dec.{ltb}
 use lib.ListN.{length, getD, set, List·getD-eq-default}
 use types.Run.{miss}
-use Rattle.limits.specs.Sizes.{endsAt, rootsAt, indexLength, placeCount, kindCount, firstCondition}
+use Rattle.limits.specs.Sizes.{rootsAt, endField, programLength, placeCount, kindCount, firstCondition}
 use Rattle.model.specs.Limits.{mostRecords, mostDepth, tableStops, wrongKind, wrongMap, tooDeep}
 use Rattle.model.proofs.BooleanLaws.{byEq}
 use Rattle.model.specs.Reading.{permitted, stands}
@@ -19,27 +19,28 @@ use Rattle.records.specs.declared.Record.{Record}
 use Rattle.records.specs.declared.Answer.{Answer}
 use Rattle.records.specs.declared.Answer.the-variants as field
 use Rattle.records.specs.Fields.{fieldsAt}
+use Rattle.decoded.specs.RecordWords.{rowAt, recorded}
 use Rattle.table.specs.declared.Tree.{Tree}
 use Rattle.table.specs.declared.Tree.the-variants as tree
 use Rattle.table.specs.TreeReading.{Ran, ran, andThenTree, noted, wanted, conditionParts, statementParts, parts, contentsAt, many}
 use Rattle.table.specs.TreeReading.{refusal, andThenFields, childrenAt, opened, afterKind, treeAt, bodiesAt}
 
--- a value for the index
+-- a value for the program
 module _ (ix : List ℕ) (slot value : ℕ) where
   -- at a slot outside it is passed over
-  pub note-out : indexLength ≤ slot → ix ≡ noted ix slot value
+  pub note-out : programLength ≤ slot → ix ≡ noted ix slot value
   unfolding noted
-  note-out h = rw (le-ltb slot indexLength h)
+  note-out h = rw (le-ltb slot programLength h)
 
   -- so is one that is too large
-  pub note-large : slot < indexLength → placeCount ≤ value → ix ≡ noted ix slot value
+  pub note-large : slot < programLength → placeCount ≤ value → ix ≡ noted ix slot value
   unfolding noted
-  note-large h l = rw (lt-ltb slot indexLength h, le-ltb value placeCount l)
+  note-large h l = rw (lt-ltb slot programLength h, le-ltb value placeCount l)
 
   -- any other is stored
-  pub note-in : slot < indexLength → value < placeCount → set ix slot value ≡ noted ix slot value
+  pub note-in : slot < programLength → value < placeCount → set ix slot value ≡ noted ix slot value
   unfolding noted
-  note-in h l = rw (lt-ltb slot indexLength h, lt-ltb value placeCount l)
+  note-in h l = rw (lt-ltb slot programLength h, lt-ltb value placeCount l)
 
 -- a condition's kinds are 6 to 11
 pub wanted-test : (tests : Bool) (kind : ℕ) → tests ≡ true → firstCondition ≤ kind → ltb kind kindCount ≡ wanted tests kind
@@ -147,17 +148,17 @@ fields-read a ix f r next e = rw e
 
 -- the children of a record
 module _
-    (one : Bool → ℕ → ℕ → List ℕ → Ran) (kind at next i : ℕ) (ix ix₀ : List ℕ) (n : ℕ) (t : Tree) (ix₁ : List ℕ)
-    (noted₀ : ix₀ ≡ noted ix i at) (tests : n ≡ parts true kind) (read : ran t ix₁ ≡ many (one true) n next (i + 1) ix₀) where
+    (one : Bool → ℕ → ℕ → List ℕ → Ran) (bs : List ℕ) (kind at next i : ℕ) (ix ix₀ : List ℕ) (n : ℕ) (t : Tree) (ix₁ : List ℕ)
+    (decoded : ix₀ ≡ recorded bs at i ix) (tests : n ≡ parts true kind) (read : ran t ix₁ ≡ many (one true) n next (i + 1) ix₀) where
   children-opened : (x : Ran) →
       x ≡ andThenTree (ran t ix₁) (λ middle j jx.
-      andThenTree (many (one false) (parts false kind) middle j jx) (λ end total kx. ran (tree.Read end total) (noted kx (endsAt + i) total))) →
-      x ≡ childrenAt one kind at next i ix
+      andThenTree (many (one false) (parts false kind) middle j jx) (λ end total kx. ran (tree.Read end total) (noted kx (rowAt i + endField) total))) →
+      x ≡ childrenAt one bs kind at next i ix
   unfolding childrenAt
-  children-opened x q = rw (← noted₀, ← tests, ← read) q
+  children-opened x q = rw (← decoded, ← tests, ← read) q
 
   -- one of its conditions is refused
-  pub children-tests : (k : ℕ) → t ≡ tree.Refused k → ran t ix₁ ≡ childrenAt one kind at next i ix
+  pub children-tests : (k : ℕ) → t ≡ tree.Refused k → ran t ix₁ ≡ childrenAt one bs kind at next i ix
   unfolding andThenTree
   children-tests k e = children-opened _ (rw e)
 
@@ -165,14 +166,14 @@ module _
       (middle j : ℕ) (e : t ≡ tree.Read middle j) (m : ℕ) (u : Tree) (ix₂ : List ℕ) (rest : m ≡ parts false kind)
       (read₁ : ran u ix₂ ≡ many (one false) m middle j ix₁) where
     -- one of its statements is refused
-    pub children-statements : (k : ℕ) → u ≡ tree.Refused k → ran u ix₂ ≡ childrenAt one kind at next i ix
+    pub children-statements : (k : ℕ) → u ≡ tree.Refused k → ran u ix₂ ≡ childrenAt one bs kind at next i ix
     unfolding andThenTree
     children-statements k z = children-opened _ (rw (e, ← rest, ← read₁, z))
 
     -- all are read, and the record behind them is noted
     pub children-done :
-        (end total : ℕ) (ix₃ : List ℕ) → u ≡ tree.Read end total → ix₃ ≡ noted ix₂ (endsAt + i) total →
-        ran (tree.Read end total) ix₃ ≡ childrenAt one kind at next i ix
+        (end total : ℕ) (ix₃ : List ℕ) → u ≡ tree.Read end total → ix₃ ≡ noted ix₂ (rowAt i + endField) total →
+        ran (tree.Read end total) ix₃ ≡ childrenAt one bs kind at next i ix
     unfolding andThenTree
     children-done end total ix₃ z q = children-opened _ (rw (e, ← rest, ← read₁, z, q))
 
@@ -233,7 +234,7 @@ module _ (p : ℕ) (bs : List ℕ) (d : ℕ) (tests : Bool) (at i : ℕ) (ix : L
             -- else its children
             pub tree-children :
                 (r : Record) (next : ℕ) (x : Ran) → a ≡ field.Record r next →
-                x ≡ childrenAt (treeAt p bs (d - 1)) (getD bs (at + 1) 0) at next i ix → x ≡ treeAt p bs d tests at i ix
+                x ≡ childrenAt (treeAt p bs (d - 1)) bs (getD bs (at + 1) 0) at next i ix → x ≡ treeAt p bs d tests at i ix
             tree-children r next x o q = tree-on x (rw (lt-ltb i mostRecords g, ← c) (q ∙ fields-read a ix _ r next o))
 
 -- the bodies of procedures f to p

@@ -1,2 +1,2 @@
-pub mod Index
+pub mod ReadTable
 pub mod TreeReading

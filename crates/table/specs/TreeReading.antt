@@ -1,30 +1,31 @@
--- Reading trees at a place of the table's bytes, with the index as it fills. A law ties this to the model's reader of the bytes from that place on.
+-- Reading trees at a place of the table's bytes, with the program as it fills. A law ties this to the model's reader of the bytes from that place on.
 use Prim.Native.Nat.{ℕ, zero, suc, _+_}
 use mathlib.Core.Bool.{Bool, true, false, cond}
 use mathlib.Core.List.{List, [], _∷_}
 use lib.ListN.{length, getD, set}
 use lib.Dec.{ltb, leb}
-use Rattle.limits.specs.Sizes.{endsAt, rootsAt, indexLength, placeCount, kindCount, firstCondition}
+use Rattle.limits.specs.Sizes.{rootsAt, endField, programLength, placeCount, kindCount, firstCondition}
 use Rattle.model.specs.Limits.{mostRecords, mostDepth, tableStops, wrongKind, wrongMap, tooDeep}
 use Rattle.model.specs.Reading.{permitted, stands}
 use Rattle.records.specs.declared.Answer.{Answer}
 use Rattle.records.specs.declared.Answer.the-variants as field
 use Rattle.records.specs.Fields.{byteAt, fieldsAt}
+use Rattle.decoded.specs.RecordWords.{rowAt, recorded}
 use Rattle.table.specs.declared.Tree.{Tree}
 use Rattle.table.specs.declared.Tree.the-variants as tree
 
--- what reading a tree answers, with the index that it leaves
+-- what reading a tree answers, with the program that it leaves
 pub data Ran : Type 0 where
   ran : Tree → List ℕ → Ran
 
 -- go on behind a tree; a refusal goes out as it is
 unfoldable pub andThenTree : Ran → (ℕ → ℕ → List ℕ → Ran) → Ran
-andThenTree (ran (tree.Read at i) ix) f = f at i ix
-andThenTree (ran (tree.Refused k) ix) f = ran (tree.Refused k) ix
+andThenTree (ran (tree.Read at i) g) f = f at i g
+andThenTree (ran (tree.Refused k) g) f = ran (tree.Refused k) g
 
--- the index with a value noted at a slot. A slot outside, or a value past 65535, would be passed over: reading comes to neither.
+-- the program with a value noted at a slot. A slot outside, or a value past 65535, would be passed over: reading comes to neither.
 unfoldable pub noted : List ℕ → ℕ → ℕ → List ℕ
-noted ix slot value = cond (ltb slot indexLength) (cond (ltb value placeCount) (set ix slot value) ix) ix
+noted g slot value = cond (ltb slot programLength) (cond (ltb value placeCount) (set g slot value) g) g
 
 -- is this a kind of condition, or else of statement?
 unfoldable pub wanted : Bool → ℕ → Bool
@@ -48,8 +49,8 @@ contentsAt p map kind bs at = cond (permitted kind map) (fieldsAt p kind (stands
 
 -- n trees, one after the other
 unfoldable pub many : (ℕ → ℕ → List ℕ → Ran) → ℕ → ℕ → ℕ → List ℕ → Ran
-many one zero at i ix = ran (tree.Read at i) ix
-many one (suc n) at i ix = andThenTree (one at i ix) (λ next j jx. many one n next j jx)
+many one zero at i g = ran (tree.Read at i) g
+many one (suc n) at i g = andThenTree (one at i g) (λ next j h. many one n next j h)
 
 -- the refusal of a reader of fields, which answers a record or a refusal
 unfoldable pub refusal : Answer → Tree
@@ -61,45 +62,45 @@ refusal (field.Refused k) = tree.Refused k
 
 -- go on behind the fields of a record; a refusal goes out
 unfoldable pub andThenFields : Answer → List ℕ → (ℕ → Ran) → Ran
-andThenFields (field.Place next) ix f = ran (refusal (field.Place next)) ix
-andThenFields (field.Number a next) ix f = ran (refusal (field.Number a next)) ix
-andThenFields (field.Procedure g next) ix f = ran (refusal (field.Procedure g next)) ix
-andThenFields (field.Record r next) ix f = f next
-andThenFields (field.Refused k) ix f = ran (refusal (field.Refused k)) ix
+andThenFields (field.Place next) g f = ran (refusal (field.Place next)) g
+andThenFields (field.Number a next) g f = ran (refusal (field.Number a next)) g
+andThenFields (field.Procedure q next) g f = ran (refusal (field.Procedure q next)) g
+andThenFields (field.Record r next) g f = f next
+andThenFields (field.Refused k) g f = ran (refusal (field.Refused k)) g
 
--- "a record's children follow it, first child first": record i, at `at`, has its start noted, its conditions and statements are read from `next` on,
--- and the record behind them is noted
-unfoldable pub childrenAt : (Bool → ℕ → ℕ → List ℕ → Ran) → ℕ → ℕ → ℕ → ℕ → List ℕ → Ran
-childrenAt one kind at next i ix =
-    andThenTree (many (one true) (parts true kind) next (i + 1) (noted ix i at)) (λ middle j jx.
-    andThenTree (many (one false) (parts false kind) middle j jx) (λ end total kx.
-    ran (tree.Read end total) (noted kx (endsAt + i) total)))
+-- "a record's children follow it, first child first": record i, at `at`, is decoded, its conditions and statements are read from `next` on, and the record
+-- behind them is noted
+unfoldable pub childrenAt : (Bool → ℕ → ℕ → List ℕ → Ran) → List ℕ → ℕ → ℕ → ℕ → ℕ → List ℕ → Ran
+childrenAt one bs kind at next i g =
+    andThenTree (many (one true) (parts true kind) next (i + 1) (recorded bs at i g)) (λ middle j h.
+    andThenTree (many (one false) (parts false kind) middle j h) (λ end total k.
+    ran (tree.Read end total) (noted k (rowAt i + endField) total)))
 
 -- "each record 1 for map and kind, 4": what comes then is given
 abbrev pub opened : Bool → List ℕ → ℕ → List ℕ → Ran → Ran
-opened tests bs at ix x =
+opened tests bs at g x =
     cond (ltb at (length bs))
     (cond (leb (at + 2) (length bs))
     (cond (wanted tests (byteAt bs (at + 1))) x
-    (ran (tree.Refused wrongKind) ix))
-    (ran (tree.Refused tableStops) ix))
-    (ran (tree.Refused tableStops) ix)
+    (ran (tree.Refused wrongKind) g))
+    (ran (tree.Refused tableStops) g))
+    (ran (tree.Refused tableStops) g)
 
 -- what comes then in a record that is not too deep: "7, 5, then each field 1 and 6", and its children
 abbrev pub afterKind : ℕ → List ℕ → (Bool → ℕ → ℕ → List ℕ → Ran) → ℕ → ℕ → List ℕ → Ran
-afterKind p bs one at i ix =
+afterKind p bs one at i g =
     cond (ltb i mostRecords)
-    (andThenFields (contentsAt p (byteAt bs at) (byteAt bs (at + 1)) bs (at + 2)) ix (λ next.
-    childrenAt one (byteAt bs (at + 1)) at next i ix))
-    (ran (tree.Refused tooDeep) ix)
+    (andThenFields (contentsAt p (byteAt bs at) (byteAt bs (at + 1)) bs (at + 2)) g (λ next.
+    childrenAt one bs (byteAt bs (at + 1)) at next i g))
+    (ran (tree.Refused tooDeep) g)
 
 -- a tree of at most `depth` records from its root down, a condition or else a statement, where i records came before it
 unfoldable pub treeAt : ℕ → List ℕ → ℕ → Bool → ℕ → ℕ → List ℕ → Ran
-treeAt p bs zero tests at i ix = opened tests bs at ix (ran (tree.Refused tooDeep) ix)
-treeAt p bs (suc depth) tests at i ix = opened tests bs at ix (afterKind p bs (treeAt p bs depth) at i ix)
+treeAt p bs zero tests at i g = opened tests bs at g (ran (tree.Refused tooDeep) g)
+treeAt p bs (suc depth) tests at i g = opened tests bs at g (afterKind p bs (treeAt p bs depth) at i g)
 
 -- the bodies of n procedures from f on, main at 0: the root of each is noted
 unfoldable pub bodiesAt : ℕ → List ℕ → ℕ → ℕ → ℕ → ℕ → List ℕ → Ran
-bodiesAt p bs zero f at i ix = ran (tree.Read at i) ix
-bodiesAt p bs (suc n) f at i ix =
-    andThenTree (treeAt p bs mostDepth false at i (noted ix (rootsAt + f) i)) (λ next j jx. bodiesAt p bs n (f + 1) next j jx)
+bodiesAt p bs zero f at i g = ran (tree.Read at i) g
+bodiesAt p bs (suc n) f at i g =
+    andThenTree (treeAt p bs mostDepth false at i (noted g (rootsAt + f) i)) (λ next j h. bodiesAt p bs n (f + 1) next j h)

@@ -1,14 +1,18 @@
-// Whole tables: trees in preorder are read with refusals 1 to 8, and an index is left behind by which a record's parts are found.
+// Whole tables: trees in preorder are read with refusals 1 to 8, and every record is decoded as it is read.
 ghost use mathlib.Core.Path.{_≡_};
 ghost use Prim.Native.Nat.{_+_, _-_, _<_};
+ghost use lib.ListN.{length};
+ghost use Rattle.limits.specs.Sizes.{programLength};
 ghost use Rattle.model.specs.Limits.{mostRecords};
 ghost use Rattle.model.specs.Reading.{readTable};
 ghost use Rattle.model.specs.Answers.{outcome};
-ghost use Rattle.table.specs.Index.{outcomeRead, PlacedRead};
+ghost use Rattle.decoded.specs.DecodedTable.{wordIn};
+ghost use Rattle.table.specs.ReadTable.{outcomeRead, PlacedRead};
 ghost use Rattle.table.specs.TreeReading.{ran, noted, wanted, parts, contentsAt, many, refusal, childrenAt, treeAt, bodiesAt};
+use decoded::put_record;
 use limits::{
-    BYTES_LEFT, ENDS_AT, FIRST_CONDITION, INDEX_LENGTH, KINDS, KIND_COUNT, MANY_PROCEDURES, MOST_DEPTH, MOST_PROCEDURES, MOST_RECORDS, PLACE_COUNT,
-    ROOTS_AT, TABLE_EDITION, TABLE_STOPS, TOO_DEEP, WRONG_EDITION, WRONG_KIND, WRONG_MAP,
+    BYTES_LEFT, END_FIELD, FIRST_CONDITION, KINDS, KIND_COUNT, MANY_PROCEDURES, MOST_DEPTH, MOST_PROCEDURES, MOST_RECORDS, PLACE_COUNT, PROGRAM_LENGTH,
+    RECORDS_AT, RECORD_LENGTH, ROOTS_AT, TABLE_EDITION, TABLE_STOPS, TOO_DEEP, WRONG_EDITION, WRONG_KIND, WRONG_MAP,
 };
 use records::Answer;
 
@@ -23,19 +27,19 @@ pub enum Tree {
     Refused(u8),
 }
 
-// What reading a table answers: the number of procedures, or a refusal.
+// What reading a table answers: that it was read, or a refusal.
 pub enum Table {
-    Read(u8),
+    Read,
     Refused(u8),
 }
 
-// Note a value in the index. A slot outside it, or a value past 65535, would be passed over: reading comes to neither.
-fn note(index: &mut [u16; INDEX_LENGTH], slot: usize, value: usize)
-    ensures { λ r. ⌜ now (index .exit) ≡ noted (now (index .entry)) slot value ⌝ }
+// Note a value among the words of the program. A slot outside them, or a value past 65535, would be passed over: reading comes to neither.
+fn note(program: &mut [u32; PROGRAM_LENGTH], slot: usize, value: usize)
+    ensures { λ r. ⌜ now (program .exit) ≡ noted (now (program .entry)) slot value ⌝ }
 {
-    if slot < INDEX_LENGTH {
+    if slot < PROGRAM_LENGTH {
         if value < PLACE_COUNT {
-            index[slot] = value as u16;
+            program[slot] = value as u32;
         }
     }
 }
@@ -90,9 +94,9 @@ fn read_tree(
     p: u8,
     records: usize,
     tests: bool,
-    index: &mut [u16; INDEX_LENGTH],
+    program: &mut [u32; PROGRAM_LENGTH],
 ) -> Tree
-    ensures { λ r. ⌜ ran r (now (index .exit)) ≡ treeAt p (now (table .entry)) depth tests at records (now (index .entry)) ⌝ }
+    ensures { λ r. ⌜ ran r (now (program .exit)) ≡ treeAt p (now (table .entry)) depth tests at records (now (program .entry)) ⌝ }
 {
     if table.len() <= at {
         return Tree::Refused(TABLE_STOPS);
@@ -116,10 +120,10 @@ fn read_tree(
     let Answer::Record(_, next) = answer else {
         return refusal(answer);
     };
-    read_children(table, at, next, depth - 1, p, records, kind, index)
+    read_children(table, at, next, depth - 1, p, records, kind, program)
 }
 
-// The children of a record at `at` that stand from `next` on: conditions, then statements. Its start and the record behind them are noted.
+// The children of a record at `at` that stand from `next` on: conditions, then statements. It is decoded, and the record behind them is noted.
 fn read_children(
     table: &[u8],
     at: usize,
@@ -128,23 +132,23 @@ fn read_children(
     p: u8,
     records: usize,
     kind: u8,
-    index: &mut [u16; INDEX_LENGTH],
+    program: &mut [u32; PROGRAM_LENGTH],
 ) -> Tree
     requires { ⌜ records < mostRecords ⌝ }
-    ensures { λ r. ⌜ ran r (now (index .exit)) ≡ childrenAt (treeAt p (now (table .entry)) depth) kind at next records (now (index .entry)) ⌝ }
+    ensures { λ r. ⌜ ran r (now (program .exit)) ≡ childrenAt (treeAt p (now (table .entry)) depth) (now (table .entry)) kind at next records (now (program .entry)) ⌝ }
 {
-    note(index, records, at);
+    put_record(table, at, records, program);
     let conditions = parts(true, kind);
-    let tree = read_many(table, next, depth, p, records + 1, conditions, true, index);
+    let tree = read_many(table, next, depth, p, records + 1, conditions, true, program);
     let Tree::Read(middle, count) = tree else {
         return tree;
     };
     let statements = parts(false, kind);
-    let tree = read_many(table, middle, depth, p, count, statements, false, index);
+    let tree = read_many(table, middle, depth, p, count, statements, false, program);
     let Tree::Read(_, total) = tree else {
         return tree;
     };
-    note(index, ENDS_AT + records, total);
+    note(program, RECORDS_AT + RECORD_LENGTH * records + END_FIELD, total);
     tree
 }
 
@@ -157,18 +161,18 @@ fn read_many(
     records: usize,
     count: u8,
     tests: bool,
-    index: &mut [u16; INDEX_LENGTH],
+    program: &mut [u32; PROGRAM_LENGTH],
 ) -> Tree
-    ensures { λ r. ⌜ ran r (now (index .exit)) ≡ many (treeAt p (now (table .entry)) depth tests) count at records (now (index .entry)) ⌝ }
+    ensures { λ r. ⌜ ran r (now (program .exit)) ≡ many (treeAt p (now (table .entry)) depth tests) count at records (now (program .entry)) ⌝ }
 {
     if count == 0 {
         return Tree::Read(at, records);
     }
-    let tree = read_tree(table, at, depth, p, records, tests, index);
+    let tree = read_tree(table, at, depth, p, records, tests, program);
     let Tree::Read(next, total) = tree else {
         return tree;
     };
-    read_many(table, next, depth, p, total, count - 1, tests, index)
+    read_many(table, next, depth, p, total, count - 1, tests, program)
 }
 
 // The bodies of procedures f to p, main at 0: the root of each is noted.
@@ -178,27 +182,35 @@ fn read_bodies(
     f: usize,
     p: u8,
     records: usize,
-    index: &mut [u16; INDEX_LENGTH],
+    program: &mut [u32; PROGRAM_LENGTH],
 ) -> Tree
-    ensures { λ r. ⌜ ran r (now (index .exit)) ≡ bodiesAt p (now (table .entry)) (p + 1 - f) f at records (now (index .entry)) ⌝ }
+    ensures { λ r. ⌜ ran r (now (program .exit)) ≡ bodiesAt p (now (table .entry)) (p + 1 - f) f at records (now (program .entry)) ⌝ }
 {
     if (p as usize) < f {
         return Tree::Read(at, records);
     }
-    note(index, ROOTS_AT + f, records);
-    let tree = read_tree(table, at, MOST_DEPTH, p, records, false, index);
+    note(program, ROOTS_AT + f, records);
+    let tree = read_tree(table, at, MOST_DEPTH, p, records, false, program);
     let Tree::Read(next, total) = tree else {
         return tree;
     };
-    read_bodies(table, next, f + 1, p, total, index)
+    read_bodies(table, next, f + 1, p, total, program)
+}
+
+// How many procedures there are is put down, before all else.
+fn put_count(program: &mut [u32; PROGRAM_LENGTH], p: u8)
+    ensures { λ r. ⌜ wordIn (now (program .exit)) 0 ≡ p ⌝ }
+    ensures { λ r. ⌜ length (now (program .exit)) ≡ programLength ⌝ }
+{
+    let words = &mut program[..];
+    words[0] = p as u32;
 }
 
 // "header 1 (fewer than two bytes), 2, 3", then the main statement and the bodies of procedures 1 to p, then 8 where bytes are left.
-// The index is cleared first. What the answer says, with the index that is left, is what the model reads, and the index says where in the table each
-// statement stands.
-pub fn read_table(table: &[u8], index: &mut [u16; INDEX_LENGTH]) -> Table
-    ensures { λ r. ⌜ outcomeRead r (now (table .entry)) (now (index .exit)) ≡ outcome (readTable (now (table .entry))) ⌝ }
-    ensures { λ r. ⌜ PlacedRead r (now (table .entry)) (now (index .exit)) ⌝ }
+// What the answer says, with the program that is left, is what the model reads, and the program says where in the table each statement stands.
+pub fn read_table(table: &[u8], program: &mut [u32; PROGRAM_LENGTH]) -> Table
+    ensures { λ r. ⌜ outcomeRead r (now (program .exit)) ≡ outcome (readTable (now (table .entry))) ⌝ }
+    ensures { λ r. ⌜ PlacedRead r (now (table .entry)) (now (program .exit)) ⌝ }
 {
     if table.len() < 2 {
         return Table::Refused(TABLE_STOPS);
@@ -210,15 +222,15 @@ pub fn read_table(table: &[u8], index: &mut [u16; INDEX_LENGTH]) -> Table
     if MOST_PROCEDURES < p {
         return Table::Refused(MANY_PROCEDURES);
     }
-    *index = [0; INDEX_LENGTH];
-    let tree = read_bodies(table, 2, 0, p, 0, index);
+    put_count(program, p);
+    let tree = read_bodies(table, 2, 0, p, 0, program);
     match tree {
         Tree::Refused(k) => Table::Refused(k),
         Tree::Read(end, _) => {
             if end < table.len() {
                 return Table::Refused(BYTES_LEFT);
             }
-            Table::Read(p)
+            Table::Read
         }
     }
 }

@@ -11,63 +11,111 @@ use Rattle.model.specs.Reading.{readTable}
 use Rattle.model.specs.Syntax.{Program}
 use Rattle.model.specs.Answers.{Outcome, gives, refuses, after, require, outcome, number, accepted, verdict}
 use Rattle.model.proofs.ReadingLaws.{outcome-read}
-use Rattle.table.specs.Index.{programAt, outcomeRead, PlacedRead}
+use Rattle.decoded.specs.DecodedTable.{procedureCount, programAt}
+use Rattle.table.specs.ReadTable.{outcomeRead, BodiesPlaced, BodiesNumbered, PlacedRead}
 use Rattle.table.specs.declared.Table.{Table}
 use Rattle.table.specs.declared.Table.the-variants as answer
-use Rattle.reach.specs.CallsInATable.{reachAt, anyLacksIn, anyWideIn}
+use Rattle.reach.specs.CallsInATable.{reachAt, anyLacksIn}
+use Rattle.widths.specs.KeptWidths.{anyWideIn, Judged, judged}
+use Rattle.widths.proofs.UnseenWidths.{same-placed}
 use Rattle.faults.specs.RowTable.{faultsAt}
-use Rattle.verdict.specs.declared.Checked.{Checked}
-use Rattle.verdict.specs.VerdictAnswers.{refusalAt, outcomeOf, checkedOutcome, PlacedChecked}
-use Rattle.verdict.proofs.RefusalOrder.{few-qubits, many-qubits, refused-table, read-table-checked}
+use Rattle.verdict.specs.VerdictAnswers.{refusalAt, LeavesProgram, leaves, outcomeOf, checkedOutcome, PlacedChecked, KnownChecked}
+use Rattle.verdict.proofs.RefusalOrder.{few-qubits, many-qubits, refused-table, read-table-checked, read-table-known}
 
 -- refusals 10, 11 and 12, or none
-module _ (p n : ℕ) (bs ix m : List ℕ) (is : m ≡ reachAt p bs ix) (lacks : Bool) (l : lacks ≡ anyLacksIn m p bs ix) where
-  pub checked-ten : lacks ≡ true → noRemoval ≡ refusalAt p bs ix n
+module _ (n : ℕ) (g m : List ℕ) (is : m ≡ reachAt g) (lacks : Bool) (l : lacks ≡ anyLacksIn m g) where
+  pub checked-ten : lacks ≡ true → noRemoval ≡ refusalAt g g n
   unfolding refusalAt
   checked-ten e = rw (← is, ← l, e)
 
-  module _ (e : lacks ≡ false) (wide : Bool) (w : wide ≡ anyWideIn m p bs ix) where
-    pub checked-eleven : wide ≡ true → tooWide ≡ refusalAt p bs ix n
+  module _ (e : lacks ≡ false) (wide : Bool) (h : List ℕ) (j : Judged m g (suc (procedureCount g)) wide h) where
+    width-told : wide ≡ anyWideIn m g
+    width-told = go j
+      where
+        go : Judged m g (suc (procedureCount g)) wide h → wide ≡ anyWideIn m g
+        go (judged k) = k .told
+
+    pub checked-eleven : wide ≡ true → tooWide ≡ refusalAt g h n
     unfolding refusalAt
-    checked-eleven q = rw (← is, ← l, e, ← w, q)
+    checked-eleven q = rw (← is, ← l, e, ← width-told, q)
 
-    module _ (q : wide ≡ false) (faulty : Bool) (f : faulty ≡ faultsAt p bs ix m n) where
-      pub checked-twelve : faulty ≡ true → accessFault ≡ refusalAt p bs ix n
+    module _ (q : wide ≡ false) (faulty : Bool) (f : faulty ≡ faultsAt h m n) where
+      pub checked-twelve : faulty ≡ true → accessFault ≡ refusalAt g h n
       unfolding refusalAt
-      checked-twelve t = rw (← is, ← l, e, ← w, q, ← f, t)
+      checked-twelve t = rw (← is, ← l, e, ← width-told, q, ← f, t)
 
-      pub checked-none : faulty ≡ false → 0 ≡ refusalAt p bs ix n
+      pub checked-none : faulty ≡ false → 0 ≡ refusalAt g h n
       unfolding refusalAt
-      checked-none t = rw (← is, ← l, e, ← w, q, ← f, t)
+      checked-none t = rw (← is, ← l, e, ← width-told, q, ← f, t)
 
-pub ruleset checks = (needs, checked-ten, checked-eleven, checked-twelve, checked-none)
+-- what is left of the program: no refusal has number 0
+pub leaves-ten : (g : List ℕ) → LeavesProgram noRemoval g g
+leaves-ten g = leaves (record { unseen = record { head = λ k l. refl; rows = λ k l. refl }; known = λ e. absurd (omega arith) })
+
+module _ (m g : List ℕ) (is : m ≡ reachAt g) (wide : Bool) (h : List ℕ) where
+  leaves-refused : (k : ℕ) → (k ≡ 0 → ⊥) → Judged m g (suc (procedureCount g)) wide h → LeavesProgram k g h
+  leaves-refused k some (judged j) = leaves (record { unseen = j .unseen; known = λ e. absurd (some e) })
+
+  pub leaves-eleven : Judged m g (suc (procedureCount g)) wide h → LeavesProgram tooWide g h
+  leaves-eleven = leaves-refused tooWide (λ e. omega arith)
+
+  pub leaves-twelve : Judged m g (suc (procedureCount g)) wide h → LeavesProgram accessFault g h
+  leaves-twelve = leaves-refused accessFault (λ e. omega arith)
+
+  pub leaves-none : Judged m g (suc (procedureCount g)) wide h → wide ≡ false → LeavesProgram 0 g h
+  leaves-none (judged j) q =
+      leaves (record { unseen = j .unseen; known = λ e ordered. rw (← is) (j .known q (omega arith) ordered) })
+
+pub ruleset checks = (needs, checked-ten, checked-eleven, checked-twelve, checked-none, leaves-ten, leaves-eleven, leaves-twelve, leaves-none)
 
 -- the table was refused, or read and checked
-module _ (bs ix : List ℕ) (n : ℕ) (z : n ≡ 0 → ⊥) (h : n ≤ mostQubits) (a : Table) (s : outcomeRead a bs ix ≡ outcome (readTable bs)) where
-  pub check-refused : (k f : ℕ) → a ≡ answer.Refused k → outcomeOf k (programAt f bs ix) ≡ accepted bs n
+module _ (bs g : List ℕ) (n : ℕ) (z : n ≡ 0 → ⊥) (h : n ≤ mostQubits) (a : Table) (s : outcomeRead a g ≡ outcome (readTable bs)) where
+  pub check-refused : (k : ℕ) → a ≡ answer.Refused k → outcomeOf k (programAt g) ≡ accepted bs n
   unfolding outcomeRead
-  check-refused k f e = refused-table bs n k (programAt f bs ix) z h (rw e at s)
+  check-refused k e = refused-table bs n k (programAt g) z h (rw e at s)
 
-  pub check-decided : (p number : ℕ) → a ≡ answer.Read p → number ≡ refusalAt p bs ix n → outcomeOf number (programAt p bs ix) ≡ accepted bs n
+  pub check-decided : (number : ℕ) (k : List ℕ) → a ≡ answer.Read → number ≡ refusalAt g k n → LeavesProgram number g k →
+      outcomeOf number (programAt k) ≡ accepted bs n
   unfolding outcomeRead
-  check-decided p number e q = rw q (read-table-checked bs ix p n z h (rw e at s))
+  check-decided number k e q (leaves o) = rw q (read-table-checked bs g k (o .unseen) n (rw e at s) z h)
 
--- the index of a table that was accepted is the reader's; no refusal has number 0
-pub wrong-unplaced : (bs ix : List ℕ) (f : ℕ) → PlacedChecked (record { number = wrongQubits; procedures = f }) bs ix
+-- the program of a table that was accepted places its bodies and knows their widths; no refusal has number 0
+pub wrong-unplaced : (bs g : List ℕ) → PlacedChecked wrongQubits bs g
 unfolding PlacedChecked
-wrong-unplaced bs ix f e = absurd (omega arith)
+wrong-unplaced bs g e = absurd (omega arith)
 
-module _ (bs ix : List ℕ) (a : Table) where
-  pub refused-unplaced : (k f : ℕ) → outcomeRead a bs ix ≡ outcome (readTable bs) → a ≡ answer.Refused k →
-      PlacedChecked (record { number = k; procedures = f }) bs ix
-  unfolding PlacedChecked outcomeRead
-  refused-unplaced k f s e z = let low = rw (← s, e) at (outcome-read bs) in absurd (omega (arith, low .0))
+pub wrong-unknown : (g : List ℕ) → KnownChecked wrongQubits g
+unfolding KnownChecked
+wrong-unknown g e = absurd (omega arith)
 
-  pub read-placed : (p number : ℕ) → PlacedRead a bs ix → a ≡ answer.Read p → PlacedChecked (record { number = number; procedures = p }) bs ix
-  unfolding PlacedChecked PlacedRead
-  read-placed p number s e z = rw e at s
+module _ (bs g : List ℕ) (a : Table) (s : outcomeRead a g ≡ outcome (readTable bs)) where
+  some-refusal : (k : ℕ) → a ≡ answer.Refused k → k ≡ 0 → ⊥
+  unfolding outcomeRead
+  some-refusal k e z = let low = rw (← s, e) at (outcome-read bs) in omega (arith, low .0)
 
-pub ruleset verdicts = (needs, few-qubits, many-qubits, check-refused, check-decided, wrong-unplaced, refused-unplaced, read-placed)
+  pub refused-unplaced : (k : ℕ) → a ≡ answer.Refused k → PlacedChecked k bs g
+  unfolding PlacedChecked
+  refused-unplaced k e z = absurd (some-refusal k e z)
+
+  pub refused-unknown : (k : ℕ) → a ≡ answer.Refused k → KnownChecked k g
+  unfolding KnownChecked
+  refused-unknown k e z = absurd (some-refusal k e z)
+
+  module _ (placed : PlacedRead a bs g) (e : a ≡ answer.Read) where
+    read-both : BodiesPlaced bs g × BodiesNumbered g
+    unfolding PlacedRead
+    read-both = rw e at placed
+
+    pub read-placed : (number : ℕ) (h : List ℕ) → LeavesProgram number g h → PlacedChecked number bs h
+    unfolding PlacedChecked
+    read-placed number h (leaves o) z = same-placed g h (o .unseen) bs (read-both .0)
+
+    pub read-known : (number : ℕ) (h : List ℕ) → LeavesProgram number g h → KnownChecked number h
+    unfolding KnownChecked outcomeRead
+    read-known number h (leaves o) z = read-table-known bs g h (o .unseen) 0 (rw e at s) (o .known z (read-both .1))
+
+pub ruleset verdicts = (
+    needs, few-qubits, many-qubits, check-refused, check-decided, wrong-unplaced, wrong-unknown, refused-unplaced, refused-unknown, read-placed, read-known)
 
 -- an answer that is accepted or refused
 refused-is : (m : ℕ) (P : Program) (x : Outcome Program) → outcomeOf m P ≡ x → (m ≡ 0 → ⊥) → x ≡ refuses m
@@ -79,25 +127,25 @@ given-is : (m : ℕ) (P : Program) (x : Outcome Program) → outcomeOf m P ≡ x
 unfolding outcomeOf
 given-is m P x e none = sym (rw none at e)
 
-module _ (bs ix : List ℕ) (n space : ℕ) (j : Checked) (is : checkedOutcome j bs ix ≡ accepted bs n) where
+module _ (bs g : List ℕ) (n space j : ℕ) (is : checkedOutcome j g ≡ accepted bs n) where
   -- a checked table is refused
-  pub refused-checked : (j .number ≡ 0 → ⊥) → accepted bs n ≡ refuses (j .number)
-  refused-checked some = refused-is (j .number) (programAt (j .procedures) bs ix) (accepted bs n) is some
+  pub refused-checked : (j ≡ 0 → ⊥) → accepted bs n ≡ refuses j
+  refused-checked some = refused-is j (programAt g) (accepted bs n) is some
 
   -- or accepted
-  pub accepted-checked : j .number ≡ 0 → accepted bs n ≡ gives (programAt (j .procedures) bs ix)
-  accepted-checked none = given-is (j .number) (programAt (j .procedures) bs ix) (accepted bs n) is none
+  pub accepted-checked : j ≡ 0 → accepted bs n ≡ gives (programAt g)
+  accepted-checked none = given-is j (programAt g) (accepted bs n) is none
 
   -- the ways out of `verdict`
-  pub verdict-refused : (j .number ≡ 0 → ⊥) → j .number ≡ number (verdict bs n space)
+  pub verdict-refused : (j ≡ 0 → ⊥) → j ≡ number (verdict bs n space)
   unfolding verdict after number
   verdict-refused some = rw (refused-checked some)
 
-  pub verdict-short : j .number ≡ 0 → space < leastWorkspace → shortWorkspace ≡ number (verdict bs n space)
+  pub verdict-short : j ≡ 0 → space < leastWorkspace → shortWorkspace ≡ number (verdict bs n space)
   unfolding verdict after require number
   verdict-short none h = rw (accepted-checked none, lt-leb leastWorkspace space h)
 
-  pub verdict-given : j .number ≡ 0 → leastWorkspace ≤ space → 0 ≡ number (verdict bs n space)
+  pub verdict-given : j ≡ 0 → leastWorkspace ≤ space → 0 ≡ number (verdict bs n space)
   unfolding verdict after require number
   verdict-given none h = rw (accepted-checked none, le-leb leastWorkspace space h)
 

@@ -1,4 +1,4 @@
--- What the verdict's answers say, and the refusals of a table that was read, by its index.
+-- What the verdict's answers say, and the refusals of a table that was read and decoded.
 use Prim.Native.Nat.{ℕ, zero, suc}
 use mathlib.Core.Path.{_≡_}
 use mathlib.Core.Bool.{cond}
@@ -6,27 +6,39 @@ use mathlib.Core.List.{List}
 use Rattle.model.specs.Limits.{noRemoval, tooWide, accessFault, success}
 use Rattle.model.specs.Syntax.{Program}
 use Rattle.model.specs.Answers.{Outcome, gives, refuses}
-use Rattle.table.specs.Index.{programAt, BodiesPlaced}
-use Rattle.reach.specs.CallsInATable.{reachAt, anyLacksIn, anyWideIn}
+use Rattle.decoded.specs.DecodedTable.{procedureCount, programAt}
+use Rattle.table.specs.ReadTable.{BodiesPlaced, BodiesNumbered}
+use Rattle.reach.specs.CallsInATable.{reachAt, anyLacksIn}
+use Rattle.widths.specs.KeptWidths.{Unseen, anyWideIn, KnownBelow, WidthsKnown}
 use Rattle.faults.specs.RowTable.{faultsAt}
-use Rattle.verdict.specs.declared.Checked.{Checked}
 
--- "10 over the whole table, then 11, then 12"
-unfoldable pub refusalAt : ℕ → List ℕ → List ℕ → ℕ → ℕ
-refusalAt p bs ix n =
-    cond (anyLacksIn (reachAt p bs ix) p bs ix) noRemoval
-    (cond (anyWideIn (reachAt p bs ix) p bs ix) tooWide
-    (cond (faultsAt p bs ix (reachAt p bs ix) n) accessFault success))
+-- "10 over the whole table, then 11, then 12": of a program g, of which h is left when its widths are kept
+unfoldable pub refusalAt : List ℕ → List ℕ → ℕ → ℕ
+refusalAt g h n =
+    cond (anyLacksIn (reachAt g) g) noRemoval
+    (cond (anyWideIn (reachAt g) g) tooWide
+    (cond (faultsAt h (reachAt g) n) accessFault success))
+
+-- what is left of the program when it was checked: only widths are kept beside it, and where it was accepted they are known
+pub record Leaves (number : ℕ) (g h : List ℕ) : Type 0 where
+  pub unseen : Unseen g h
+  pub known : number ≡ success → BodiesNumbered g → KnownBelow (reachAt g) h (suc (procedureCount g))
+
+pub data LeavesProgram (number : ℕ) (g h : List ℕ) : Type 0 where
+  leaves : Leaves number g h → LeavesProgram number g h
 
 -- number 0 with a program, or a refusal
 unfoldable pub outcomeOf : ℕ → Program → Outcome Program
 outcomeOf zero P = gives P
 outcomeOf (suc k) P = refuses (suc k)
 
--- what an answer says, with the index that was left
-abbrev pub checkedOutcome : Checked → List ℕ → List ℕ → Outcome Program
-checkedOutcome r bs ix = outcomeOf (r .number) (programAt (r .procedures) bs ix)
+-- what a number says, with the program that was left
+abbrev pub checkedOutcome : ℕ → List ℕ → Outcome Program
+checkedOutcome k g = outcomeOf k (programAt g)
 
--- where a table was accepted, the index that was left places its bodies
-unfoldable pub PlacedChecked : Checked → List ℕ → List ℕ → Type 0
-PlacedChecked r bs ix = r .number ≡ success → BodiesPlaced (r .procedures) bs ix
+-- where a table was accepted, the program that was left places its bodies, and knows its widths
+unfoldable pub PlacedChecked : ℕ → List ℕ → List ℕ → Type 0
+PlacedChecked k bs g = k ≡ success → BodiesPlaced bs g
+
+unfoldable pub KnownChecked : ℕ → List ℕ → Type 0
+KnownChecked k g = k ≡ success → WidthsKnown g

@@ -8,9 +8,7 @@ pub compile-emission-spec : {M : Type 1} → statement M
 compile-emission-spec = tie.close (tie.spec
     (λ c. search delivering)
     (λ c κs. search needs)
-    (λ c. search needs)
     (λ c. search delivering)
     (λ c κs. search needs)
-    (λ c. search needs)
     (λ c. search needs)
     (λ c. search delivering))

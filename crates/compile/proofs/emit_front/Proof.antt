@@ -11,7 +11,6 @@ emit-front-spec = tie.close (tie.spec
     (λ c. search needs)
     (λ c κs. search needs)
     (λ c. search needs)
-    (λ c. search needs)
-    (λ c. let at-call = c .before .before .before .before in
-      let args = at-call .before .before .before .before .before .before .before .args in
-      front-emitted (args .end) (args .text .now) (at-call .emit-main .last .1 .1 .1 .1 .1 .0) _ (search needs) (search needs) (search needs)))
+    (λ c. let at-call = c .before .before in
+      let args = at-call .before .before .before .before .args in
+      front-emitted (args .end) (args .text .now) (at-call .emit-main .last .1 .1 .0) _ (search needs) (search needs) (search needs)))

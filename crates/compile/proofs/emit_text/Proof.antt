@@ -8,5 +8,4 @@ pub emit-text-spec : {M : Type 1} → statement M
 emit-text-spec = tie.close (tie.spec
     (λ c κs. search needs)
     (λ c κs. search needs)
-    (λ c. search needs)
     (λ c. search delivering))

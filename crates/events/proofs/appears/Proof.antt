@@ -7,10 +7,10 @@ use Rattle.events.proofs.appears.Statement.{statement}
 use Rattle.events.proofs.appears.Tie as tie
 
 abbrev Inv-loop : tie.InvT-loop
-Inv-loop ws from upto f m a₀ a = appears ws a (upto - a) f m ≡ appears ws from (upto - from) f m
+Inv-loop slots from upto f m a₀ a = appears slots a (upto - a) f m ≡ appears slots from (upto - from) f m
 
 abbrev μ-loop : tie.MeasureT-loop
-μ-loop ws from upto f m a₀ a = upto - a
+μ-loop slots from upto f m a₀ a = upto - a
 
 pub appears-spec : {M : Type 1} → statement M
 appears-spec = tie.close (tie.spec

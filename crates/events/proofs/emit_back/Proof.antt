@@ -3,7 +3,7 @@ use Prim.Native.Nat.{_+_, _-_, _≤_}
 use native.Mathlib.Omega.{arith}
 use mathlib.Core.Path.{_≡_, refl}
 use lib.ListN.{length}
-use Rattle.model.specs.Limits.{mostQubits}
+use Rattle.limits.specs.Sizes.{setLength}
 use Rattle.lookup.specs.Plans.{pairsOf}
 use Rattle.events.specs.Scan.{progress}
 use Rattle.events.proofs.EntryGates.{Back, back-next, following}
@@ -12,7 +12,7 @@ use Rattle.events.proofs.emit_back.Tie as tie
 
 abbrev Inv-loop : tie.InvT-loop
 Inv-loop e room₀ plan done₀ i₀ room done i =
-    (i₀ ≡ length (pairsOf plan)) × (i ≤ i₀) × (i₀ ≤ mostQubits) × (length room ≡ length room₀) × Back e plan (progress done₀ room₀) (progress done room) i
+    (i₀ ≡ length (pairsOf plan)) × (i ≤ i₀) × (i₀ ≤ setLength) × (length room ≡ length room₀) × Back e plan (progress done₀ room₀) (progress done room) i
 
 abbrev μ-loop : tie.MeasureT-loop
 μ-loop e room₀ plan done₀ i₀ room done i = i

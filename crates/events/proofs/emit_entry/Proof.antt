@@ -10,6 +10,8 @@ emit-entry-spec = tie.close (tie.spec
     (λ c κs. search needs)
     (λ c κs. search needs)
     (λ c κs. search needs)
+    (λ c κs. search needs)
     (λ c. search needs)
+    (λ c. search gating)
     (λ c. search gating)
     (λ c. search gating))

@@ -2,7 +2,7 @@
 use Prim.Native.Nat.{_-_, _≤_}
 use mathlib.Core.Path.{_≡_, refl}
 use lib.ListN.{length}
-use Rattle.model.specs.Limits.{mostQubits}
+use Rattle.limits.specs.Sizes.{setLength}
 use Rattle.lookup.specs.Plans.{pairsOf}
 use Rattle.events.specs.Scan.{progress}
 use Rattle.events.proofs.EntryGates.{Forth, forth-next, following}
@@ -11,7 +11,7 @@ use Rattle.events.proofs.emit_forth.Tie as tie
 
 abbrev Inv-loop : tie.InvT-loop
 Inv-loop e room₀ plan count done₀ i₀ room done i =
-    (count ≡ length (pairsOf plan)) × (count ≤ mostQubits) × (length room ≡ length room₀) × Forth e plan (progress done₀ room₀) (progress done room) i
+    (count ≡ length (pairsOf plan)) × (count ≤ setLength) × (length room ≡ length room₀) × Forth e plan (progress done₀ room₀) (progress done room) i
 
 abbrev μ-loop : tie.MeasureT-loop
 μ-loop e room₀ plan count done₀ i₀ room done i = count - i

@@ -7,8 +7,7 @@ use Rattle.events.proofs.flip_again.Tie as tie
 pub flip-again-spec : {M : Type 1} → statement M
 flip-again-spec = tie.close (tie.spec
     (λ c κs. search needs)
-    (λ c. search finishing)
-    (λ c κs. search needs)
     (λ c κs. search needs)
     (λ c. search needs)
+    (λ c. search finishing)
     (λ c. search finishing))

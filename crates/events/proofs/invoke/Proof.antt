@@ -6,11 +6,9 @@ use Rattle.events.proofs.invoke.Tie as tie
 
 pub invoke-spec : {M : Type 1} → statement M
 invoke-spec = tie.close (tie.spec
-    (λ c κs. search needs)
     (λ c. search invoking)
     (λ c κs. search needs)
     (λ c κs. search needs)
     (λ c κs. search needs)
-    (λ c. search needs)
     (λ c. search needs)
     (λ c. search invoking))

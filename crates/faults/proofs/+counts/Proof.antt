@@ -8,18 +8,18 @@ use Rattle.faults.proofs.counts.Kinds as counts-kinds
 use Rattle.faults.proofs.+counts.Lts-counts as counts-lts
 use Rattle.faults.proofs.mark.Reads as mark-reads
 use Rattle.reach.proofs.parts_at.Reads as parts-at-reads
-use Rattle.reach.proofs.removal_count.Reads as removal-count-reads
+use Rattle.step.proofs.removal_count.Reads as removal-count-reads
 use Rattle.faults.proofs.+counts.{statement}
 use Rattle.faults.proofs.+counts.Tie.{close}
 
-abbrev μ-counts : Measures 2 counts-kinds.ps ℕ
-μ-counts κs a = a .1 .1 .1 .1 .0
+abbrev μ-counts : Measures 1 counts-kinds.ps ℕ
+μ-counts κs a = a .1 .1 .0
 
-abbrev counts-at : ℕ → In 2 counts-kinds.ps
-counts-at t = and 2 counts-kinds.ps (is 2 counts-kinds.ps μ-counts t) counts.Pre
+abbrev counts-at : ℕ → In 1 counts-kinds.ps
+counts-at t = and 1 counts-kinds.ps (is 1 counts-kinds.ps μ-counts t) counts.Pre
 
-abbrev counts-below : ℕ → In 2 counts-kinds.ps
-counts-below t = and 2 counts-kinds.ps (falls 2 counts-kinds.ps _<_ μ-counts t) counts.Pre
+abbrev counts-below : ℕ → In 1 counts-kinds.ps
+counts-below t = and 1 counts-kinds.ps (falls 1 counts-kinds.ps _<_ μ-counts t) counts.Pre
 
 pub +counts-spec : {M : Type 1} → statement M
 +counts-spec = close μ-counts λ t. counts-lts.spec (

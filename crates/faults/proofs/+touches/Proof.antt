@@ -16,14 +16,14 @@ use Rattle.step.proofs.step_at.Reads as step-at-reads
 use Rattle.faults.proofs.+touches.{statement}
 use Rattle.faults.proofs.+touches.Tie.{close}
 
-abbrev μ-touches : Measures 3 touches-kinds.ps ℕ
-μ-touches κs a = a .1 .1 .1 .1 .0
+abbrev μ-touches : Measures 2 touches-kinds.ps ℕ
+μ-touches κs a = a .1 .1 .0
 
-abbrev touches-at : ℕ → In 3 touches-kinds.ps
-touches-at t = and 3 touches-kinds.ps (is 3 touches-kinds.ps μ-touches t) touches.Pre
+abbrev touches-at : ℕ → In 2 touches-kinds.ps
+touches-at t = and 2 touches-kinds.ps (is 2 touches-kinds.ps μ-touches t) touches.Pre
 
-abbrev touches-below : ℕ → In 3 touches-kinds.ps
-touches-below t = and 3 touches-kinds.ps (falls 3 touches-kinds.ps _<_ μ-touches t) touches.Pre
+abbrev touches-below : ℕ → In 2 touches-kinds.ps
+touches-below t = and 2 touches-kinds.ps (falls 2 touches-kinds.ps _<_ μ-touches t) touches.Pre
 
 pub +touches-spec : {M : Type 1} → statement M
 +touches-spec = close μ-touches λ t. touches-lts.spec (
@@ -49,6 +49,7 @@ pub +touches-spec : {M : Type 1} → statement M
     (λ c. search walking)
     (λ c κs. search walking)
     (λ c κs. search walking)
+    (λ c. search walking)
     (λ c. search walking)
     (λ c. search walking)
     (λ c κs. search walking)

@@ -7,10 +7,10 @@ use Rattle.faults.proofs.all_counts.Statement.{statement}
 use Rattle.faults.proofs.all_counts.Tie as tie
 
 abbrev Inv-loop : tie.InvT-loop
-Inv-loop table index p all₀ f₀ all f = (f ≤ p) × (all ≡ countsBelow p table index f)
+Inv-loop program p all₀ f₀ all f = (f ≤ p) × (all ≡ countsBelow program f)
 
 abbrev μ-loop : tie.MeasureT-loop
-μ-loop table index p all₀ f₀ all f = p - f
+μ-loop program p all₀ f₀ all f = p - f
 
 pub all-counts-spec : {M : Type 1} → statement M
 all-counts-spec =
@@ -18,6 +18,7 @@ all-counts-spec =
     (tie.spec
     Inv-loop
     μ-loop
+    (λ c κs. search counting)
     (λ c. search counting)
     (λ c κs. search counting)
     (λ c κs. search counting)

@@ -7,10 +7,10 @@ use Rattle.faults.proofs.fill.Statement.{statement}
 use Rattle.faults.proofs.fill.Tie as tie
 
 abbrev Inv-loop : tie.InvT-loop
-Inv-loop table index p n matrix known₀ ranks sums m₀ known m = (m ≤ n) × (known ≡ filled p table index ranks sums n m known₀)
+Inv-loop program n matrix known₀ ranks sums m₀ known m = (m ≤ n) × (known ≡ filled program ranks sums n m known₀)
 
 abbrev μ-loop : tie.MeasureT-loop
-μ-loop table index p n matrix known₀ ranks sums m₀ known m = n - m
+μ-loop program n matrix known₀ ranks sums m₀ known m = n - m
 
 pub fill-spec : {M : Type 1} → statement M
 fill-spec =
@@ -18,6 +18,7 @@ fill-spec =
     (tie.spec
     Inv-loop
     μ-loop
+    (λ c κs. search filling)
     (λ c κs. search filling)
     (λ c κs. search filling)
     (λ c κs. search filling)

@@ -7,10 +7,10 @@ use Rattle.faults.proofs.fill_length.Statement.{statement}
 use Rattle.faults.proofs.fill_length.Tie as tie
 
 abbrev Inv-loop : tie.InvT-loop
-Inv-loop table index p m ranks known₀ highest k₀ known k = (k ≤ p) × (known ≡ filledLength p table index ranks k m known₀)
+Inv-loop program m ranks known₀ highest k₀ known k = (k ≤ highest) × (known ≡ filledLength program ranks k m known₀)
 
 abbrev μ-loop : tie.MeasureT-loop
-μ-loop table index p m ranks known₀ highest k₀ known k = p - k
+μ-loop program m ranks known₀ highest k₀ known k = highest - k
 
 pub fill-length-spec : {M : Type 1} → statement M
 fill-length-spec =
@@ -18,6 +18,8 @@ fill-length-spec =
     (tie.spec
     Inv-loop
     μ-loop
+    (λ c κs. search filling)
+    (λ c. search filling)
     (λ c. search filling)
     (λ c. search filling)
     (λ c κs. search filling)

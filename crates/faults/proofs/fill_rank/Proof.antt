@@ -7,10 +7,10 @@ use Rattle.faults.proofs.fill_rank.Statement.{statement}
 use Rattle.faults.proofs.fill_rank.Tie as tie
 
 abbrev Inv-loop : tie.InvT-loop
-Inv-loop table index p k m ranks known₀ f₀ known f = (f ≤ p) × (known ≡ filledRank p table index ranks f k m known₀)
+Inv-loop program k m ranks known₀ p f₀ known f = (f ≤ p) × (known ≡ filledRank program ranks f k m known₀)
 
 abbrev μ-loop : tie.MeasureT-loop
-μ-loop table index p k m ranks known₀ f₀ known f = p - f
+μ-loop program k m ranks known₀ p f₀ known f = p - f
 
 pub fill-rank-spec : {M : Type 1} → statement M
 fill-rank-spec =
@@ -18,6 +18,7 @@ fill-rank-spec =
     (tie.spec
     Inv-loop
     μ-loop
+    (λ c κs. search filling)
     (λ c. search filling)
     (λ c. search filling)
     (λ c κs. search filling)

@@ -1,3 +1,4 @@
+-- `put_turned` meets its contract: each way out is one law.
 use Rattle.inverse.proofs.CopiedRecords.{turning}
 use Prim.Native.Nat.{ℕ, _<_}
 use borrow.Fn.Kinds.{In}
@@ -6,13 +7,13 @@ use Rattle.inverse.proofs.put_turned.Reads as put-turned
 use Rattle.inverse.proofs.put_turned.Kinds as put-turned-kinds
 use Rattle.inverse.proofs.+put_turned.Lts-put_turned as put-turned-lts
 use Rattle.inverse.proofs.put_piece.Reads as put-piece-reads
+use Rattle.inverse.proofs.start.Reads as start-reads
 use Rattle.reach.proofs.parts_at.Reads as parts-at-reads
-use Rattle.step.proofs.start.Reads as start-reads
 use Rattle.inverse.proofs.+put_turned.{statement}
 use Rattle.inverse.proofs.+put_turned.Tie.{close}
 
 abbrev μ-put-turned : Measures 3 put-turned-kinds.ps ℕ
-μ-put-turned κs a = a .1 .1 .1 .1 .1 .0
+μ-put-turned κs a = a .1 .1 .1 .1 .0
 
 abbrev put-turned-at : ℕ → In 3 put-turned-kinds.ps
 put-turned-at t =

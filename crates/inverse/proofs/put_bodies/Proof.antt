@@ -9,11 +9,11 @@ use Rattle.inverse.proofs.put_bodies.Statement.{statement}
 use Rattle.inverse.proofs.put_bodies.Tie as tie
 
 abbrev Inv-loop : tie.InvT-loop
-Inv-loop table index p room₀ at place₀ f₀ room place f =
-    (length room ≡ length room₀) × (written room place ≡ puts (turnedBelow p table index f) room₀ at) × (f ≤ p)
+Inv-loop table program p room₀ at place₀ f₀ room place f =
+    (length room ≡ length room₀) × (written room place ≡ puts (turnedBelow table program f) room₀ at) × (f ≤ p)
 
 abbrev μ-loop : tie.MeasureT-loop
-μ-loop table index p room₀ at place₀ f₀ room place f = p - f
+μ-loop table program p room₀ at place₀ f₀ room place f = p - f
 
 pub put-bodies-spec : {M : Type 1} → statement M
 put-bodies-spec = tie.close (tie.spec

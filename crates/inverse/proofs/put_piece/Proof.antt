@@ -2,7 +2,7 @@
 use mathlib.Core.Path.{_≡_}
 use Prim.Native.Nat.{_-_}
 use lib.ListN.{length}
-use Rattle.table.specs.Index.{piece}
+use Rattle.table.specs.ReadTable.{piece}
 use Rattle.text.specs.AppendedBytes.{puts}
 use Rattle.inverse.proofs.CopiedRecords.{copying}
 use Rattle.inverse.proofs.put_piece.Statement.{statement}

@@ -7,5 +7,6 @@ pub put-table-spec : {M : Type 1} → statement M
 put-table-spec = tie.close (tie.spec
     (λ c κs. search bodies)
     (λ c κs. search bodies)
+    (λ c κs. search bodies)
     (λ c. search bodies)
     (λ c. search bodies))

@@ -18,6 +18,7 @@ main-spec = tie.close (tie.spec
     (λ c. tt)
     (λ c κs. search needs)
     (λ c κs. search needs)
+    (λ c κs. search needs)
     (λ c. search needs)
     (λ c. search needs)
     (λ c. tt)

@@ -1,30 +1,25 @@
--- `reach::any_lacks_removal` meets its contract: before procedure f no body below f lacks a removal.
-use mathlib.Core.Path.{_≡_}
-use mathlib.Core.Bool.{false}
-use Prim.Native.Nat.{_-_, _≤_}
-use Rattle.model.specs.Reach.{anyBelow}
-use Rattle.reach.specs.CallsInATable.{lacksIn}
-use Rattle.reach.proofs.CallsAndWidths.{bodies}
+-- `any_lacks_removal` meets its contract: each way out is one law.
+use Rattle.reach.proofs.CallsOfAStatement.{bodies}
+use borrow.Author.Needs.{needs}
 use Rattle.reach.proofs.any_lacks_removal.Statement.{statement}
 use Rattle.reach.proofs.any_lacks_removal.Tie as tie
+use Rattle.reach.proofs.any_lacks_removal.Reads as reads
+use Rattle.reach.proofs.any_lacks_removal.Lts as lts
+use Rattle.reach.proofs.one_lacks_removal.Reads as one-lacks-removal-reads
+use Rattle.step.proofs.procedures.Reads as procedures-reads
 
-abbrev Inv-loop : tie.InvT-loop
-Inv-loop table index p matrix f₀ f = (anyBelow f (lacksIn matrix p table index) ≡ false) × (f ≤ p)
+-- src/lib.rt:239:32
+procedures-requires : tie.Need-procedures-requires
+procedures-requires c κs = search needs
 
-abbrev μ-loop : tie.MeasureT-loop
-μ-loop table index p matrix f₀ f = p - f
+-- src/lib.rt:239:5
+one-lacks-removal-requires : tie.Need-one-lacks-removal-requires
+one-lacks-removal-requires c κs = search needs
+
+-- src/lib.rt:236:1
+returns : tie.Need-returns
+returns c = search bodies
 
 pub any-lacks-removal-spec : {M : Type 1} → statement M
 any-lacks-removal-spec =
-    tie.close
-    (tie.spec
-    Inv-loop
-    μ-loop
-    (λ c. search bodies)
-    (λ c κs. search bodies)
-    (λ c. search bodies)
-    (λ c. search bodies)
-    (λ c. search bodies)
-    (λ c. search bodies)
-    (λ c. search bodies)
-    (λ c. search bodies))
+    tie.close (tie.spec procedures-requires one-lacks-removal-requires returns)

@@ -1,14 +1,34 @@
--- `reach::fill_reach` meets its contract: marked and closed, the matrix is the table of reach.
+-- `fill_reach` meets its contract: each way out is one law.
+use Rattle.reach.proofs.CallsOfAStatement.{bodies}
 use borrow.Author.Needs.{needs}
-use Rattle.reach.proofs.CallsAndWidths.{bodies}
 use Rattle.reach.proofs.fill_reach.Statement.{statement}
 use Rattle.reach.proofs.fill_reach.Tie as tie
+use Rattle.reach.proofs.fill_reach.Reads as reads
+use Rattle.reach.proofs.fill_reach.Lts as lts
+use Rattle.reach.proofs.close.Reads as close-reads
+use Rattle.reach.proofs.mark_bodies.Reads as mark-bodies-reads
+use Rattle.step.proofs.procedures.Reads as procedures-reads
+
+-- src/lib.rt:183:9
+procedures-requires : tie.Need-procedures-requires
+procedures-requires c κs = search needs
+
+-- src/lib.rt:185:9
+returns : tie.Need-returns
+returns c = search bodies
+
+-- src/lib.rt:187:5
+mark-bodies-requires : tie.Need-mark-bodies-requires
+mark-bodies-requires c κs = search needs
+
+-- src/lib.rt:188:5
+close-requires : tie.Need-close-requires
+close-requires c κs = search needs
+
+-- src/lib.rt:179:1
+returns-2 : tie.Need-returns-2
+returns-2 c = search bodies
 
 pub fill-reach-spec : {M : Type 1} → statement M
 fill-reach-spec =
-    tie.close
-    (tie.spec
-    (λ c. search bodies)
-    (λ c κs. search needs)
-    (λ c κs. search needs)
-    (λ c. search bodies))
+    tie.close (tie.spec procedures-requires returns mark-bodies-requires close-requires returns-2)

@@ -1,13 +1,24 @@
--- `reach::parts_at` meets its contract: the step of the record is taken on an empty list.
+-- `parts_at` meets its contract: each way out is one law.
+use Rattle.reach.proofs.CallsOfAStatement.{looking}
 use borrow.Author.Needs.{needs}
-use Rattle.reach.proofs.CallsAndWidths.{looking}
 use Rattle.reach.proofs.parts_at.Statement.{statement}
 use Rattle.reach.proofs.parts_at.Tie as tie
+use Rattle.reach.proofs.parts_at.Reads as reads
+use Rattle.reach.proofs.parts_at.Lts as lts
+use Rattle.reach.proofs.parts_of.Reads as parts-of-reads
+use Rattle.step.proofs.step_at.Reads as step-at-reads
+
+-- src/lib.rt:141:14
+step-at-requires : tie.Need-step-at-requires
+step-at-requires c κs = search needs
+
+-- src/lib.rt:141:5
+parts-of-requires : tie.Need-parts-of-requires
+parts-of-requires c κs = search needs
+
+-- src/lib.rt:138:1
+returns : tie.Need-returns
+returns c = search looking
 
 pub parts-at-spec : {M : Type 1} → statement M
-parts-at-spec =
-    tie.close
-    (tie.spec
-    (λ c κs. search needs)
-    (λ c κs. search needs)
-    (λ c. search looking))
+parts-at-spec = tie.close (tie.spec step-at-requires parts-of-requires returns)

@@ -1,7 +1,7 @@
 -- `reach::parts_of` meets its contract: each step has its parts.
 use borrow.Author.Needs.{needs}
 use Rattle.reach.specs.CallsInATable.{partsOf}
-use Rattle.reach.proofs.CallsAndWidths.{looking}
+use Rattle.reach.proofs.CallsOfAStatement.{looking}
 use Rattle.reach.proofs.parts_of.Statement.{statement}
 use Rattle.reach.proofs.parts_of.Tie as tie
 

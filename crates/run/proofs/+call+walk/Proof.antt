@@ -4,7 +4,7 @@ use mathlib.Core.Path.{_≡_}
 use Prim.Native.Nat.{ℕ, _+_, _*_, _≤_, _<_}
 use borrow.Fn.Kinds.{In}
 use borrow.Fn.PlainCycle.{Measures, is, falls, and}
-use Rattle.step.specs.Steps.{qubitsOf}
+use Rattle.sets.specs.Sets.{membersOf}
 use Rattle.run.specs.RunOnWords.{walked}
 use Rattle.run.proofs.WalkOfAWord.{calling, walking}
 use Rattle.run.proofs.call.Reads as call
@@ -15,44 +15,44 @@ use Rattle.run.proofs.walk.Kinds as walk-kinds
 use Rattle.run.proofs.+call+walk.Lts-walk as walk-lts
 use Rattle.run.proofs.flip.Reads as flip-reads
 use Rattle.run.proofs.taken.Reads as taken-reads
-use Rattle.reach.proofs.root.Reads as root-reads
 use Rattle.step.proofs.chosen.Reads as chosen-reads
+use Rattle.step.proofs.procedures.Reads as procedures-reads
 use Rattle.step.proofs.remaining.Reads as remaining-reads
-use Rattle.step.proofs.size.Reads as size-reads
+use Rattle.step.proofs.root.Reads as root-reads
 use Rattle.step.proofs.step_at.Reads as step-at-reads
 use Rattle.run.proofs.+call+walk.{statement}
 use Rattle.run.proofs.+call+walk.Tie.{close}
 
-abbrev μ-call : Measures 2 call-kinds.ps ℕ
-μ-call κs a = a .1 .1 .1 .1 .1 .0 * 256
+abbrev μ-call : Measures 1 call-kinds.ps ℕ
+μ-call κs a = a .1 .1 .1 .0 * 256
 
-abbrev μ-walk : Measures 2 walk-kinds.ps ℕ
-μ-walk κs a = a .1 .1 .1 .1 .1 .1 .0 * 256 + a .1 .1 .1 .1 .0
+abbrev μ-walk : Measures 1 walk-kinds.ps ℕ
+μ-walk κs a = a .1 .1 .1 .1 .0 * 256 + a .1 .1 .0
 
-abbrev call-at : ℕ → In 2 call-kinds.ps
-call-at t = and 2 call-kinds.ps (is 2 call-kinds.ps μ-call t) call.Pre
+abbrev call-at : ℕ → In 1 call-kinds.ps
+call-at t = and 1 call-kinds.ps (is 1 call-kinds.ps μ-call t) call.Pre
 
-abbrev call-below : ℕ → In 2 call-kinds.ps
-call-below t = and 2 call-kinds.ps (falls 2 call-kinds.ps _<_ μ-call t) call.Pre
+abbrev call-below : ℕ → In 1 call-kinds.ps
+call-below t = and 1 call-kinds.ps (falls 1 call-kinds.ps _<_ μ-call t) call.Pre
 
-abbrev walk-at : ℕ → In 2 walk-kinds.ps
-walk-at t = and 2 walk-kinds.ps (is 2 walk-kinds.ps μ-walk t) walk.Pre
+abbrev walk-at : ℕ → In 1 walk-kinds.ps
+walk-at t = and 1 walk-kinds.ps (is 1 walk-kinds.ps μ-walk t) walk.Pre
 
-abbrev walk-below : ℕ → In 2 walk-kinds.ps
-walk-below t = and 2 walk-kinds.ps (falls 2 walk-kinds.ps _<_ μ-walk t) walk.Pre
+abbrev walk-below : ℕ → In 1 walk-kinds.ps
+walk-below t = and 1 walk-kinds.ps (falls 1 walk-kinds.ps _<_ μ-walk t) walk.Pre
 
 -- what the statement at record `at` makes of the word as it is now is what the whole statement makes of the word given
 abbrev walk-Inv-loop : walk-lts.InvT-loop
-walk-Inv-loop table index p i depth list fuel word at₀ left₀ current₀ at left current =
-    (left ≤ depth) × (walked p table index left at (qubitsOf list) fuel current ≡ walked p table index depth i (qubitsOf list) fuel word)
+walk-Inv-loop program i depth list fuel word at₀ left₀ current₀ at left current =
+    (left ≤ depth) × (walked program left at (membersOf list) fuel current ≡ walked program depth i (membersOf list) fuel word)
 
 abbrev walk-μ-loop : walk-lts.MeasureT-loop
-walk-μ-loop table index p i depth list fuel word at₀ left₀ current₀ at left current = left
+walk-μ-loop program i depth list fuel word at₀ left₀ current₀ at left current = left
 
 pub +call+walk-spec : {M : Type 1} → statement M
 +call+walk-spec = close μ-call μ-walk (λ t. call-lts.spec (
-  size-reads.Asked,
-  size-reads.Learnt,
+  procedures-reads.Asked,
+  procedures-reads.Learnt,
   root-reads.Asked,
   root-reads.Learnt,
   walk-below t,
@@ -60,9 +60,9 @@ pub +call+walk-spec : {M : Type 1} → statement M
 )
     (call-at t)
     call.Post
+    (λ c. search calling)
+    (λ c. search calling)
     (λ c κs. search calling)
-    (λ c. search calling)
-    (λ c. search calling)
     (λ c. search calling)
     (λ c κs. search calling)
     (λ c. search calling)

@@ -5,11 +5,11 @@ use Rattle.run.proofs.end_word.Statement.{statement}
 use Rattle.run.proofs.end_word.Tie as tie
 
 pub end-word-spec : {M : Type 1} → statement M
-end-word-spec =
-    tie.close
-    (tie.spec
+end-word-spec = tie.close (tie.spec
     (λ c κs. search needs)
     (λ c κs. search needs)
+    (λ c κs. search needs)
+    (λ c. search needs)
     (λ c κs. search needs)
     (λ c. search needs)
     (λ c. search needs)

@@ -10,14 +10,14 @@ use Rattle.step.proofs.step_at.Reads as step-at-reads
 use Rattle.step.proofs.+holds.{statement}
 use Rattle.step.proofs.+holds.Tie.{close}
 
-abbrev μ-holds : Measures 2 holds-kinds.ps ℕ
-μ-holds κs a = a .1 .1 .1 .1 .1 .0
+abbrev μ-holds : Measures 1 holds-kinds.ps ℕ
+μ-holds κs a = a .1 .1 .1 .0
 
-abbrev holds-at : ℕ → In 2 holds-kinds.ps
-holds-at t = and 2 holds-kinds.ps (is 2 holds-kinds.ps μ-holds t) holds.Pre
+abbrev holds-at : ℕ → In 1 holds-kinds.ps
+holds-at t = and 1 holds-kinds.ps (is 1 holds-kinds.ps μ-holds t) holds.Pre
 
-abbrev holds-below : ℕ → In 2 holds-kinds.ps
-holds-below t = and 2 holds-kinds.ps (falls 2 holds-kinds.ps _<_ μ-holds t) holds.Pre
+abbrev holds-below : ℕ → In 1 holds-kinds.ps
+holds-below t = and 1 holds-kinds.ps (falls 1 holds-kinds.ps _<_ μ-holds t) holds.Pre
 
 pub +holds-spec : {M : Type 1} → statement M
 +holds-spec = close μ-holds λ t. holds-lts.spec (
@@ -52,12 +52,12 @@ pub +holds-spec : {M : Type 1} → statement M
     (λ c. search testing)
     (λ c. search testing)
     (λ c. let b = c .before .before in
-      held-and _ _ _ _ _ _ _ (b .before .before .before .before .before .if1 .left) (b .before .before .before .before .step-at .ensures) _ _ _
+      held-and _ _ _ _ _ (b .before .before .before .before .before .if1 .left) (b .before .before .before .before .step-at .ensures) _ _ _
       (b .holds .ensures) (b .before .before .step2 .given .1) (c .before .if2 .taken) _ (c .holds2 .ensures))
     (λ c. search testing)
     (λ c. search testing)
     (λ c. let b = c .before .before in
-      held-or _ _ _ _ _ _ _ (b .before .before .before .before .before .if1 .left) (b .before .before .before .before .step-at .ensures) _ _ _
+      held-or _ _ _ _ _ (b .before .before .before .before .before .if1 .left) (b .before .before .before .before .step-at .ensures) _ _ _
       (b .holds3 .ensures) (b .before .before .step3 .given .1) (c .before .if3 .left) _ (c .holds4 .ensures))
     (λ c. search testing)
     (λ c. search testing)

@@ -1,14 +1,27 @@
--- `step::all` meets its contract: its array is all qubits there can be.
+-- `all` meets its contract: each way out is one law.
+use Rattle.step.proofs.Removals.{lists}
 use borrow.Author.Needs.{needs}
-use Rattle.model.specs.Lists.{range}
-use Rattle.step.proofs.ListsInAnArray.{qubits-first}
 use Rattle.step.proofs.all.Statement.{statement}
 use Rattle.step.proofs.all.Tie as tie
+use Rattle.step.proofs.all.Reads as reads
+use Rattle.step.proofs.all.Lts as lts
+use Rattle.sets.proofs.full.Reads as full-reads
+
+-- src/lib.rt:55:26
+full-requires : tie.Need-full-requires
+full-requires c κs = search needs
+
+-- src/lib.rt:55:43
+full-requires-2 : tie.Need-full-requires-2
+full-requires-2 c κs = search needs
+
+-- src/lib.rt:52:1
+returns : tie.Need-returns
+returns c = search lists
+
+-- src/lib.rt:52:1
+returns-2 : tie.Need-returns-2
+returns-2 c = search lists
 
 pub all-spec : {M : Type 1} → statement M
-unfolding range
-all-spec =
-    tie.close
-    (tie.spec
-    (λ c κs. search needs)
-    (λ c. search (needs, qubits-first)))
+all-spec = tie.close (tie.spec full-requires full-requires-2 returns returns-2)

@@ -1,14 +1,28 @@
--- `step::subtree_end` meets its contract: past the end getD is 0.
+-- `subtree_end` meets its contract: each way out is one law.
+use Rattle.step.proofs.Removals.{lists}
 use borrow.Author.Needs.{needs}
-use Rattle.step.proofs.PlacesPastTheEnd.{far-past-end}
 use Rattle.step.proofs.subtree_end.Statement.{statement}
 use Rattle.step.proofs.subtree_end.Tie as tie
+use Rattle.step.proofs.subtree_end.Reads as reads
+use Rattle.step.proofs.subtree_end.Lts as lts
+use Rattle.step.proofs.row.Reads as row-reads
+use Rattle.step.proofs.word.Reads as word-reads
+
+-- src/lib.rt:139:17
+row-requires : tie.Need-row-requires
+row-requires c κs = search needs
+
+-- src/lib.rt:139:17
+add-word : tie.Need-add-word
+add-word c = search needs
+
+-- src/lib.rt:139:5
+word-requires : tie.Need-word-requires
+word-requires c κs = search needs
+
+-- src/lib.rt:136:1
+returns : tie.Need-returns
+returns c = search lists
 
 pub subtree-end-spec : {M : Type 1} → statement M
-subtree-end-spec =
-    tie.close
-    (tie.spec
-    (λ c. search (needs, far-past-end))
-    (λ c. search needs)
-    (λ c κs. search needs)
-    (λ c. search needs))
+subtree-end-spec = tie.close (tie.spec row-requires add-word word-requires returns)

@@ -12,6 +12,7 @@ use Rattle.table.proofs.+read_children+read_many+read_tree.Lts-read_man
 use Rattle.table.proofs.read_tree.Reads as read-tree
 use Rattle.table.proofs.read_tree.Kinds as read-tree-kinds
 use Rattle.table.proofs.+read_children+read_many+read_tree.Lts-read_tree as read-tree-lts
+use Rattle.decoded.proofs.put_record.Reads as put-record-reads
 use Rattle.table.proofs.note.Reads as note-reads
 use Rattle.table.proofs.parts.Reads as parts-reads
 use Rattle.table.proofs.read_contents.Reads as read-contents-reads
@@ -58,12 +59,14 @@ read-tree-below t =
 pub +read-children+read-many+read-tree-spec : {M : Type 1} → statement M
 +read-children+read-many+read-tree-spec =
     close μ-read-children μ-read-many μ-read-tree (λ t. read-children-lts.spec (
-      note-reads.Asked,
-      note-reads.Learnt,
+      put-record-reads.Asked,
+      put-record-reads.Learnt,
       parts-reads.Asked,
       parts-reads.Learnt,
       read-many-below t,
       read-many.Post,
+      note-reads.Asked,
+      note-reads.Learnt,
     )
     (read-children-at t)
     read-children.Post
@@ -80,15 +83,17 @@ pub +read-children+read-many+read-tree-spec : {M : Type 1} → statement M
     (λ c. search trees)
     (λ c. search trees)
     (λ c. search trees)
+    (λ c. search trees)
+    (λ c. search trees)
     (λ c κs. search trees)
     (λ c.
     let second = c .before .before .before .before .before in
     let first = second .before .before .before .before .before .before in
-    children-done _ _ _ _ _ _ _ _ _ _
-    (first .before .before .before .note .ensures) (first .before .before .parts .ensures) (first .read-many .ensures)
+    children-done _ _ _ _ _ _ _ _ _ _ _
+    (first .before .before .before .put-record .ensures) (first .before .before .parts .ensures) (first .read-many .ensures)
     _ _ (second .before .before .before .before .tree .given .1)
     _ _ _ (second .before .before .parts2 .ensures) (second .read-many2 .ensures)
-    _ _ _ (c .before .before .before .tree2 .given .1) (c .note2 .ensures)))
+    _ _ _ (c .before .before .before .tree2 .given .1) (c .note .ensures)))
     (λ t. read-many-lts.spec (
       read-tree-below t,
       read-tree.Post,

@@ -4,14 +4,14 @@ use borrow.Author.Needs.{needs}
 use Rattle.table.proofs.note.Statement.{statement}
 use Rattle.table.proofs.note.Tie as tie
 
-cast-index : tie.Need-cast-index
-cast-index c = search needs
+cast-program : tie.Need-cast-program
+cast-program c = search needs
 
-mul-index : tie.Need-mul-index
-mul-index c = search needs
+mul-program : tie.Need-mul-program
+mul-program c = search needs
 
-element-write-index : tie.Need-element-write-index
-element-write-index c = search needs
+element-write-program : tie.Need-element-write-program
+element-write-program c = search needs
 
 returns : tie.Need-returns
 returns c = search leaves
@@ -24,4 +24,4 @@ returns-3 c = search leaves
 
 pub note-spec : {M : Type 1} → statement M
 note-spec =
-    tie.close (tie.spec cast-index mul-index element-write-index returns returns-2 returns-3)
+    tie.close (tie.spec cast-program mul-program element-write-program returns returns-2 returns-3)

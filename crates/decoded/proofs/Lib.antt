@@ -1,0 +1,3 @@
+pub mod WordsOfARecord
+pub mod DecodedRecords
+pub mod KeptWords

@@ -1,0 +1,2 @@
+pub mod RecordWords
+pub mod DecodedTable

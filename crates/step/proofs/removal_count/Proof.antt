@@ -1,0 +1,23 @@
+-- `removal_count` meets its contract: each way out is one law.
+use Rattle.step.proofs.Removals.{lists}
+use borrow.Author.Needs.{needs}
+use Rattle.step.proofs.removal_count.Statement.{statement}
+use Rattle.step.proofs.removal_count.Tie as tie
+use Rattle.step.proofs.removal_count.Reads as reads
+use Rattle.step.proofs.removal_count.Lts as lts
+use Rattle.step.proofs.word.Reads as word-reads
+
+-- src/lib.rt:124:24
+add-word : tie.Need-add-word
+add-word c = search needs
+
+-- src/lib.rt:124:5
+word-requires : tie.Need-word-requires
+word-requires c κs = search needs
+
+-- src/lib.rt:121:1
+returns : tie.Need-returns
+returns c = search lists
+
+pub removal-count-spec : {M : Type 1} → statement M
+removal-count-spec = tie.close (tie.spec add-word word-requires returns)

@@ -1,0 +1,3 @@
+pub mod UnseenWidths
+pub mod CountedWidths
+pub mod TooWide

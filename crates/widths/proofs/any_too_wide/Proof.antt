@@ -1,0 +1,24 @@
+-- `any_too_wide` meets its contract: each way out is one law.
+use Rattle.widths.proofs.CountedWidths.{judging}
+use borrow.Author.Needs.{needs}
+use Rattle.widths.proofs.any_too_wide.Statement.{statement}
+use Rattle.widths.proofs.any_too_wide.Tie as tie
+use Rattle.widths.proofs.any_too_wide.Reads as reads
+use Rattle.widths.proofs.any_too_wide.Lts as lts
+use Rattle.step.proofs.procedures.Reads as procedures-reads
+use Rattle.widths.proofs.one_too_wide.Reads as one-too-wide-reads
+
+-- src/lib.rt:104:9
+procedures-requires : tie.Need-procedures-requires
+procedures-requires c κs = search needs
+
+-- src/lib.rt:105:5
+one-too-wide-requires : tie.Need-one-too-wide-requires
+one-too-wide-requires c κs = search needs
+
+-- src/lib.rt:101:1
+returns : tie.Need-returns
+returns c = search judging
+
+pub any-too-wide-spec : {M : Type 1} → statement M
+any-too-wide-spec = tie.close (tie.spec procedures-requires one-too-wide-requires returns)
