@@ -57,10 +57,10 @@
  * FOQ_ENOUGH_STACK bytes of stack are enough for a call. That is not proved but
  * measured, on x86-64, at the deepest tables that could be made:
  *
- *     foq_verdict       30 KiB
- *     foq_run          284 KiB
- *     foq_compile      376 KiB
- *     foq_inverse       30 KiB
+ *     foq_verdict       45 KiB
+ *     foq_run          118 KiB
+ *     foq_compile      300 KiB
+ *     foq_inverse       45 KiB
  *     foq_circuit_read   1 KiB
  *     foq_circuit_run    1 KiB
  *     foq_circuit_list   1 KiB
@@ -307,8 +307,8 @@ foq_answer foq_run(const uint8_t *table, size_t length, uint32_t n,
  *
  * The emission of a hostile table could be astronomical, but a call ends at the
  * first step that does not fit. Where it was measured, PAIRS on 32 qubits took a
- * fortieth of a millisecond and the slowest table that is known seven seconds: a
- * host that takes tables from strangers compiles them where it can stop them.
+ * fiftieth of a millisecond and the slowest table that is known an eighth of a
+ * second.
  */
 foq_answer foq_compile(const uint8_t *table, size_t length, uint32_t n,
                        uint8_t *room, size_t room_length, uint8_t *workspace,

@@ -72,8 +72,8 @@ fn print_case(name: &str, table: &[u8], room: &mut [u8], workspace: &mut [u8]) {
     print_rest(&title(" emission"), &rounds, [2, 3], [0, 1]);
 }
 
-/// The slowest table takes seconds, so that few calls are timed. Asserts with
-/// them that both give the same circuit or refusal.
+/// The slowest table takes long, so that few calls are timed. Asserts with them
+/// that both give the same circuit or refusal.
 fn print_slowest(room: &mut [u8], workspace: &mut [u8]) {
     let table = slowest_compile();
     let table = || black_box(table.as_slice());

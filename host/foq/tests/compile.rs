@@ -606,20 +606,19 @@ fn circuits_at_the_limits_end_as_runs_do() {
 }
 
 #[test]
-fn the_slowest_table_compiles_alike_on_few_qubits() {
+fn the_slowest_table_compiles_alike() {
     let mut both = Both::new();
     let mut random = Random::from_seed(92);
     let mut counts = Counts::new();
     let table = slowest_compile();
-    for n in 10..=17 {
+    for n in (10..=17).chain([SLOWEST_QUBITS, SLOWEST_QUBITS + 1]) {
         let words = sampled(&mut random, n, 30);
         both.run_circuit(&table, n, words, &mut counts);
     }
-    let least = [("refused", 1), ("accepted", 7), ("calls inside calls", 7)];
+    let least = [("refused", 2), ("accepted", 8), ("calls inside calls", 8)];
     assert_reached(&counts, &least);
 }
 
-/// The second interpreter alone: compile would take seconds.
 #[test]
 fn the_slowest_table_fills_the_longest_room() {
     let length = |n| {

@@ -3,7 +3,7 @@
 
 use crate::tables::{leaning_right, nested_bodies, MOST_PROCEDURES};
 use crate::tree::{
-    call, case, choose, in_order, longer_than, not, procedure, qcase, sequence, table, Condition,
+    call, case, choose, in_order, longer_than, not, procedure, sequence, table, Condition,
     Number, Statement,
 };
 use Number::{Constant, SizePlus};
@@ -147,10 +147,8 @@ pub fn deepest_emission(n: i16) -> Vec<u8> {
 pub const SLOWEST_QUBITS: u32 = 29;
 /// The qcases of [`slow_body`], each of which closes a qubit of its own.
 const SLOW_CASES: i16 = 11;
-/// The sequences of [`slow_body`].
-const SLOW_SEQUENCES: usize = 13;
 
-/// The slowest table for compile that is known, on 29 qubits: 255 records, and a
+/// The slowest table for compile that is known, on 29 qubits: 252 records, and a
 /// circuit of 65,515 bytes. Procedure 4 has a slow body, and its chain places no
 /// gates but the two flips, in eight bytes, so that 6,650 such chains fit. For
 /// that procedures 1 to 3 are nested classes: each goes on to itself without
@@ -169,26 +167,22 @@ pub fn slowest_compile() -> Vec<u8> {
     table(call(1, &[]), &bodies)
 }
 
-/// A body whose parts are slow to find, and which emits nothing. For each of
-/// its two parts every sequence asks for the width of its first statement, that
-/// is, of all that is below it; and for the right part every qcase counts the
-/// calls of its zero branch, for which the sequences below ask again. So the
-/// width of 180 records with eight removals each is found (11 + 2) × 13 times.
-/// They stand in branches that no if chooses, so that they touch nothing. The
-/// self call empties its list.
+/// A body whose parts are slow to find, and which emits nothing. For its right
+/// part every qcase counts the calls of its zero branch, and for that follows
+/// the conditions of the ifs below it once more: the 205 records of three
+/// conditions that do not hold are asked 11 + 2 times a body. The self call
+/// empties its list.
 fn slow_body(own: u8) -> Statement {
-    let unchosen = |rest, levels| choose(longer_than(0), rest, full_of_removals(levels));
-    let ifs = [3, 4, 5, 7].into_iter().fold(call(own, &[0]), unchosen);
-    let sequences = (0..SLOW_SEQUENCES).fold(ifs, |rest, _| sequence(rest, Statement::Skip));
+    let unless = |rest, levels| choose(full_of_tests(levels), Statement::Skip, rest);
+    let ifs = [4, 6, 7].into_iter().fold(call(own, &[0]), unless);
     let within = |rest, position| case(position, rest, Statement::Skip);
-    (1..=SLOW_CASES).fold(sequences, within)
+    (1..=SLOW_CASES).fold(ifs, within)
 }
 
-/// A full tree of qcases that ends with NOTs, all with eight removals: 2^levels
-/// − 1 records.
-fn full_of_removals(levels: usize) -> Statement {
-    let removed = vec![Constant(1); 8];
-    let end = Statement::Not(removed.clone(), Constant(1));
-    let both = |half: Statement, _| qcase(removed.clone(), Constant(1), half.clone(), half);
+/// A full tree of ors of comparisons that do not hold, so that all of them are
+/// asked: 2^levels − 1 records.
+fn full_of_tests(levels: usize) -> Condition {
+    let end = Condition::Greater(Constant(0), SizePlus(0));
+    let both = |half: Condition, _| Condition::Or(Box::new(half.clone()), Box::new(half));
     (1..levels).fold(end, both)
 }
