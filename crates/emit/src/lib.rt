@@ -33,7 +33,7 @@ fn one_unless_empty(list: QubitSet) -> u16
     if list == 0 { 0 } else { 1 }
 }
 
-// How many recursive calls has the left part of the statement at record i, in the body of f?
+// How many recursive calls has the left part of the statement at record i?
 fn count_calls(program: &[u32; PROGRAM_LENGTH], i: u32, depth: u8, list: QubitSet) -> u16
     ensures { λ r. ⌜ Counts (now (program .entry)) i depth (membersOf list) r ⌝ }
 {
@@ -58,7 +58,7 @@ fn count_calls(program: &[u32; PROGRAM_LENGTH], i: u32, depth: u8, list: QubitSe
             let first = count_calls(program, a, depth - 1, list);
             sum(first, count_calls(program, b, depth - 1, list))
         }
-        Step::Calls(g, at) => {
+        Step::Calls(_, at) => {
             if is_wide(program, i) {
                 return one_unless_empty(remaining(program, at, list));
             }
@@ -242,7 +242,7 @@ fn emit_body_right(
     emit_right(program, k, i, depth, list, controls, first, n, room, slots, st)
 }
 
-// The left part of the statement at record i, in the body of f.
+// The left part of the statement at record i. A call there is recursive where it is wide.
 fn emit_left(
     program: &[u32; PROGRAM_LENGTH], k: u8, i: u32, depth: u8, list: QubitSet, controls: ControlLists,
     n: u8, room: &mut [u8], slots: &mut [u64; SLOTS_LENGTH], st: Emit,
@@ -290,7 +290,7 @@ fn emit_left(
     }
 }
 
-// The right part of the statement at record i, in the body of f; its recursive calls have the ancillas from `first` on.
+// The right part of the statement at record i; its recursive calls have the ancillas from `first` on.
 fn emit_right(
     program: &[u32; PROGRAM_LENGTH], k: u8, i: u32, depth: u8, list: QubitSet, controls: ControlLists, first: u16,
     n: u8, room: &mut [u8], slots: &mut [u64; SLOTS_LENGTH], st: Emit,
@@ -325,7 +325,7 @@ fn emit_right(
             let one_end = emit_right(program, k, b, depth - 1, list, one, second, n, room, slots, st);
             emit_right(program, k, a, depth - 1, list, with_control(controls, q, false), first, n, room, slots, one_end)
         }
-        Step::Calls(g, at) => {
+        Step::Calls(_, at) => {
             if is_wide(program, i) {
                 return flip_again(remaining(program, at, list), controls, first, room, st);
             }
