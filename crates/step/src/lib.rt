@@ -77,9 +77,10 @@ fn value(a: Number, lists: Lists) -> i32
 }
 
 // A word, 0 past the end.
-fn word(words: &[u32], at: usize) -> u32
-    ensures { λ r. ⌜ r ≡ wordIn (now (words .entry)) at ⌝ }
+fn word(program: &[u32; PROGRAM_LENGTH], at: usize) -> u32
+    ensures { λ r. ⌜ r ≡ wordIn (now (program .entry)) at ⌝ }
 {
+    let words = &program[..];
     if at < words.len() { words[at] } else { 0 }
 }
 
@@ -92,10 +93,10 @@ fn row(i: u32) -> usize
 
 // What the removals of the record whose words begin at a place leave of a list, "each from what the last one left"; each number may take the size of what is left
 // just before it.
-fn removed(words: &[u32], at: u32, list: QubitSet) -> QubitSet
-    ensures { λ r. ⌜ membersOf r ≡ remaining (removalsIn (now (words .entry)) at) (membersOf list) ⌝ }
+pub fn remaining(program: &[u32; PROGRAM_LENGTH], at: u32, list: QubitSet) -> QubitSet
+    ensures { λ r. ⌜ membersOf r ≡ remaining (removalsIn (now (program .entry)) at) (membersOf list) ⌝ }
 {
-    let mut left = word(words, at as usize + COUNT_FIELD);
+    let mut left = word(program, at as usize + COUNT_FIELD);
     let mut place = at as usize + REMOVALS_FIELD;
     let mut rest = list;
     while 0 < left {
@@ -103,47 +104,40 @@ fn removed(words: &[u32], at: u32, list: QubitSet) -> QubitSet
         if rest == 0 {
             return 0;
         }
-        rest = remove(rest, value(number_of(word(words, place)), Lists { whole: list, left: rest }));
+        rest = remove(rest, value(number_of(word(program, place)), Lists { whole: list, left: rest }));
         place += 1;
         left -= 1;
     }
     rest
 }
 
-// What the removals of a call leave of a list: its words begin at a place.
-pub fn remaining(program: &[u32; PROGRAM_LENGTH], at: u32, list: QubitSet) -> QubitSet
-    ensures { λ r. ⌜ membersOf r ≡ remaining (removalsIn (now (program .entry)) at) (membersOf list) ⌝ }
-{
-    removed(&program[..], at, list)
-}
-
 // How many removals has the record whose words begin at a place?
 pub fn removal_count(program: &[u32; PROGRAM_LENGTH], at: u32) -> u32
     ensures { λ r. ⌜ r ≡ length (removalsIn (now (program .entry)) at) ⌝ }
 {
-    word(&program[..], at as usize + COUNT_FIELD)
+    word(program, at as usize + COUNT_FIELD)
 }
 
 // "NOT and qcase touch the entry at position a of the remaining list"; 0 where they touch nothing. The words of the record begin at a place.
-fn touched(words: &[u32], at: u32, list: QubitSet) -> u8
-    ensures { λ r. ⌜ r ≡ touchedBy (now (words .entry)) at (membersOf list) ⌝ }
+fn touched(program: &[u32; PROGRAM_LENGTH], at: u32, list: QubitSet) -> u8
+    ensures { λ r. ⌜ r ≡ touchedBy (now (program .entry)) at (membersOf list) ⌝ }
 {
-    let rest = removed(words, at, list);
-    entry(rest, value(number_of(word(words, at as usize + NUMBER_FIELD)), Lists { whole: list, left: rest }))
+    let rest = remaining(program, at, list);
+    entry(rest, value(number_of(word(program, at as usize + NUMBER_FIELD)), Lists { whole: list, left: rest }))
 }
 
 // The record behind the subtree of record i.
-fn subtree_end(words: &[u32], i: u32) -> u32
-    ensures { λ r. ⌜ r ≡ endOf (now (words .entry)) i ⌝ }
+fn subtree_end(program: &[u32; PROGRAM_LENGTH], i: u32) -> u32
+    ensures { λ r. ⌜ r ≡ endOf (now (program .entry)) i ⌝ }
 {
-    word(words, row(i) + END_FIELD)
+    word(program, row(i) + END_FIELD)
 }
 
 // The value of a number in a comparison, whose word stands at a place: nothing is removed.
-fn compared(words: &[u32], at: usize, list: QubitSet) -> i32
-    ensures { λ r. ⌜ r ≡ comparedValue (numberOf (wordNumber (wordIn (now (words .entry)) at))) (membersOf list) ⌝ }
+fn compared(program: &[u32; PROGRAM_LENGTH], at: usize, list: QubitSet) -> i32
+    ensures { λ r. ⌜ r ≡ comparedValue (numberOf (wordNumber (wordIn (now (program .entry)) at))) (membersOf list) ⌝ }
 {
-    value(number_of(word(words, at)), Lists { whole: list, left: list })
+    value(number_of(word(program, at)), Lists { whole: list, left: list })
 }
 
 // What record i does on a list: one match over the kinds 0 to 11. Past the last record there is none.
@@ -160,19 +154,19 @@ pub fn step_at(program: &[u32; PROGRAM_LENGTH], i: u32, list: QubitSet) -> Step
     let place = at as u32;
     match kind {
         0 => Step::Nothing,
-        1 => Step::Touches(touched(words, place, list)),
-        2 => Step::Sequence(first, subtree_end(words, first)),
+        1 => Step::Touches(touched(program, place, list)),
+        2 => Step::Sequence(first, subtree_end(program, first)),
         3 => {
-            let second = subtree_end(words, first);
-            Step::Chooses(first, second, subtree_end(words, second))
+            let second = subtree_end(program, first);
+            Step::Chooses(first, second, subtree_end(program, second))
         }
-        4 => Step::Branches(touched(words, place, list), first, subtree_end(words, first)),
-        5 => Step::Calls((word(words, at + PROCEDURE_FIELD) % 256) as u8, place),
-        6 => Step::Holds(compared(words, at + NUMBER_FIELD, list) > compared(words, at + REMOVALS_FIELD, list)),
-        7 => Step::Holds(compared(words, at + NUMBER_FIELD, list) >= compared(words, at + REMOVALS_FIELD, list)),
-        8 => Step::Holds(compared(words, at + NUMBER_FIELD, list) == compared(words, at + REMOVALS_FIELD, list)),
-        9 => Step::Both(first, subtree_end(words, first)),
-        10 => Step::Either(first, subtree_end(words, first)),
+        4 => Step::Branches(touched(program, place, list), first, subtree_end(program, first)),
+        5 => Step::Calls((word(program, at + PROCEDURE_FIELD) % 256) as u8, place),
+        6 => Step::Holds(compared(program, at + NUMBER_FIELD, list) > compared(program, at + REMOVALS_FIELD, list)),
+        7 => Step::Holds(compared(program, at + NUMBER_FIELD, list) >= compared(program, at + REMOVALS_FIELD, list)),
+        8 => Step::Holds(compared(program, at + NUMBER_FIELD, list) == compared(program, at + REMOVALS_FIELD, list)),
+        9 => Step::Both(first, subtree_end(program, first)),
+        10 => Step::Either(first, subtree_end(program, first)),
         11 => Step::Negates(first),
         _ => Step::Nothing,
     }

@@ -8,27 +8,21 @@ use Rattle.decoded.proofs.number_of.Lts as lts
 use Rattle.records.proofs.based.Reads as based-reads
 use Rattle.records.proofs.signed.Reads as signed-reads
 
--- src/lib.rt:27:11
 cast-based : tie.Need-cast-based
 cast-based c = search needs
 
--- src/lib.rt:27:38
 cast-signed : tie.Need-cast-signed
 cast-signed c = search needs
 
--- src/lib.rt:27:64
 cast-signed-2 : tie.Need-cast-signed-2
 cast-signed-2 c = search needs
 
--- src/lib.rt:27:31
 signed-requires : tie.Need-signed-requires
 signed-requires c κs = search needs
 
--- src/lib.rt:27:5
 based-requires : tie.Need-based-requires
 based-requires c κs = search needs
 
--- src/lib.rt:24:1
 returns : tie.Need-returns
 returns c = search words
 

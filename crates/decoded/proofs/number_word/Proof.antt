@@ -7,59 +7,45 @@ use Rattle.decoded.proofs.number_word.Reads as reads
 use Rattle.decoded.proofs.number_word.Lts as lts
 use Rattle.records.proofs.byte.Reads as byte-reads
 
--- src/lib.rt:18:9
 returns : tie.Need-returns
 returns c = search words
 
--- src/lib.rt:20:5
 byte-requires : tie.Need-byte-requires
 byte-requires c κs = search needs
 
--- src/lib.rt:20:5
 cast-result : tie.Need-cast-result
 cast-result c = search needs
 
--- src/lib.rt:20:49
 add-byte : tie.Need-add-byte
 add-byte c = search needs
 
--- src/lib.rt:20:37
 byte-requires-2 : tie.Need-byte-requires-2
 byte-requires-2 c κs = search needs
 
--- src/lib.rt:20:37
 cast-result-2 : tie.Need-cast-result-2
 cast-result-2 c = search needs
 
--- src/lib.rt:20:30
 mul-result : tie.Need-mul-result
 mul-result c = search needs
 
--- src/lib.rt:20:5
 add-result : tie.Need-add-result
 add-result c = search needs
 
--- src/lib.rt:20:88
 add-byte-2 : tie.Need-add-byte-2
 add-byte-2 c = search needs
 
--- src/lib.rt:20:76
 byte-requires-3 : tie.Need-byte-requires-3
 byte-requires-3 c κs = search needs
 
--- src/lib.rt:20:76
 cast-result-3 : tie.Need-cast-result-3
 cast-result-3 c = search needs
 
--- src/lib.rt:20:67
 mul-result-2 : tie.Need-mul-result-2
 mul-result-2 c = search needs
 
--- src/lib.rt:20:5
 add-result-2 : tie.Need-add-result-2
 add-result-2 c = search needs
 
--- src/lib.rt:14:1
 returns-2 : tie.Need-returns-2
 returns-2 c = search needs
 

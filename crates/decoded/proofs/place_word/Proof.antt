@@ -6,15 +6,12 @@ use Rattle.decoded.proofs.place_word.Tie as tie
 use Rattle.decoded.proofs.place_word.Reads as reads
 use Rattle.decoded.proofs.place_word.Lts as lts
 
--- src/lib.rt:34:27
 cast-result : tie.Need-cast-result
 cast-result c = search needs
 
--- src/lib.rt:31:1
 returns : tie.Need-returns
 returns c = search words
 
--- src/lib.rt:31:1
 returns-2 : tie.Need-returns-2
 returns-2 c = search words
 

@@ -6,75 +6,57 @@ use Rattle.decoded.proofs.put_head.Tie as tie
 use Rattle.decoded.proofs.put_head.Reads as reads
 use Rattle.decoded.proofs.put_head.Lts as lts
 
--- src/lib.rt:42:5
 mul-program : tie.Need-mul-program
 mul-program c = search needs
 
--- src/lib.rt:42:5
 element-write-program : tie.Need-element-write-program
 element-write-program c = search needs
 
--- src/lib.rt:43:13
 add-program : tie.Need-add-program
 add-program c = search needs
 
--- src/lib.rt:43:5
 mul-program-2 : tie.Need-mul-program-2
 mul-program-2 c = search needs
 
--- src/lib.rt:43:5
 element-write-program-2 : tie.Need-element-write-program-2
 element-write-program-2 c = search needs
 
--- src/lib.rt:44:13
 add-program-2 : tie.Need-add-program-2
 add-program-2 c = search needs
 
--- src/lib.rt:44:5
 mul-program-3 : tie.Need-mul-program-3
 mul-program-3 c = search needs
 
--- src/lib.rt:44:5
 element-write-program-3 : tie.Need-element-write-program-3
 element-write-program-3 c = search needs
 
--- src/lib.rt:45:13
 add-program-3 : tie.Need-add-program-3
 add-program-3 c = search needs
 
--- src/lib.rt:45:5
 mul-program-4 : tie.Need-mul-program-4
 mul-program-4 c = search needs
 
--- src/lib.rt:45:5
 element-write-program-4 : tie.Need-element-write-program-4
 element-write-program-4 c = search needs
 
--- src/lib.rt:46:13
 add-program-4 : tie.Need-add-program-4
 add-program-4 c = search needs
 
--- src/lib.rt:46:5
 mul-program-5 : tie.Need-mul-program-5
 mul-program-5 c = search needs
 
--- src/lib.rt:46:5
 element-write-program-5 : tie.Need-element-write-program-5
 element-write-program-5 c = search needs
 
--- src/lib.rt:47:13
 add-program-5 : tie.Need-add-program-5
 add-program-5 c = search needs
 
--- src/lib.rt:47:5
 mul-program-6 : tie.Need-mul-program-6
 mul-program-6 c = search needs
 
--- src/lib.rt:47:5
 element-write-program-6 : tie.Need-element-write-program-6
 element-write-program-6 c = search needs
 
--- src/lib.rt:38:1
 returns : tie.Need-returns
 returns c = search words
 

@@ -9,39 +9,30 @@ use Rattle.decoded.proofs.number_word.Reads as number-word-reads
 use Rattle.decoded.proofs.put_head.Reads as put-head-reads
 use Rattle.records.proofs.byte.Reads as byte-reads
 
--- src/lib.rt:80:9
 number-word-requires : tie.Need-number-word-requires
 number-word-requires c κs = search needs
 
--- src/lib.rt:81:32
 add-number-word : tie.Need-add-number-word
 add-number-word c = search needs
 
--- src/lib.rt:81:9
 number-word-requires-2 : tie.Need-number-word-requires-2
 number-word-requires-2 c κs = search needs
 
--- src/lib.rt:82:41
 byte-requires : tie.Need-byte-requires
 byte-requires c κs = search needs
 
--- src/lib.rt:82:5
 put-head-requires : tie.Need-put-head-requires
 put-head-requires c κs = search needs
 
--- src/lib.rt:83:13
 add-program : tie.Need-add-program
 add-program c = search needs
 
--- src/lib.rt:83:5
 mul-program : tie.Need-mul-program
 mul-program c = search needs
 
--- src/lib.rt:83:5
 element-write-program : tie.Need-element-write-program
 element-write-program c = search needs
 
--- src/lib.rt:75:1
 returns : tie.Need-returns
 returns c = search words
 

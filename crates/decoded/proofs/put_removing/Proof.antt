@@ -12,43 +12,33 @@ use Rattle.decoded.proofs.smaller.Reads as smaller-reads
 use Rattle.records.proofs.after_removals.Reads as after-removals-reads
 use Rattle.records.proofs.byte.Reads as byte-reads
 
--- src/lib.rt:92:9
 after-removals-requires : tie.Need-after-removals-requires
 after-removals-requires c κs = search needs
 
--- src/lib.rt:93:25
 shared-slice-read-smaller : tie.Need-shared-slice-read-smaller
 shared-slice-read-smaller c = search needs
 
--- src/lib.rt:93:9
 smaller-requires : tie.Need-smaller-requires
 smaller-requires c κs = search needs
 
--- src/lib.rt:94:9
 number-word-requires : tie.Need-number-word-requires
 number-word-requires c κs = search needs
 
--- src/lib.rt:95:41
 byte-requires : tie.Need-byte-requires
 byte-requires c κs = search needs
 
--- src/lib.rt:95:5
 put-head-requires : tie.Need-put-head-requires
 put-head-requires c κs = search needs
 
--- src/lib.rt:96:24
 add-put-numbers : tie.Need-add-put-numbers
 add-put-numbers c = search needs
 
--- src/lib.rt:96:48
 add-put-numbers-2 : tie.Need-add-put-numbers-2
 add-put-numbers-2 c = search needs
 
--- src/lib.rt:96:5
 put-numbers-requires : tie.Need-put-numbers-requires
 put-numbers-requires c κs = search needs
 
--- src/lib.rt:87:1
 returns : tie.Need-returns
 returns c = search words
 

@@ -8,15 +8,12 @@ use Rattle.reach.proofs.any_lacks_removal.Lts as lts
 use Rattle.reach.proofs.one_lacks_removal.Reads as one-lacks-removal-reads
 use Rattle.step.proofs.procedures.Reads as procedures-reads
 
--- src/lib.rt:239:32
 procedures-requires : tie.Need-procedures-requires
 procedures-requires c κs = search needs
 
--- src/lib.rt:239:5
 one-lacks-removal-requires : tie.Need-one-lacks-removal-requires
 one-lacks-removal-requires c κs = search needs
 
--- src/lib.rt:236:1
 returns : tie.Need-returns
 returns c = search bodies
 

@@ -8,15 +8,12 @@ use Rattle.reach.proofs.body_lacks_removal.Lts as lts
 use Rattle.reach.proofs.lacks_removal.Reads as lacks-removal-reads
 use Rattle.step.proofs.root.Reads as root-reads
 
--- src/lib.rt:220:28
 root-requires : tie.Need-root-requires
 root-requires c κs = search needs
 
--- src/lib.rt:220:5
 lacks-removal-requires : tie.Need-lacks-removal-requires
 lacks-removal-requires c κs = search needs
 
--- src/lib.rt:217:1
 returns : tie.Need-returns
 returns c = search bodies
 

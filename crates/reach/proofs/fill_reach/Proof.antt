@@ -9,23 +9,18 @@ use Rattle.reach.proofs.close.Reads as close-reads
 use Rattle.reach.proofs.mark_bodies.Reads as mark-bodies-reads
 use Rattle.step.proofs.procedures.Reads as procedures-reads
 
--- src/lib.rt:183:9
 procedures-requires : tie.Need-procedures-requires
 procedures-requires c κs = search needs
 
--- src/lib.rt:185:9
 returns : tie.Need-returns
 returns c = search bodies
 
--- src/lib.rt:187:5
 mark-bodies-requires : tie.Need-mark-bodies-requires
 mark-bodies-requires c κs = search needs
 
--- src/lib.rt:188:5
 close-requires : tie.Need-close-requires
 close-requires c κs = search needs
 
--- src/lib.rt:179:1
 returns-2 : tie.Need-returns-2
 returns-2 c = search bodies
 

@@ -8,15 +8,12 @@ use Rattle.reach.proofs.mark_body.Lts as lts
 use Rattle.reach.proofs.mark_calls.Reads as mark-calls-reads
 use Rattle.step.proofs.root.Reads as root-reads
 
--- src/lib.rt:166:25
 root-requires : tie.Need-root-requires
 root-requires c κs = search needs
 
--- src/lib.rt:166:5
 mark-calls-requires : tie.Need-mark-calls-requires
 mark-calls-requires c κs = search needs
 
--- src/lib.rt:163:1
 returns : tie.Need-returns
 returns c = search bodies
 

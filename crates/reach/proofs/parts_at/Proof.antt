@@ -8,15 +8,12 @@ use Rattle.reach.proofs.parts_at.Lts as lts
 use Rattle.reach.proofs.parts_of.Reads as parts-of-reads
 use Rattle.step.proofs.step_at.Reads as step-at-reads
 
--- src/lib.rt:141:14
 step-at-requires : tie.Need-step-at-requires
 step-at-requires c κs = search needs
 
--- src/lib.rt:141:5
 parts-of-requires : tie.Need-parts-of-requires
 parts-of-requires c κs = search needs
 
--- src/lib.rt:138:1
 returns : tie.Need-returns
 returns c = search looking
 

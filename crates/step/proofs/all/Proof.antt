@@ -7,19 +7,15 @@ use Rattle.step.proofs.all.Reads as reads
 use Rattle.step.proofs.all.Lts as lts
 use Rattle.sets.proofs.full.Reads as full-reads
 
--- src/lib.rt:55:26
 full-requires : tie.Need-full-requires
 full-requires c κs = search needs
 
--- src/lib.rt:55:43
 full-requires-2 : tie.Need-full-requires-2
 full-requires-2 c κs = search needs
 
--- src/lib.rt:52:1
 returns : tie.Need-returns
 returns c = search lists
 
--- src/lib.rt:52:1
 returns-2 : tie.Need-returns-2
 returns-2 c = search lists
 

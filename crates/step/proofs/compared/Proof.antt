@@ -9,19 +9,15 @@ use Rattle.decoded.proofs.number_of.Reads as number-of-reads
 use Rattle.step.proofs.value.Reads as value-reads
 use Rattle.step.proofs.word.Reads as word-reads
 
--- src/lib.rt:146:21
 word-requires : tie.Need-word-requires
 word-requires c κs = search needs
 
--- src/lib.rt:146:11
 number-of-requires : tie.Need-number-of-requires
 number-of-requires c κs = search needs
 
--- src/lib.rt:146:5
 value-requires : tie.Need-value-requires
 value-requires c κs = search needs
 
--- src/lib.rt:143:1
 returns : tie.Need-returns
 returns c = search lists
 

@@ -7,15 +7,12 @@ use Rattle.step.proofs.removal_count.Reads as reads
 use Rattle.step.proofs.removal_count.Lts as lts
 use Rattle.step.proofs.word.Reads as word-reads
 
--- src/lib.rt:124:24
 add-word : tie.Need-add-word
 add-word c = search needs
 
--- src/lib.rt:124:5
 word-requires : tie.Need-word-requires
 word-requires c κs = search needs
 
--- src/lib.rt:121:1
 returns : tie.Need-returns
 returns c = search lists
 

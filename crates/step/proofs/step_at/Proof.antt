@@ -11,171 +11,129 @@ use Rattle.step.proofs.subtree_end.Reads as subtree-end-reads
 use Rattle.step.proofs.touched.Reads as touched-reads
 use Rattle.step.proofs.word.Reads as word-reads
 
--- src/lib.rt:154:9
 row-requires : tie.Need-row-requires
 row-requires c κs = search needs
 
--- src/lib.rt:156:9
 returns : tie.Need-returns
 returns c = search deciding
 
--- src/lib.rt:158:16
 mul-kind : tie.Need-mul-kind
 mul-kind c = search needs
 
--- src/lib.rt:158:16
 shared-slice-read-kind : tie.Need-shared-slice-read-kind
 shared-slice-read-kind c = search needs
 
--- src/lib.rt:159:17
 add-first : tie.Need-add-first
 add-first c = search needs
 
--- src/lib.rt:160:17
 cast-place : tie.Need-cast-place
 cast-place c = search needs
 
--- src/lib.rt:163:28
 touched-requires : tie.Need-touched-requires
 touched-requires c κs = search needs
 
--- src/lib.rt:164:36
 subtree-end-requires : tie.Need-subtree-end-requires
 subtree-end-requires c κs = search needs
 
--- src/lib.rt:166:17
 subtree-end-requires-2 : tie.Need-subtree-end-requires-2
 subtree-end-requires-2 c κs = search needs
 
--- src/lib.rt:167:42
 subtree-end-requires-3 : tie.Need-subtree-end-requires-3
 subtree-end-requires-3 c κs = search needs
 
--- src/lib.rt:169:29
 touched-requires-2 : tie.Need-touched-requires-2
 touched-requires-2 c κs = search needs
 
--- src/lib.rt:169:65
 subtree-end-requires-4 : tie.Need-subtree-end-requires-4
 subtree-end-requires-4 c κs = search needs
 
--- src/lib.rt:170:39
 add-word : tie.Need-add-word
 add-word c = search needs
 
--- src/lib.rt:170:27
 word-requires : tie.Need-word-requires
 word-requires c κs = search needs
 
--- src/lib.rt:170:26
 cast-t24 : tie.Need-cast-t24
 cast-t24 c = search needs
 
--- src/lib.rt:171:42
 add-compared : tie.Need-add-compared
 add-compared c = search needs
 
--- src/lib.rt:171:26
 compared-requires : tie.Need-compared-requires
 compared-requires c κs = search needs
 
--- src/lib.rt:171:85
 add-compared-2 : tie.Need-add-compared-2
 add-compared-2 c = search needs
 
--- src/lib.rt:171:69
 compared-requires-2 : tie.Need-compared-requires-2
 compared-requires-2 c κs = search needs
 
--- src/lib.rt:172:42
 add-compared-3 : tie.Need-add-compared-3
 add-compared-3 c = search needs
 
--- src/lib.rt:172:26
 compared-requires-3 : tie.Need-compared-requires-3
 compared-requires-3 c κs = search needs
 
--- src/lib.rt:172:86
 add-compared-4 : tie.Need-add-compared-4
 add-compared-4 c = search needs
 
--- src/lib.rt:172:70
 compared-requires-4 : tie.Need-compared-requires-4
 compared-requires-4 c κs = search needs
 
--- src/lib.rt:173:42
 add-compared-5 : tie.Need-add-compared-5
 add-compared-5 c = search needs
 
--- src/lib.rt:173:26
 compared-requires-5 : tie.Need-compared-requires-5
 compared-requires-5 c κs = search needs
 
--- src/lib.rt:173:86
 add-compared-6 : tie.Need-add-compared-6
 add-compared-6 c = search needs
 
--- src/lib.rt:173:70
 compared-requires-6 : tie.Need-compared-requires-6
 compared-requires-6 c κs = search needs
 
--- src/lib.rt:174:32
 subtree-end-requires-5 : tie.Need-subtree-end-requires-5
 subtree-end-requires-5 c κs = search needs
 
--- src/lib.rt:175:35
 subtree-end-requires-6 : tie.Need-subtree-end-requires-6
 subtree-end-requires-6 c κs = search needs
 
--- src/lib.rt:150:1
 returns-2 : tie.Need-returns-2
 returns-2 c = search deciding
 
--- src/lib.rt:150:1
 returns-3 : tie.Need-returns-3
 returns-3 c = search deciding
 
--- src/lib.rt:150:1
 returns-4 : tie.Need-returns-4
 returns-4 c = search deciding
 
--- src/lib.rt:150:1
 returns-5 : tie.Need-returns-5
 returns-5 c = search deciding
 
--- src/lib.rt:150:1
 returns-6 : tie.Need-returns-6
 returns-6 c = search deciding
 
--- src/lib.rt:150:1
 returns-7 : tie.Need-returns-7
 returns-7 c = search deciding
 
--- src/lib.rt:150:1
 returns-8 : tie.Need-returns-8
 returns-8 c = search deciding
 
--- src/lib.rt:150:1
 returns-9 : tie.Need-returns-9
 returns-9 c = search deciding
 
--- src/lib.rt:150:1
 returns-10 : tie.Need-returns-10
 returns-10 c = search deciding
 
--- src/lib.rt:150:1
 returns-11 : tie.Need-returns-11
 returns-11 c = search deciding
 
--- src/lib.rt:150:1
 returns-12 : tie.Need-returns-12
 returns-12 c = search deciding
 
--- src/lib.rt:150:1
 returns-13 : tie.Need-returns-13
 returns-13 c = search deciding
 
--- src/lib.rt:150:1
 returns-14 : tie.Need-returns-14
 returns-14 c = search deciding
 

@@ -8,19 +8,15 @@ use Rattle.step.proofs.subtree_end.Lts as lts
 use Rattle.step.proofs.row.Reads as row-reads
 use Rattle.step.proofs.word.Reads as word-reads
 
--- src/lib.rt:139:17
 row-requires : tie.Need-row-requires
 row-requires c κs = search needs
 
--- src/lib.rt:139:17
 add-word : tie.Need-add-word
 add-word c = search needs
 
--- src/lib.rt:139:5
 word-requires : tie.Need-word-requires
 word-requires c κs = search needs
 
--- src/lib.rt:136:1
 returns : tie.Need-returns
 returns c = search lists
 

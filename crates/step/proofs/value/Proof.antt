@@ -8,43 +8,33 @@ use Rattle.step.proofs.value.Lts as lts
 use Rattle.sets.proofs.size.Reads as size-reads
 use Rattle.step.proofs.sum.Reads as sum-reads
 
--- src/lib.rt:73:26
 enum-known-a : tie.Need-enum-known-a
 enum-known-a c = search needs
 
--- src/lib.rt:74:26
 enum-known-a-2 : tie.Need-enum-known-a-2
 enum-known-a-2 c = search needs
 
--- src/lib.rt:74:39
 size-requires : tie.Need-size-requires
 size-requires c κs = search needs
 
--- src/lib.rt:74:32
 sum-requires : tie.Need-sum-requires
 sum-requires c κs = search needs
 
--- src/lib.rt:75:26
 enum-known-a-3 : tie.Need-enum-known-a-3
 enum-known-a-3 c = search needs
 
--- src/lib.rt:75:39
 size-requires-2 : tie.Need-size-requires-2
 size-requires-2 c κs = search needs
 
--- src/lib.rt:75:32
 sum-requires-2 : tie.Need-sum-requires-2
 sum-requires-2 c κs = search needs
 
--- src/lib.rt:69:1
 returns : tie.Need-returns
 returns c = search (needs, value-constant, value-size, value-left)
 
--- src/lib.rt:69:1
 returns-2 : tie.Need-returns-2
 returns-2 c = search (needs, value-constant, value-size, value-left)
 
--- src/lib.rt:69:1
 returns-3 : tie.Need-returns-3
 returns-3 c = search (needs, value-constant, value-size, value-left)
 

@@ -6,19 +6,15 @@ use Rattle.step.proofs.word.Tie as tie
 use Rattle.step.proofs.word.Reads as reads
 use Rattle.step.proofs.word.Lts as lts
 
--- src/lib.rt:83:27
 mul-result : tie.Need-mul-result
 mul-result c = search needs
 
--- src/lib.rt:83:27
 shared-slice-read-result : tie.Need-shared-slice-read-result
 shared-slice-read-result c = search needs
 
--- src/lib.rt:80:1
 returns : tie.Need-returns
 returns c = search needs
 
--- src/lib.rt:80:1
 returns-2 : tie.Need-returns-2
 returns-2 c = search lists
 

@@ -8,51 +8,39 @@ use Rattle.table.proofs.read_table.Lts as lts
 use Rattle.table.proofs.put_count.Reads as put-count-reads
 use Rattle.table.proofs.read_bodies.Reads as read-bodies-reads
 
--- src/lib.rt:216:9
 returns : tie.Need-returns
 returns c = search tables
 
--- src/lib.rt:218:8
 shared-slice-read-if2 : tie.Need-shared-slice-read-if2
 shared-slice-read-if2 c = search needs
 
--- src/lib.rt:219:9
 returns-2 : tie.Need-returns-2
 returns-2 c = search tables
 
--- src/lib.rt:221:13
 shared-slice-read-p : tie.Need-shared-slice-read-p
 shared-slice-read-p c = search needs
 
--- src/lib.rt:223:9
 returns-3 : tie.Need-returns-3
 returns-3 c = search tables
 
--- src/lib.rt:225:5
 put-count-requires : tie.Need-put-count-requires
 put-count-requires c κs = search needs
 
--- src/lib.rt:226:9
 read-bodies-requires : tie.Need-read-bodies-requires
 read-bodies-requires c κs = search needs
 
--- src/lib.rt:228:23
 enum-known-tree : tie.Need-enum-known-tree
 enum-known-tree c = search needs
 
--- src/lib.rt:229:20
 enum-known-tree-2 : tie.Need-enum-known-tree-2
 enum-known-tree-2 c = search needs
 
--- src/lib.rt:231:17
 returns-4 : tie.Need-returns-4
 returns-4 c = search tables
 
--- src/lib.rt:211:1
 returns-5 : tie.Need-returns-5
 returns-5 c = search tables
 
--- src/lib.rt:211:1
 returns-6 : tie.Need-returns-6
 returns-6 c = search tables
 

@@ -10,31 +10,24 @@ use Rattle.reach.proofs.any_lacks_removal.Reads as any-lacks-removal-reads
 use Rattle.reach.proofs.fill_reach.Reads as fill-reach-reads
 use Rattle.widths.proofs.any_too_wide.Reads as any-too-wide-reads
 
--- src/lib.rt:18:5
 fill-reach-requires : tie.Need-fill-reach-requires
 fill-reach-requires c κs = search needs
 
--- src/lib.rt:19:8
 any-lacks-removal-requires : tie.Need-any-lacks-removal-requires
 any-lacks-removal-requires c κs = search needs
 
--- src/lib.rt:20:9
 returns : tie.Need-returns
 returns c = (search checks, search checks)
 
--- src/lib.rt:22:8
 any-too-wide-requires : tie.Need-any-too-wide-requires
 any-too-wide-requires c κs = search needs
 
--- src/lib.rt:23:9
 returns-2 : tie.Need-returns-2
 returns-2 c = (search checks, search checks)
 
--- src/lib.rt:25:8
 faults-requires : tie.Need-faults-requires
 faults-requires c κs = search needs
 
--- src/lib.rt:26:9
 returns-3 : tie.Need-returns-3
 returns-3 c =
     let faulty = c .before in
@@ -46,7 +39,6 @@ returns-3 c =
     (checked-twelve _ _ _ (filled .fill-reach .ensures) _ (lacks .any-lacks-removal .ensures) (kept .if1 .left) _ _ (wide .any-too-wide .ensures)
       (narrow .if2 .left) _ (faulty .faults .ensures) (c .if3 .taken), search checks)
 
--- src/lib.rt:13:1
 returns-4 : tie.Need-returns-4
 returns-4 c =
     let faulty = c .before in

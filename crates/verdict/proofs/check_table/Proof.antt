@@ -8,39 +8,30 @@ use Rattle.verdict.proofs.check_table.Lts as lts
 use Rattle.table.proofs.read_table.Reads as read-table-reads
 use Rattle.verdict.proofs.check_program.Reads as check-program-reads
 
--- src/lib.rt:38:9
 returns : tie.Need-returns
 returns c = (search verdicts, (search verdicts, search verdicts))
 
--- src/lib.rt:41:9
 returns-2 : tie.Need-returns-2
 returns-2 c = (search verdicts, (search verdicts, search verdicts))
 
--- src/lib.rt:43:9
 read-table-requires : tie.Need-read-table-requires
 read-table-requires c κs = search needs
 
--- src/lib.rt:45:24
 enum-known-answer : tie.Need-enum-known-answer
 enum-known-answer c = search needs
 
--- src/lib.rt:46:38
 enum-told : tie.Need-enum-told
 enum-told c = search needs
 
--- src/lib.rt:46:47
 cast-check-program : tie.Need-cast-check-program
 cast-check-program c = search needs
 
--- src/lib.rt:46:24
 check-program-requires : tie.Need-check-program-requires
 check-program-requires c κs = search needs
 
--- src/lib.rt:32:1
 returns-3 : tie.Need-returns-3
 returns-3 c = (search verdicts, (search verdicts, search verdicts))
 
--- src/lib.rt:32:1
 returns-4 : tie.Need-returns-4
 returns-4 c = (search verdicts, (search verdicts, search verdicts))
 

@@ -7,27 +7,21 @@ use Rattle.verdict.proofs.verdict.Reads as reads
 use Rattle.verdict.proofs.verdict.Lts as lts
 use Rattle.verdict.proofs.check_table.Reads as check-table-reads
 
--- src/lib.rt:55:18
 check-table-requires : tie.Need-check-table-requires
 check-table-requires c κs = search needs
 
--- src/lib.rt:55:18
 cast-number : tie.Need-cast-number
 cast-number c = search needs
 
--- src/lib.rt:57:9
 returns : tie.Need-returns
 returns c = search answers
 
--- src/lib.rt:60:16
 cast-result : tie.Need-cast-result
 cast-result c = search needs
 
--- src/lib.rt:60:9
 returns-2 : tie.Need-returns-2
 returns-2 c = search answers
 
--- src/lib.rt:51:1
 returns-3 : tie.Need-returns-3
 returns-3 c = search answers
 

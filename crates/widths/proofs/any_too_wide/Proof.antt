@@ -8,15 +8,12 @@ use Rattle.widths.proofs.any_too_wide.Lts as lts
 use Rattle.step.proofs.procedures.Reads as procedures-reads
 use Rattle.widths.proofs.one_too_wide.Reads as one-too-wide-reads
 
--- src/lib.rt:104:9
 procedures-requires : tie.Need-procedures-requires
 procedures-requires c κs = search needs
 
--- src/lib.rt:105:5
 one-too-wide-requires : tie.Need-one-too-wide-requires
 one-too-wide-requires c κs = search needs
 
--- src/lib.rt:101:1
 returns : tie.Need-returns
 returns c = search judging
 

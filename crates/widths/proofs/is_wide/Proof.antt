@@ -6,23 +6,18 @@ use Rattle.widths.proofs.is_wide.Tie as tie
 use Rattle.widths.proofs.is_wide.Reads as reads
 use Rattle.widths.proofs.is_wide.Lts as lts
 
--- src/lib.rt:113:14
 add-at : tie.Need-add-at
 add-at c = search needs
 
--- src/lib.rt:114:31
 mul-result : tie.Need-mul-result
 mul-result c = search needs
 
--- src/lib.rt:114:31
 shared-slice-read-result : tie.Need-shared-slice-read-result
 shared-slice-read-result c = search needs
 
--- src/lib.rt:109:1
 returns : tie.Need-returns
 returns c = search needs
 
--- src/lib.rt:109:1
 returns-2 : tie.Need-returns-2
 returns-2 c = search keeping
 

@@ -8,19 +8,15 @@ use Rattle.widths.proofs.joined.Lts as lts
 use Rattle.widths.proofs.larger.Reads as larger-reads
 use Rattle.widths.proofs.sum.Reads as sum-reads
 
--- src/lib.rt:38:18
 sum-requires : tie.Need-sum-requires
 sum-requires c κs = search needs
 
--- src/lib.rt:38:46
 larger-requires : tie.Need-larger-requires
 larger-requires c κs = search needs
 
--- src/lib.rt:35:1
 returns : tie.Need-returns
 returns c = search keeping
 
--- src/lib.rt:35:1
 returns-2 : tie.Need-returns-2
 returns-2 c = search keeping
 

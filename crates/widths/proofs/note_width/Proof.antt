@@ -6,23 +6,18 @@ use Rattle.widths.proofs.note_width.Tie as tie
 use Rattle.widths.proofs.note_width.Reads as reads
 use Rattle.widths.proofs.note_width.Lts as lts
 
--- src/lib.rt:53:17
 add-program : tie.Need-add-program
 add-program c = search needs
 
--- src/lib.rt:53:9
 mul-program : tie.Need-mul-program
 mul-program c = search needs
 
--- src/lib.rt:53:9
 element-write-program : tie.Need-element-write-program
 element-write-program c = search needs
 
--- src/lib.rt:49:1
 returns : tie.Need-returns
 returns c = search keeping
 
--- src/lib.rt:49:1
 returns-2 : tie.Need-returns-2
 returns-2 c = search keeping
 

@@ -5,11 +5,9 @@ use Rattle.widths.proofs.one_if.Tie as tie
 use Rattle.widths.proofs.one_if.Reads as reads
 use Rattle.widths.proofs.one_if.Lts as lts
 
--- src/lib.rt:42:1
 returns : tie.Need-returns
 returns c = search keeping
 
--- src/lib.rt:42:1
 returns-2 : tie.Need-returns-2
 returns-2 c = search keeping
 

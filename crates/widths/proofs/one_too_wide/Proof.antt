@@ -17,31 +17,24 @@ Inv-loop program₀ p matrix f₀ program f = Judged matrix program₀ f false p
 abbrev μ-loop : tie.MeasureT-loop
 μ-loop program₀ p matrix f₀ program f = p - f
 
--- src/lib.rt:91:5
 loop-holds : tie.Need-loop-holds Inv-loop μ-loop
 loop-holds c = search judging
 
--- src/lib.rt:92:13
 root-requires : tie.Need-root-requires Inv-loop μ-loop
 root-requires c κs = search judging
 
--- src/lib.rt:93:16
 note-widths-requires : tie.Need-note-widths-requires Inv-loop μ-loop
 note-widths-requires c κs = search judging
 
--- src/lib.rt:94:13
 returns : tie.Need-returns Inv-loop μ-loop
 returns c = search judging
 
--- src/lib.rt:91:9
 add-f : tie.Need-add-f Inv-loop μ-loop
 add-f c = search judging
 
--- src/lib.rt:91:5
 loop-less : tie.Need-loop-less Inv-loop μ-loop
 loop-less c = search judging
 
--- src/lib.rt:91:5
 loop-again : tie.Need-loop-again Inv-loop μ-loop
 loop-again c =
     let counted = c .before .before in
@@ -51,11 +44,9 @@ loop-again c =
     (judged-more _ _ (at-loop .loop .program) _ _ (at-loop .before .args .p) _ _ (at-loop .loop .inv .1) byte (rooted .root .ensures) (at-loop .loop .inv .0)
       (counted .note-widths .ensures) (c .before .if1 .left), search judging)
 
--- src/lib.rt:88:1
 returns-2 : tie.Need-returns-2 Inv-loop μ-loop
 returns-2 c = absurd (search judging)
 
--- src/lib.rt:88:1
 returns-3 : tie.Need-returns-3 Inv-loop μ-loop
 returns-3 c = search judging
 

@@ -1,4 +1,4 @@
--- `step::removed` meets its contract: what is left to remove from what is left makes the remaining list.
+-- `step::remaining` meets its contract: what is left to remove from what is left makes the remaining list.
 use Prim.Native.Nat.{_+_, _<_, _^_}
 use mathlib.Core.Path.{_≡_, sym, _∙_}
 use native.Mathlib.Omega.{arith}
@@ -9,8 +9,8 @@ use Rattle.model.specs.Lists.{removeAll, remaining}
 use Rattle.sets.specs.Sets.{membersOf}
 use Rattle.decoded.specs.DecodedTable.{numbersIn, removalsIn}
 use Rattle.step.proofs.Removals.{removed-nothing, removed-more, removed-ends, removed-begins}
-use Rattle.step.proofs.removed.Statement.{statement}
-use Rattle.step.proofs.removed.Tie as tie
+use Rattle.step.proofs.remaining.Statement.{statement}
+use Rattle.step.proofs.remaining.Tie as tie
 
 abbrev Inv-loop : tie.InvT-loop
 Inv-loop words at list left₀ place₀ rest₀ left place rest =
@@ -21,7 +21,7 @@ abbrev μ-loop : tie.MeasureT-loop
 μ-loop words at list left₀ place₀ rest₀ left place rest = left
 
 loop-holds : tie.Need-loop-holds Inv-loop μ-loop
-loop-holds c = (omega arith, removed-begins _ _ (c .before .before .args .list) _ (c .word .ensures))
+loop-holds c = (omega arith, removed-begins _ _ (c .before .args .list) _ (c .word .ensures))
 
 returns : tie.Need-returns Inv-loop μ-loop
 returns c = removed-nothing _ _ _ _ _ (c .before .before .loop .rest) (c .if1 .taken) (c .before .before .loop .inv .1)
@@ -38,8 +38,8 @@ loop-again c =
 returns-2 : tie.Need-returns-2 Inv-loop μ-loop
 returns-2 c = removed-ends _ _ _ _ (membersOf (c .before .loop .rest)) (c .loop-test .left) ∙ c .before .loop .inv .1
 
-pub removed-spec : {M : Type 1} → statement M
-removed-spec =
+pub remaining-spec : {M : Type 1} → statement M
+remaining-spec =
     tie.close
     (tie.spec
     Inv-loop
