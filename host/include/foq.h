@@ -58,7 +58,7 @@
  * measured, on x86-64, at the deepest tables that could be made:
  *
  *     foq_verdict       45 KiB
- *     foq_run          118 KiB
+ *     foq_run          101 KiB
  *     foq_compile      300 KiB
  *     foq_inverse       45 KiB
  *     foq_circuit_read   1 KiB
