@@ -114,6 +114,11 @@ module _ (bs : List ℕ) (at i : ℕ) (g : List ℕ) where
       unfolding recordWords
       record-plain k p h e q r s = s ∙ rw (recorded-words, ← map, e, q, r)
 
-pub ruleset words = (needs, word-past, place-in, place-out, head-stored, number-is, number-taken, plain-stored, removing-stored)
+-- the place behind removals
+pub after-count : (bs : List ℕ) (at b n : ℕ) → b ≡ byteAt bs at → n ≡ b → at + 1 + 3 * n ≡ afterRemovals true bs at
+unfolding afterRemovals
+after-count bs at b n q h = rw (h, q)
+
+pub ruleset words = (needs, after-count, word-past, place-in, place-out, head-stored, number-is, number-taken, plain-stored, removing-stored)
 
 pub ruleset recording = (needs, record-many, record-past, record-removing, record-none, record-plain)

@@ -1,14 +1,16 @@
 // A table decoded: every record is taken from its bytes once, when it is read, into words of its own. Check, run and emission walk over these words.
 ghost use mathlib.Core.Path.{_≡_};
+ghost use mathlib.Core.Bool.{true};
 ghost use mathlib.Core.List.{[], _∷_};
 ghost use Prim.Native.Nat.{_+_, _≤_, _<_, min};
 ghost use lib.ListN.{getD, length};
 ghost use lib.Seq.{sets};
 ghost use Rattle.limits.specs.Sizes.{recordCount, removalsField, recordLength, programLength};
 ghost use Rattle.model.specs.Limits.{mostRemovals};
+ghost use Rattle.records.specs.Fields.{afterRemovals};
 ghost use Rattle.decoded.specs.RecordWords.{wordAt, wordsFrom, placeWord, plainWords, removingWords, recorded, wordNumber, rowAt};
 use limits::{MOST_REMOVALS, PLACE_COUNT, PROGRAM_LENGTH, RECORDS_AT, RECORD_COUNT, RECORD_LENGTH, REMOVALS_FIELD};
-use records::{Number, after_removals, based, byte, removes, signed};
+use records::{Number, based, byte, removes, signed};
 
 // The word of a number: its three bytes, the base lowest.
 fn number_word(table: &[u8], at: usize) -> u32
@@ -83,13 +85,21 @@ fn put_plain(table: &[u8], kind: u8, place: u32, at: usize, program: &mut [u32; 
     program[row + REMOVALS_FIELD] = b;
 }
 
+// The place behind the removals at a place: a count byte, then that many numbers.
+fn after_removals(table: &[u8], at: usize) -> usize
+    requires { ⌜ at < length (now table) ⌝ }
+    ensures { λ r. ⌜ r ≡ afterRemovals true (now (table .entry)) at ⌝ }
+{
+    at + 1 + 3 * byte(table, at) as usize
+}
+
 // The words of a record with removals: their count stands at a place. More than 8 are no more than 8: no table that has been read has more.
 fn put_removing(table: &[u8], kind: u8, place: u32, at: usize, program: &mut [u32; PROGRAM_LENGTH], row: usize)
     requires { ⌜ row + recordLength ≤ programLength ⌝ }
     requires { ⌜ at < length (now table) ⌝ }
     ensures { λ r. ⌜ now (program .exit) ≡ sets (now (program .entry)) row (removingWords kind place (now (table .entry)) at) ⌝ }
 {
-    let next = after_removals(table, at, true);
+    let next = after_removals(table, at);
     let count = smaller(table[at], MOST_REMOVALS);
     let a = number_word(table, next);
     put_head(program, row, kind, place, byte(table, next), count, a);

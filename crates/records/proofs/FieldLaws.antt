@@ -29,7 +29,7 @@ use Rattle.records.specs.Fields.{
   byteAt, writtenAt, andThenPlace, andThenNumber, andThenProcedure, based, numberAt, numbersAt, removalsAt, maybeRemovalsAt,
 }
 use Rattle.records.specs.Fields.{
-  placeOf, afterRemovals, plainRecord, touchRecord, comparisonRecord, withNumber, withNumbers, withProcedure, fieldsAt,
+  placeOf, plainRecord, touchRecord, comparisonRecord, withNumber, withNumbers, withProcedure, fieldsAt,
 }
 
 -- a conjunction as the code takes it, test by test
@@ -212,16 +212,6 @@ pub made-call :
     answer.Record (kind.Call place g) n ≡ answer.Record (kind.Call (placeOf removes at) g) n
 made-call place at g n removes p = cc
 
--- the place behind removals, where the map has bit 0
-pub after-stand :
-    (removes : Bool) (bs : List ℕ) (at b n : ℕ) → removes ≡ true → b ≡ byteAt bs at → n ≡ b → at + 1 + 3 * n ≡ afterRemovals removes bs at
-unfolding afterRemovals
-after-stand removes bs at b n e q h = rw (e, h, q)
-
-pub after-lack : (removes : Bool) (bs : List ℕ) (at : ℕ) → removes ≡ false → at ≡ afterRemovals removes bs at
-unfolding afterRemovals
-after-lack removes bs at e = rw e
-
 -- a kind without fields
 pub plain-is : (k j : ℕ) (r : Record) → k ≡ j → r ≡ plainRecord j → r ≡ plainRecord k
 plain-is k j r e q = rw e q
@@ -317,8 +307,6 @@ pub ruleset written = (
   place-stands,
   place-past,
   place-lacks,
-  after-stand,
-  after-lack,
 )
 
 pub ruleset kinds = (

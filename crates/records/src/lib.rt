@@ -1,10 +1,8 @@
 // The records of a table, one at a time, read with refusals 1 and 6.
 ghost use mathlib.Core.Path.{_≡_};
-ghost use Prim.Native.Nat.{_+_, _≤_};
-ghost use lib.ListN.{length};
 ghost use Rattle.model.specs.Reading.{signed16, requiredMap, stands};
 ghost use Rattle.model.specs.Reading as model;
-ghost use Rattle.records.specs.Fields.{byteAt, based, writtenAt, numberAt, numbersAt, removalsAt, maybeRemovalsAt, placeOf, afterRemovals, procedureAt};
+ghost use Rattle.records.specs.Fields.{byteAt, based, writtenAt, numberAt, numbersAt, removalsAt, maybeRemovalsAt, placeOf, procedureAt};
 ghost use Rattle.records.specs.Fields.{plainRecord, touchRecord, comparisonRecord, withNumber, withNumbers, withProcedure, fieldsAt, FieldsRead};
 use limits::{KIND_COUNT, MOST_BASE, MOST_REMOVALS, PLACE_COUNT, TABLE_STOPS, WRONG_FIELD};
 
@@ -294,12 +292,4 @@ pub fn removes(map: u8) -> bool
     ensures { λ r. ⌜ r ≡ stands 0 map ⌝ }
 {
     map % 2 == 1
-}
-
-// The place behind the removals at a place, if any: a count byte, then that many numbers.
-pub fn after_removals(table: &[u8], at: usize, removes: bool) -> usize
-    requires { ⌜ at ≤ length (now table) + 1 ⌝ }
-    ensures { λ r. ⌜ r ≡ afterRemovals removes (now (table .entry)) at ⌝ }
-{
-    if removes { at + 1 + 3 * byte(table, at) as usize } else { at }
 }

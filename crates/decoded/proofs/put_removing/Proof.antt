@@ -9,7 +9,7 @@ use Rattle.decoded.proofs.number_word.Reads as number-word-reads
 use Rattle.decoded.proofs.put_head.Reads as put-head-reads
 use Rattle.decoded.proofs.put_numbers.Reads as put-numbers-reads
 use Rattle.decoded.proofs.smaller.Reads as smaller-reads
-use Rattle.records.proofs.after_removals.Reads as after-removals-reads
+use Rattle.decoded.proofs.after_removals.Reads as after-removals-reads
 use Rattle.records.proofs.byte.Reads as byte-reads
 
 after-removals-requires : tie.Need-after-removals-requires
