@@ -5,6 +5,7 @@ use mathlib.Core.Logic.{_≢_, inl, inr}
 use mathlib.Core.Bool.{true, false}
 use mathlib.Core.List.{List, [], _∷_, _++_, map, reverse}
 use Prim.Native.Nat.{ℕ, _<_}
+use native.Mathlib.Omega.{arith}
 use borrow.Author.Tests.{eqb-true}
 use lib.ListN.{length}
 use lib.Dec.{eqb}
@@ -103,17 +104,21 @@ module _ (n : ℕ) (d : Invocation) (dat : Data n (d .list)) where
   entered-above e s x w h q =
     renamed-at (moves d e) (flipped (d .ancilla) s) w ∙ (ap (flipped (d .ancilla) s) (moves-above e x w h) ∙ flipped-other s (d .ancilla) w q)
 
+  -- the ancilla of a later invocation is a wire
+  positive : (e : Invocation) → Entrant n d e → 0 < e .ancilla
+  positive e x = omega (arith, x .above)
+
   -- the gates of one entry: nothing where the later invocation's ancilla is 0
-  entry-rests : (e : Invocation) (s : State) → s (e .ancilla) ≡ false → effect (entryGates d e) s ≡ s
+  entry-rests : (e : Invocation) (s : State) → Entrant n d e → s (e .ancilla) ≡ false → effect (entryGates d e) s ≡ s
   unfolding entryGates
-  entry-rests e s h = rw (effect-places, flip-rests (under (e .ancilla)) (d .ancilla) s (fires-under (e .ancilla) s ∙ h))
-    (swaps-rest (e .ancilla) (d .list) (e .list) s h)
+  entry-rests e s x h = rw (effect-places, flip-rests (under (e .ancilla)) (d .ancilla) s (fires-under (e .ancilla) s (positive e x) ∙ h))
+    (swaps-rest (e .ancilla) (d .list) (e .list) s (positive e x) h)
 
   -- where it is 1 they enter
   entry-fires : (e : Invocation) (s : State) → Entrant n d e → s (e .ancilla) ≡ true → effect (entryGates d e) s ≡ entered d e s
   unfolding entryGates
-  entry-fires e s x h = rw (effect-places, flip-fires (under (e .ancilla)) (d .ancilla) s (fires-under (e .ancilla) s ∙ h))
-    (swaps-fire (e .ancilla) (d .list) (e .list) (flipped (d .ancilla) s)
+  entry-fires e s x h = rw (effect-places, flip-fires (under (e .ancilla)) (d .ancilla) s (fires-under (e .ancilla) s (positive e x) ∙ h))
+    (swaps-fire (e .ancilla) (d .list) (e .list) (flipped (d .ancilla) s) (positive e x)
       (not-in (d .list) dat (e .ancilla) (x .above)) (not-in (e .list) (x .wires) (e .ancilla) (x .above))
       (flipped-other s (d .ancilla) (e .ancilla) (λ q. x .apart (sym q)) ∙ h))
 
@@ -133,13 +138,14 @@ module _ (n : ℕ) (d : Invocation) (dat : Data n (d .list)) where
     (λ h. rw (entries-other d e later h) (entries-clear later (λ y m. X y (inr m))))
 
   -- where no later invocation of the pair is active, the entry gates do nothing
-  pub entries-rest : (later : List Invocation) (s : State) →
+  pub entries-rest : (later : List Invocation) (s : State) → Entrants n d later →
       ((e : Invocation) → Mem e later → samePair d e ≡ true → s (e .ancilla) ≡ false) → effect (allEntryGates d later) s ≡ s
   unfolding allEntryGates
-  entries-rest [] s h = effect-nil s
-  entries-rest (e ∷ later) s h = byBool (samePair d e)
-    (λ q. rw (entries-same d e later q, effect-append, entry-rests e s (h e (inl refl) q)) (entries-rest later s (λ y m. h y (inr m))))
-    (λ q. rw (entries-other d e later q) (entries-rest later s (λ y m. h y (inr m))))
+  entries-rest [] s X h = effect-nil s
+  entries-rest (e ∷ later) s X h = byBool (samePair d e)
+    (λ q. rw (entries-same d e later q, effect-append, entry-rests e s (X e (inl refl) q) (h e (inl refl) q))
+      (entries-rest later s (λ y m. X y (inr m)) (λ y m. h y (inr m))))
+    (λ q. rw (entries-other d e later q) (entries-rest later s (λ y m. X y (inr m)) (λ y m. h y (inr m))))
 
   -- where one is, alone, they enter with its list
   pub entries-fire : (later : List Invocation) (s : State) (e : Invocation) → Entrants n d later → DistinctAncillas later →
@@ -150,13 +156,13 @@ module _ (n : ℕ) (d : Invocation) (dat : Data n (d .list)) where
   entries-fire (x ∷ later) s e X D (inl m) q h sole =
     let same : samePair d x ≡ true = subst (λ (y : Invocation). samePair d y ≡ true) m q in
     rw (entries-same d x later same, effect-append, entry-fires x s (X x (inl refl) same) (subst (λ (y : Invocation). s (y .ancilla) ≡ true) m h), ← m)
-      (entries-rest later (entered d e s) (λ y my qy.
+      (entries-rest later (entered d e s) (λ y my. X y (inr my)) (λ y my qy.
         let Y : Entrant n d y = X y (inr my) qy in
         entered-above e s (X e (inl m) q .wires) (y .ancilla) (Y .above) (λ z. Y .apart (sym z)) ∙
           not-true-false (s (y .ancilla)) (λ on. D .0 y my (ap (λ (v : Invocation). v .ancilla) (sym m ∙ sym (sole y (inr my) qy on))))))
   entries-fire (x ∷ later) s e X D (inr m) q h sole =
     let rest = entries-fire later s e (λ y my. X y (inr my)) (D .1) m q h (λ y my. sole y (inr my)) in
     byBool (samePair d x)
-      (λ same. rw (entries-same d x later same, effect-append, entry-rests x s
+      (λ same. rw (entries-same d x later same, effect-append, entry-rests x s (X x (inl refl) same)
           (not-true-false (s (x .ancilla)) (λ on. D .0 e m (ap (λ (v : Invocation). v .ancilla) (sole x (inl refl) same on))))) rest)
       (λ other. rw (entries-other d x later other) rest)

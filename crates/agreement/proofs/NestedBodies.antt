@@ -13,7 +13,7 @@ use Rattle.model.specs.Syntax.{Statement, Program, body}
 use Rattle.model.specs.Lists.{member}
 use Rattle.model.specs.Meaning.{State, flipped, CallDoes, does}
 use Rattle.model.specs.Reach.{recursive}
-use Rattle.model.specs.Gates.{renamed}
+use Rattle.model.specs.Gates.{renamed, fires}
 use Rattle.model.specs.Emission.{Event, Chains, Invocation, invocation, left, right, under, samePair, allEntryGates, Emitted, bodyInvocations, around, isFirst}
 use Rattle.model.specs.Emission.{bodies, bodiesFrom, chainsWithin}
 use Rattle.model.proofs.BooleanLaws.{byBool, byEq, eqb-same, clash, not-true-false, not-not, and-left, and-right, and-both}
@@ -128,11 +128,15 @@ module _ (P : Program) (rank : ℕ → ℕ) (E : CallDoes) (G : Safely) (n : ℕ
     pub ranked-body : Ranked rank again k code
     ranked-body = ranked-up rank again (rank (d .procedure)) k code (gd .low) (W .ranked (d .procedure))
 
+    -- its gates fire where its ancilla is 1
+    fires-own : (s : State) → fires (under (d .ancilla)) s ≡ s (d .ancilla)
+    fires-own s = fires-under (d .ancilla) s (omega (arith, gd .above))
+
     -- where its ancilla is 0 its left part does nothing
     left-still : (s : State) → Zero next s → s (d .ancilla) ≡ false → effect leftPart s ≡ s
     unfolding leftPart
     left-still s z h = left-rests P rank E G n W chains k served again code (d .list) (d .ancilla ∷ []) (under (d .ancilla)) next s
-      ranked-body (W .narrow (d .procedure)) safe-body (gd .fine .wires) (gd .fine .distinct) next-above z (fires-under (d .ancilla) s ∙ h)
+      ranked-body (W .narrow (d .procedure)) safe-body (gd .fine .wires) (gd .fine .distinct) next-above z (fires-own s ∙ h)
 
     -- its recursive calls: their ancillas, and that they are fit for bodies of their own
     own-range : (x : Invocation) → Mem x (own d next) → (next ≤ x .ancilla) × (x .ancilla < behind d next)
@@ -158,7 +162,7 @@ module _ (P : Program) (rank : ℕ → ℕ) (E : CallDoes) (G : Safely) (n : ℕ
       unfolding rightPart
       right-still s z h = right-rests P rank E G n W chains k served again code (d .list) (d .ancilla ∷ []) (under (d .ancilla)) next top s
         ranked-body (W .narrow (d .procedure)) safe-body (gd .fine .wires) (gd .fine .distinct) (let a = next-above in omega arith) z
-        (fires-under (d .ancilla) s ∙ h)
+        (fires-own s ∙ h)
 
       -- where its ancilla is 1 the two parts split what the body does
       parts : (s : State) → Zero next s → s (d .ancilla) ≡ true →
@@ -166,7 +170,7 @@ module _ (P : Program) (rank : ℕ → ℕ) (E : CallDoes) (G : Safely) (n : ℕ
       unfolding leftPart rightPart
       parts s z h = split P rank E G n W chains k served again code (d .list) (d .ancilla ∷ []) (under (d .ancilla)) next top s
         ranked-body (W .narrow (d .procedure)) safe-body (gd .fine .wires) (gd .fine .distinct) (gd .fine .some) next-above room z
-        (asked-in-under (d .ancilla)) (below-under next (d .ancilla) (gd .taken)) (fires-under (d .ancilla) s ∙ h)
+        (asked-in-under (d .ancilla)) (below-under next (d .ancilla) (gd .taken)) (fires-own s ∙ h)
 
       -- left part, inner events and right part do what the body does: either no recursive call is taken, or one, which the inner events serve
       core : (s : State) → Zero next s → Still Old s → Split E n (d .ancilla ∷ []) leftPart rightPart (own d next) s (does E code (d .list) s) →
@@ -230,7 +234,7 @@ module _ (P : Program) (rank : ℕ → ℕ) (E : CallDoes) (G : Safely) (n : ℕ
 
         -- then the entry gates do nothing
         entry-still : (s : State) → Calm s → effect (allEntryGates d later) s ≡ s
-        entry-still s c = entries-rest n d (gd .fine .wires) later s c
+        entry-still s c = entries-rest n d (gd .fine .wires) later s X c
 
         -- in reverse they lead back
         back : (s t : State) → effect (allEntryGates d later) s ≡ t → effect (reverse (allEntryGates d later)) t ≡ s

@@ -2,6 +2,7 @@
 -- through the bodies, which wires a call leaves alone, and the ranks and widths that refusals 10 and 11 grant. Beside it stand the words in
 -- which the agreement is stated: zero wires from a wire on, the wires that controls ask, lists fit for a call, chains that serve their calls.
 use mathlib.Core.Path.{_≡_, _∙_}
+use mathlib.Core.Logic.{_≢_}
 use mathlib.Core.Bool.{Bool, true, false}
 use mathlib.Core.List.{List, [], _∷_, map}
 use Prim.Native.Nat.{ℕ, suc, _≤_, _<_, zero-le, suc-le-suc}
@@ -15,7 +16,7 @@ use Rattle.model.specs.Reach.{recursive, width}
 use Rattle.model.specs.Gates.{Controls, noControls, withControl, renamed}
 use Rattle.model.specs.Emission.{Chains, under}
 use Rattle.model.proofs.BooleanLaws.{clash, not-true-false}
-use Rattle.model.proofs.ListLaws.{member-head, member-tail, not-in-nil, Distinct, Off, Data}
+use Rattle.model.proofs.ListLaws.{member-head, member-tail, not-head, not-in-nil, Distinct, Off, Data}
 use Rattle.model.proofs.GateLaws.{flipped-other, asks, asks-none, asks-cases}
 use Rattle.model.proofs.ReachAndRank.{Ranked}
 use Rattle.agreement.proofs.EffectOfEvents.{effect}
@@ -42,6 +43,10 @@ Safe G (sequence s t) l C = Safe G s l C × Safe G t l C
 Safe G (if c s t) l C = Chosen (holds c l) (Safe G s l C) (Safe G t l C)
 Safe G (qcase rs a s t) l C = (touchFaults (touched rs a l) C ≡ false) × Safe G s l (touched rs a l ∷ C) × Safe G t l (touched rs a l ∷ C)
 Safe G (call rs f) l C = SafeCall G f (remaining rs l) C
+
+-- what may be touched is a wire
+pub touch-positive : (q : ℕ) (C : List ℕ) → touchFaults q C ≡ false → 0 < q
+touch-positive q C h = let n : q ≢ 0 = not-head q 0 C h in omega arith
 
 -- a safe call leaves closed wires alone
 abbrev pub Keeps : CallDoes → Safely → Type 0

@@ -24,7 +24,7 @@ use Rattle.agreement.proofs.EmissionClauses.{invocations-other, left-wi
 use Rattle.agreement.proofs.EmissionClauses.{right-thin, right-yes, right-no, right-recursive, right-other, width-sequence, width-if, width-qcase}
 use Rattle.agreement.proofs.EmissionClauses.{thin-width, wide-width, thin-low}
 use Rattle.agreement.proofs.ProgramFacts.{
-  Safely, SafeCall, Safe, World, Zero, zero-up, zero-flip, AskedIn, asked-in-with-control, Below, below-with-control, below-up, Served,
+  Safely, SafeCall, Safe, touch-positive, World, Zero, zero-up, zero-flip, AskedIn, asked-in-with-control, Below, below-with-control, below-up, Served,
 }
 use Rattle.agreement.proofs.InvocationsOfABody.{Mem, mem-left, mem-right, invocations-range, invocations-new}
 use Rattle.agreement.proofs.FrameAndRenaming.{does-keeps, does-stays, fires-does}
@@ -209,6 +209,7 @@ module _ (P : Program) (rank : ℕ → ℕ) (E : CallDoes) (G : Safely) (n : ℕ
       let hi = next + length Dx in
       let Dy = invocations r y l hi in
       let lw : w ≤ n = data-touched n rs i l d in
+      let p = touch-positive w C (o .0) in
       let vx = width-qcase r rs i x y v .0 in
       let vy = width-qcase r rs i x y v .1 in
       let room : hi + length Dy ≤ top = omega (arith, rw length-append at t) in
@@ -220,18 +221,18 @@ module _ (P : Program) (rank : ℕ → ℕ) (E : CallDoes) (G : Safely) (n : ℕ
         (λ e. rw (does-one E rs i x y l s e)
           (split-one w C (left chains r x l c0 next) (right chains r x l c0 next top) (left chains r y l c1 hi) (right chains r y l c1 hi top)
             Dy Dx s (does E y l s)
-            (left-rests P rank E G n W chains k served r x l (w ∷ C) c0 next s (q .0) vx (o .1) d u a z (fires-miss w false cs s e))
+            (left-rests P rank E G n W chains k served r x l (w ∷ C) c0 next s (q .0) vx (o .1) d u a z (fires-miss w false cs s p e))
             (right-rests P rank E G n W chains k served r x l (w ∷ C) c0 next top (does E y l s) (q .0) vx (o .1) d u (omega arith)
               (zero-up next top (does E y l s) (omega arith) (zero-does P rank E G n W y l next s d a z))
-              (fires-miss w false cs (does E y l s) (does-keeps E G (W .keeps) y l (w ∷ C) s w (o .2) (member-head w C) ∙ e)))
+              (fires-miss w false cs (does E y l s) p (does-keeps E G (W .keeps) y l (w ∷ C) s w (o .2) (member-head w C) ∙ e)))
             (split y l (w ∷ C) c1 hi top s (q .1) vy (o .2) d u ne (omega arith) room (zero-up next hi s (omega arith) z) A1 B1
               (fires-hit w true cs s e ∙ h))))
         (λ e. rw (does-zero E rs i x y l s e)
           (split-zero w C next hi top a lw (omega arith) (omega arith) (left chains r y l c1 hi) (right chains r y l c1 hi top)
             (λ t′ e′ z′. left-rests P rank E G n W chains k served r y l (w ∷ C) c1 hi t′ (q .1) vy (o .2) d u (omega arith) z′
-              (fires-miss w true cs t′ e′))
+              (fires-miss w true cs t′ p e′))
             (λ t′ e′ z′. right-rests P rank E G n W chains k served r y l (w ∷ C) c1 hi top t′ (q .1) vy (o .2) d u (omega arith) z′
-              (fires-miss w true cs t′ e′))
+              (fires-miss w true cs t′ p e′))
             (left chains r x l c0 next) (right chains r x l c0 next top) Dx Dy s (does E x l s) e z
             (sures x l (w ∷ C) next (q .0) (o .1) d u ne)
             (split x l (w ∷ C) c0 next top s (q .0) vx (o .1) d u ne a (omega arith) z A0 B0 (fires-hit w false cs s e ∙ h))))

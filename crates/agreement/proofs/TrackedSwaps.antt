@@ -3,7 +3,7 @@ use mathlib.Core.Path.{_≡_, refl, sym, ap, _∙_, subst}
 use mathlib.Core.Logic.{_≢_}
 use mathlib.Core.Bool.{true, false}
 use mathlib.Core.List.{List, [], _∷_, map}
-use Prim.Native.Nat.{ℕ, suc, min, max}
+use Prim.Native.Nat.{ℕ, suc, _<_, min, max}
 use native.Mathlib.Nat.{suc-inj}
 use native.Mathlib.Omega.{arith}
 use borrow.Author.Tests.{eqb-true}
@@ -20,10 +20,10 @@ use Rattle.model.proofs.GateLaws.{swapOf-fires, swapOf-rests, Clear}
 use Rattle.agreement.proofs.EffectOfEvents.{effect, effect-nil, effect-places, AllClear}
 
 -- gates under one ancilla fire where it is 1
-pub fires-under : (e : ℕ) (s : State) → fires (under e) s ≡ s e
-fires-under e s = byBool (s e)
+pub fires-under : (e : ℕ) (s : State) → 0 < e → fires (under e) s ≡ s e
+fires-under e s p = byBool (s e)
     (λ h. fires-hit e true noControls s h ∙ (fires-none s ∙ sym h))
-    (λ h. fires-miss e true noControls s h ∙ sym h)
+    (λ h. fires-miss e true noControls s p h ∙ sym h)
 
 -- they ask that ancilla and no other wire
 pub asks-under : (e w : ℕ) → w ≢ e → asks (under e) w ≡ false
@@ -139,31 +139,31 @@ route-list (k ∷ ks) (w ∷ ws) e dk dw = byBool (eqb w k)
         (ap (λ (x : ℕ). x ∷ ws) (exchange-right w k)))
 
 -- the swaps under an ancilla e that is 0 do nothing
-pub swaps-rest : (e : ℕ) (ks ws : List ℕ) (s : State) → s e ≡ false → effect (swaps e ks ws) s ≡ s
+pub swaps-rest : (e : ℕ) (ks ws : List ℕ) (s : State) → 0 < e → s e ≡ false → effect (swaps e ks ws) s ≡ s
 unfolding swaps
-swaps-rest e [] ws s h = effect-nil s
-swaps-rest e (k ∷ ks) [] s h = effect-nil s
-swaps-rest e (k ∷ ks) (w ∷ ws) s h = byBool (eqb w k)
-    (λ q. rw (swaps-there k w ks ws q e) (swaps-rest e ks ws s h))
-    (λ q. rw (swaps-swap k w ks ws q e, effect-places, swapOf-rests (under e) w k s (fires-under e s ∙ h))
-      (swaps-rest e ks (map (exchange w k) ws) s h))
+swaps-rest e [] ws s p h = effect-nil s
+swaps-rest e (k ∷ ks) [] s p h = effect-nil s
+swaps-rest e (k ∷ ks) (w ∷ ws) s p h = byBool (eqb w k)
+    (λ q. rw (swaps-there k w ks ws q e) (swaps-rest e ks ws s p h))
+    (λ q. rw (swaps-swap k w ks ws q e, effect-places, swapOf-rests (under e) w k s (fires-under e s p ∙ h))
+      (swaps-rest e ks (map (exchange w k) ws) s p h))
 
 -- where it is 1 they rename the wires by the route
-pub swaps-fire : (e : ℕ) (ks ws : List ℕ) (s : State) → member e ks ≡ false → member e ws ≡ false → s e ≡ true →
+pub swaps-fire : (e : ℕ) (ks ws : List ℕ) (s : State) → 0 < e → member e ks ≡ false → member e ws ≡ false → s e ≡ true →
     effect (swaps e ks ws) s ≡ renamed (route ks ws) s
 unfolding swaps route renamed
-swaps-fire e [] ws s hk hw h = effect-nil s
-swaps-fire e (k ∷ ks) [] s hk hw h = effect-nil s
-swaps-fire e (k ∷ ks) (w ∷ ws) s hk hw h =
+swaps-fire e [] ws s p hk hw h = effect-nil s
+swaps-fire e (k ∷ ks) [] s p hk hw h = effect-nil s
+swaps-fire e (k ∷ ks) (w ∷ ws) s p hk hw h =
     let nk = not-head e k ks hk in
     let nw = not-head e w ws hw in
     byBool (eqb w k)
-      (λ q. rw (swaps-there k w ks ws q e, q, route) (swaps-fire e ks ws s (not-tail e k ks hk) (not-tail e w ws hw) h))
+      (λ q. rw (swaps-there k w ks ws q e, q, route) (swaps-fire e ks ws s p (not-tail e k ks hk) (not-tail e w ws hw) h))
       (λ q.
         let moved = map (exchange w k) ws in
         let t = renamed (exchange w k) s in
-        rw (swaps-swap k w ks ws q e, effect-places, swapOf-fires (under e) w k s (fires-under e s ∙ h), q, route)
-          (swaps-fire e ks moved t (not-tail e k ks hk) (member-moved w k e ws nw nk (not-tail e w ws hw)) (ap s (exchange-other w k e nw nk) ∙ h)))
+        rw (swaps-swap k w ks ws q e, effect-places, swapOf-fires (under e) w k s (fires-under e s p ∙ h), q, route)
+          (swaps-fire e ks moved t p (not-tail e k ks hk) (member-moved w k e ws nw nk (not-tail e w ws hw)) (ap s (exchange-other w k e nw nk) ∙ h)))
 
 -- a swap of two wires other than its ancilla does not ask its targets
 swapOf-clear : (e u v : ℕ) → e ≢ u → e ≢ v → Clear (swapOf (under e) u v)

@@ -5,7 +5,7 @@ use mathlib.Core.Bool.{Bool, true, false, not, _&&_}
 use mathlib.Core.List.{List, [], _∷_, _++_, map, reverse, reverse-cons}
 use Prim.Native.Nat.{ℕ, zero, suc, _+_, _≤_, _<_, min, max, suc-le-suc}
 use native.Mathlib.Omega.{arith}
-use borrow.Author.Tests.{lt-ltb, ltb-false, le-leb, eqb-false, not-true}
+use borrow.Author.Tests.{lt-ltb, le-leb, eqb-false, not-true}
 use lib.ListN.{length, length-append}
 use lib.Dec.{eqb, ltb}
 use Rattle.model.specs.Syntax.{Number, Statement, skip, NOT, sequence, if, qcase, call, Program, count, body}
@@ -14,20 +14,25 @@ use Rattle.model.specs.Limits.{mostQubits, headerLength}
 use Rattle.model.specs.Faults.{touchFaults, programFaults}
 use Rattle.model.specs.Meaning.{CallDoes}
 use Rattle.model.specs.Reach.{recursive, width, anyLacksRemoval, anyTooWide}
-use Rattle.model.specs.Gates.{Controls, noControls, insert, withControl, flip, swap, swapOf, exchange}
+use Rattle.model.specs.Gates.{Controls, noControls, insert, asked, withControl, flip, swap, swapOf, exchange}
 use Rattle.model.specs.Emission.{
   Event, takes, places, frees, Chains, startChain, whole, Invocation, invocation, invoked, isWide, invocations, invokes, returns, left, right, under,
   swaps, entryGates, samePair, allEntryGates, Emitted, bodyInvocations, around, bodies, bodiesFrom, chainsWithin, emission, gates, peak,
 }
 use Rattle.model.specs.Answers.{fit, circuit, usable}
 use Rattle.model.specs.Circuit.{write, wires, controlsOf, ascends, distinct, within, lowerFirst, gateIsWellFormed}
-use Rattle.model.proofs.BooleanLaws.{byBool, byEq, byLt, clash, not-true-false, and-left, and-right, and-both, or-false, or-false-left, or-false-right}
+use Rattle.model.proofs.BooleanLaws.{
+  byBool, byEq, byLt, byOrder, clash, not-true-false, and-left, and-right, and-both, or-false, or-false-left, or-false-right,
+}
 use Rattle.model.proofs.ListLaws.{
-  qubits-data, range-distinct, member-head, member-tail, member-cases, member-append, member-skip, not-head, not-tail, not-in-nil, Distinct, Data,
+  qubits-data, range-distinct, member-head, member-tail, member-cases, member-append, member-skip, not-tail, not-in-nil, Distinct, Data,
   data-remaining, data-touched, remaining-distinct,
 }
 use Rattle.model.proofs.AscendingWires.{ascends-tail, ascends-larger, ascends-distinct}
-use Rattle.model.proofs.GateLaws.{insert-cases, asks, asks-none, asks-cases, exchange-left, exchange-right, exchange-other}
+use Rattle.model.proofs.GateLaws.{
+  insert-before, insert-there, insert-behind, insert-cases, asked-wire, asked-none, asked-cases, asks, asks-none, asks-cases, exchange-left,
+  exchange-right, exchange-other,
+}
 use Rattle.model.proofs.ReachAndRank.{Named, Ranked, rank}
 use Rattle.model.proofs.RoundTrip.{AllWellFormed, write-length, WellFormed}
 use Rattle.agreement.proofs.EmissionClauses.{
@@ -36,8 +41,8 @@ use Rattle.agreement.proofs.EmissionClauses.{
   width-sequence, width-if, width-qcase, thin-width, wide-width, Low, thin-low,
 }
 use Rattle.agreement.proofs.ProgramFacts.{
-  Safely, SafeCall, Safe, World, AskedIn, asked-in-none, asked-in-with-control, asked-in-under, Below, below-none, below-with-control, below-under, below-up,
-  below-not, Fine, fine-call, Served,
+  Safely, SafeCall, Safe, touch-positive, World, AskedIn, asked-in-none, asked-in-with-control, asked-in-under, Below, below-none, below-with-control,
+  below-under, below-up, below-not, Fine, fine-call, Served,
 }
 use Rattle.agreement.proofs.InvocationsOfABody.{Mem, mem-left, DistinctAncillas}
 use Rattle.agreement.proofs.TrackedSwaps.{asks-under}
@@ -54,18 +59,20 @@ unfolding ascends
 ascends-cons x [] h a = refl
 ascends-cons x (y ∷ l) h a = and-both (ltb x y) (ascends (y ∷ l)) (lt-ltb x y (h y (member-head y l))) a
 
--- a new wire keeps a list ascending
-insert-ascends : (w : ℕ) (l : List ℕ) → member w l ≡ false → ascends l ≡ true → ascends (insert w l) ≡ true
+-- a wire put into an ascending list keeps it ascending
+insert-ascends : (w : ℕ) (l : List ℕ) → ascends l ≡ true → ascends (insert w l) ≡ true
 unfolding insert ascends
-insert-ascends w [] n a = refl
-insert-ascends w (x ∷ l) n a = byBool (ltb w x)
-    (λ e. rw (e, insert) (and-both (ltb w x) (ascends (x ∷ l)) e a))
-    (λ e. let ge = ltb-false w x e in
-      let ne : w ≢ x = not-head w x l n in
-      let less : x < w = omega arith in
-      rw (e, insert) (ascends-cons x (insert w l)
-        (λ v m. insert-cases w v l m (λ q. rw q less) (λ i. ascends-larger x l a v i))
-        (insert-ascends w l (not-tail w x l n) (ascends-tail x l a))))
+insert-ascends w [] a = refl
+insert-ascends w (x ∷ l) a = byOrder w x
+    (λ o. rw (insert-before w x l o) (and-both (ltb w x) (ascends (x ∷ l)) (lt-ltb w x o) a))
+    (λ o. rw (insert-there w x l o) a)
+    (λ o. rw (insert-behind w x l o) (ascends-cons x (insert w l)
+      (λ v m. insert-cases w v l m (λ q. rw q o) (λ i. ascends-larger x l a v i))
+      (insert-ascends w l (ascends-tail x l a))))
+
+-- so does a wire that is asked
+asked-ascends : (w : ℕ) (l : List ℕ) → ascends l ≡ true → ascends (asked w l) ≡ true
+asked-ascends w l a = byEq w 0 (λ e. rw (asked-none w l e) a) (λ n. rw (asked-wire w l (omega arith)) (insert-ascends w l a))
 
 -- two lists that share no wire
 distinct-append : (xs ys : List ℕ) → distinct xs ≡ true → distinct ys ≡ true →
@@ -111,20 +118,18 @@ neat-none = record { ones-ascend = refl; zeros-ascend = refl; apart = λ v m. no
 neat-with-control : (w : ℕ) (b : Bool) (cs : Controls) → 0 < w → asks cs w ≡ false → Neat cs → Neat (withControl w b cs)
 unfolding withControl asks
 neat-with-control w true cs h o c =
-    let o₁ = or-false-left (member w (cs .ones)) (member w (cs .zeros)) o in
     let o₀ = or-false-right (member w (cs .ones)) (member w (cs .zeros)) o in
     record {
-      ones-ascend = insert-ascends w (cs .ones) o₁ (c .ones-ascend);
+      ones-ascend = asked-ascends w (cs .ones) (c .ones-ascend);
       zeros-ascend = c .zeros-ascend;
-      apart = λ v m. insert-cases w v (cs .ones) m (λ e. rw e o₀) (λ i. c .apart v i);
+      apart = λ v m. asked-cases w v (cs .ones) m (λ e. rw e o₀) (λ i. c .apart v i);
       positive = zero-unasked w true cs h (c .positive) }
 neat-with-control w false cs h o c =
     let o₁ = or-false-left (member w (cs .ones)) (member w (cs .zeros)) o in
-    let o₀ = or-false-right (member w (cs .ones)) (member w (cs .zeros)) o in
     record {
       ones-ascend = c .ones-ascend;
-      zeros-ascend = insert-ascends w (cs .zeros) o₀ (c .zeros-ascend);
-      apart = λ v m. not-true-false (member v (insert w (cs .zeros))) (λ i. insert-cases w v (cs .zeros) i
+      zeros-ascend = asked-ascends w (cs .zeros) (c .zeros-ascend);
+      apart = λ v m. not-true-false (member v (asked w (cs .zeros))) (λ i. asked-cases w v (cs .zeros) i
         (λ e. clash (subst (λ (x : ℕ). member x (cs .ones) ≡ true) e m) o₁)
         (λ j. clash j (c .apart v m)));
       positive = zero-unasked w false cs h (c .positive) }
@@ -281,7 +286,7 @@ module _ (P : Program) (rank : ℕ → ℕ) (E : CallDoes) (G : Safely) (n most 
   module _ (rs : List Number) (i : Number) (l C : List ℕ) (cs : Controls) (next : ℕ) (d : Data n l) (a : n < next) (F : InForce next C cs)
            (safe : touchFaults (touched rs i l) C ≡ false) where
     touched-positive : 0 < touched rs i l
-    touched-positive = nonzero-positive (touched rs i l) (not-head (touched rs i l) 0 C safe)
+    touched-positive = touch-positive (touched rs i l) C safe
 
     touched-below : touched rs i l < next
     touched-below = let b = data-touched n rs i l d in omega arith

@@ -16,7 +16,8 @@ use Rattle.model.proofs.EnoughFuel.{does-yes, does-no, does-zero, does-one}
 use Rattle.agreement.proofs.EffectOfEvents.{effect, effect-nil, effect-takes, effect-places, effect-frees, effect-append}
 use Rattle.agreement.proofs.EmissionClauses.{Low, whole-yes, whole-no}
 use Rattle.agreement.proofs.ProgramFacts.{
-  Safely, SafeCall, Safe, World, Zero, zero-up, zero-flip, AskedIn, asked-in-with-control, Below, below-with-control, below-not, fine-call, Served,
+  Safely, SafeCall, Safe, touch-positive, World, Zero, zero-up, zero-flip, AskedIn, asked-in-with-control, Below, below-with-control, below-not, fine-call,
+  Served,
 }
 use Rattle.agreement.proofs.FrameAndRenaming.{does-keeps, does-stays, fires-does}
 
@@ -105,17 +106,18 @@ module _ (P : Program) (rank : ℕ → ℕ) (E : CallDoes) (G : Safely) (n : ℕ
     whole-fires (qcase rs i x y) l C cs next s r o d u a z A B h =
       let q = touched rs i l in
       let low : q < next = omega (arith, data-touched n rs i l d) in
+      let p = touch-positive q C (o .0) in
       let c0 = withControl q false cs in
       let c1 = withControl q true cs in
       byBool (s q)
         (λ e. rw (does-one E rs i x y l s e, effect-append,
-                  whole-rests x l (q ∷ C) c0 next s (r .0) (o .1) d u a z (fires-miss q false cs s e))
+                  whole-rests x l (q ∷ C) c0 next s (r .0) (o .1) d u a z (fires-miss q false cs s p e))
           (whole-fires y l (q ∷ C) c1 next s (r .1) (o .2) d u a z (asked-in-with-control q true C cs A) (below-with-control next q true cs low B)
             (fires-hit q true cs s e ∙ h)))
         (λ e. rw (does-zero E rs i x y l s e, effect-append,
                   whole-fires x l (q ∷ C) c0 next s (r .0) (o .1) d u a z (asked-in-with-control q false C cs A) (below-with-control next q false cs low B)
                     (fires-hit q false cs s e ∙ h))
           (whole-rests y l (q ∷ C) c1 next (does E x l s) (r .1) (o .2) d u a (zero-does x l next s d a z)
-            (fires-miss q true cs (does E x l s) (does-keeps E G (W .keeps) x l (q ∷ C) s q (o .1) (member-head q C) ∙ e))))
+            (fires-miss q true cs (does E x l s) p (does-keeps E G (W .keeps) x l (q ∷ C) s q (o .1) (member-head q C) ∙ e))))
     whole-fires (call rs f) l C cs next s r o d u a z A B h =
       startChain-fires f (remaining rs l) C cs next s r o (data-remaining n rs l d) (remaining-distinct rs l u) a z A B h

@@ -22,6 +22,10 @@ byEq m n f g = byBool (eqb m n) (λ e. f (eqb-true m n e)) (λ e. g (eqb-false m
 pub byLt {ℓ} : {A : Type ℓ} (m n : ℕ) → (m < n → A) → (n ≤ m → A) → A
 byLt m n f g = byBool (ltb m n) (λ e. f (ltb-true m n e)) (λ e. g (ltb-false m n e))
 
+-- split on the order of two numbers
+pub byOrder {ℓ} : {A : Type ℓ} (m n : ℕ) → (m < n → A) → (m ≡ n → A) → (n < m → A) → A
+byOrder m n f e g = byLt m n f (λ h. byEq m n e (λ ne. g (omega arith)))
+
 pub eqb-same : (n : ℕ) → eqb n n ≡ true
 eqb-same n = eq-eqb n n refl
 

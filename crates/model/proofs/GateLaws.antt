@@ -3,16 +3,15 @@ use mathlib.Core.Path.{_≡_, refl, sym, ap, _∙_, fun-ext}
 use mathlib.Core.Logic.{_≢_}
 use mathlib.Core.Bool.{Bool, true, false, not, _&&_, _||_, true≢false}
 use mathlib.Core.List.{List, [], _∷_}
-use Prim.Native.Nat.{ℕ, min, max}
+use Prim.Native.Nat.{ℕ, _<_, min, max}
 use native.Mathlib.Omega.{arith}
-use borrow.Author.Tests.{ne-eqb}
-use lib.Dec.{ltb}
+use borrow.Author.Tests.{le-ltb, lt-ltb, eq-eqb, ne-eqb}
 use Rattle.model.specs.Lists.{member}
 use Rattle.model.specs.Meaning.{State, update, flipped}
 use Rattle.model.specs.Gates.{
-  Controls, noControls, insert, withControl, Gate, flip, swap, targets, swapOf, exchange, renamed, allOne, allZero, fires, act,
+  Controls, noControls, insert, asked, withControl, Gate, flip, swap, targets, swapOf, exchange, renamed, allOne, allZero, fires, act,
 }
-use Rattle.model.proofs.BooleanLaws.{byBool, byEq, byLt, eqb-same, not-not, or-cases, or-left, or-right}
+use Rattle.model.proofs.BooleanLaws.{byBool, byEq, byLt, byOrder, eqb-same, not-not, and-false-right, or-cases, or-left, or-right}
 use Rattle.model.proofs.ListLaws.{member-head, member-tail, member-nil, member-cases, not-head, not-tail}
 
 -- one bit of a state
@@ -80,24 +79,60 @@ pub asks-none : (w : ℕ) → asks noControls w ≡ false
 unfolding asks
 asks-none w = rw (member-nil w)
 
+-- a wire put into a list that begins with x: before it, there already, or behind it
+module _ (w x : ℕ) (l : List ℕ) where
+  pub insert-before : w < x → insert w (x ∷ l) ≡ w ∷ x ∷ l
+  unfolding insert
+  insert-before h = rw (lt-ltb w x h, insert)
+
+  pub insert-there : w ≡ x → insert w (x ∷ l) ≡ x ∷ l
+  unfolding insert
+  insert-there e = rw (le-ltb w x (omega arith), eq-eqb w x e, insert)
+
+  pub insert-behind : x < w → insert w (x ∷ l) ≡ x ∷ insert w l
+  unfolding insert
+  insert-behind h = let n : w ≢ x = omega arith in rw (le-ltb w x (omega arith), ne-eqb w x n, insert)
+
 -- what stands in a list with a wire put in is that wire, or stood there before
 pub insert-cases {ℓ} : {A : Type ℓ} (w v : ℕ) (l : List ℕ) → member v (insert w l) ≡ true → (v ≡ w → A) → (member v l ≡ true → A) → A
 unfolding insert
 insert-cases w v [] h f g = member-cases v w [] h f g
-insert-cases {A = A} w v (x ∷ l) h f g = byBool (ltb w x)
-    (λ e. member-cases v w (x ∷ l) (rw (e, insert) at h) f g)
-    (λ e. member-cases v x (insert w l) (rw (e, insert) at h)
+insert-cases {A = A} w v (x ∷ l) h f g = byOrder w x
+    (λ o. member-cases v w (x ∷ l) (rw (insert-before w x l o) at h) f g)
+    (λ o. g (rw (insert-there w x l o) at h))
+    (λ o. member-cases v x (insert w l) (rw (insert-behind w x l o) at h)
       (λ q. g (rw q (member-head x l)))
       (λ m. insert-cases w v l m f (λ i. g (member-tail v x l i))))
 
+-- a wire that is asked is put in; 0 is no wire, and the list stays as it is
+pub asked-wire : (w : ℕ) (l : List ℕ) → 0 < w → asked w l ≡ insert w l
+unfolding asked
+asked-wire w l h = let n : w ≢ 0 = omega arith in rw (ne-eqb w 0 n, asked)
+
+pub asked-none : (w : ℕ) (l : List ℕ) → w ≡ 0 → asked w l ≡ l
+unfolding asked
+asked-none w l e = rw (eq-eqb w 0 e, asked)
+
+-- what stands in a list beside which a wire is asked is that wire, or stood there before
+pub asked-cases {ℓ} : {A : Type ℓ} (w v : ℕ) (l : List ℕ) → member v (asked w l) ≡ true → (v ≡ w → A) → (member v l ≡ true → A) → A
+asked-cases w v l h f g = byEq w 0
+    (λ e. g (rw (asked-none w l e) at h))
+    (λ n. insert-cases w v l (rw (asked-wire w l (omega arith)) at h) f g)
+
+-- a control on no wire adds nothing
+pub control-none : (w : ℕ) (b : Bool) (cs : Controls) → w ≡ 0 → withControl w b cs ≡ cs
+unfolding withControl
+control-none w true cs e = rw (asked-none w (cs .ones) e)
+control-none w false cs e = rw (asked-none w (cs .zeros) e)
+
 pub asks-cases {ℓ} : {A : Type ℓ} (w : ℕ) (b : Bool) (cs : Controls) (v : ℕ) → asks (withControl w b cs) v ≡ true → (v ≡ w → A) → (asks cs v ≡ true → A) → A
 unfolding asks withControl
-asks-cases w true cs v h f g = or-cases (member v (insert w (cs .ones))) (member v (cs .zeros)) h
-    (λ m. insert-cases w v (cs .ones) m f (λ i. g (or-left (member v (cs .ones)) (member v (cs .zeros)) i)))
+asks-cases w true cs v h f g = or-cases (member v (asked w (cs .ones))) (member v (cs .zeros)) h
+    (λ m. asked-cases w v (cs .ones) m f (λ i. g (or-left (member v (cs .ones)) (member v (cs .zeros)) i)))
     (λ m. g (or-right (member v (cs .ones)) (member v (cs .zeros)) m))
-asks-cases w false cs v h f g = or-cases (member v (cs .ones)) (member v (insert w (cs .zeros))) h
+asks-cases w false cs v h f g = or-cases (member v (cs .ones)) (member v (asked w (cs .zeros))) h
     (λ m. g (or-left (member v (cs .ones)) (member v (cs .zeros)) m))
-    (λ m. insert-cases w v (cs .zeros) m f (λ i. g (or-right (member v (cs .ones)) (member v (cs .zeros)) i)))
+    (λ m. asked-cases w v (cs .zeros) m f (λ i. g (or-right (member v (cs .ones)) (member v (cs .zeros)) i)))
 
 -- whether controls fire goes by the wires that they ask
 allOne-same : (l : List ℕ) (s t : State) → ((w : ℕ) → member w l ≡ true → s w ≡ t w) → allOne l s ≡ allOne l t
@@ -134,19 +169,31 @@ exchanged true false c = refl
 exchanged false true c = refl
 exchanged false false c = refl
 
+repeated : (a b : Bool) → a && b ≡ a && (a && b)
+repeated true b = refl
+repeated false b = refl
+
 allOne-insert : (w : ℕ) (l : List ℕ) (s : State) → allOne (insert w l) s ≡ s w && allOne l s
 unfolding insert allOne
 allOne-insert w [] s = refl
-allOne-insert w (x ∷ l) s = byBool (ltb w x)
-    (λ e. rw (e, insert) refl)
-    (λ e. rw (e, insert) (rw (allOne-insert w l s) (exchanged (s w) (s x) (allOne l s))))
+allOne-insert w (x ∷ l) s = byOrder w x
+    (λ o. rw (insert-before w x l o) refl)
+    (λ o. rw (insert-there w x l o, o) (repeated (s x) (allOne l s)))
+    (λ o. rw (insert-behind w x l o) (rw (allOne-insert w l s) (exchanged (s w) (s x) (allOne l s))))
 
 allZero-insert : (w : ℕ) (l : List ℕ) (s : State) → allZero (insert w l) s ≡ not (s w) && allZero l s
 unfolding insert allZero
 allZero-insert w [] s = refl
-allZero-insert w (x ∷ l) s = byBool (ltb w x)
-    (λ e. rw (e, insert) refl)
-    (λ e. rw (e, insert) (rw (allZero-insert w l s) (exchanged (not (s w)) (not (s x)) (allZero l s))))
+allZero-insert w (x ∷ l) s = byOrder w x
+    (λ o. rw (insert-before w x l o) refl)
+    (λ o. rw (insert-there w x l o, o) (repeated (not (s x)) (allZero l s)))
+    (λ o. rw (insert-behind w x l o) (rw (allZero-insert w l s) (exchanged (not (s w)) (not (s x)) (allZero l s))))
+
+allOne-asked : (w : ℕ) (l : List ℕ) (s : State) → 0 < w → allOne (asked w l) s ≡ s w && allOne l s
+allOne-asked w l s p = rw (asked-wire w l p) (allOne-insert w l s)
+
+allZero-asked : (w : ℕ) (l : List ℕ) (s : State) → 0 < w → allZero (asked w l) s ≡ not (s w) && allZero l s
+allZero-asked w l s p = rw (asked-wire w l p) (allZero-insert w l s)
 
 pub fires-none : (s : State) → fires noControls s ≡ true
 unfolding fires allOne allZero
@@ -155,30 +202,27 @@ fires-none s = refl
 -- it fires where the wire holds the bit asked for and the others fire
 pub fires-hit : (w : ℕ) (b : Bool) (cs : Controls) (s : State) → s w ≡ b → fires (withControl w b cs) s ≡ fires cs s
 unfolding fires withControl
-fires-hit w true cs s e = rw (allOne-insert w (cs .ones) s, e)
-fires-hit w false cs s e = rw (allZero-insert w (cs .zeros) s, e)
+fires-hit w true cs s e = byEq w 0 (λ z. rw (asked-none w (cs .ones) z)) (λ n. rw (allOne-asked w (cs .ones) s (omega arith), e))
+fires-hit w false cs s e = byEq w 0 (λ z. rw (asked-none w (cs .zeros) z)) (λ n. rw (allZero-asked w (cs .zeros) s (omega arith), e))
 
-pub fires-miss : (w : ℕ) (b : Bool) (cs : Controls) (s : State) → s w ≡ not b → fires (withControl w b cs) s ≡ false
+-- it does not where the wire holds the other bit (0 is no wire: nothing is asked of it)
+pub fires-miss : (w : ℕ) (b : Bool) (cs : Controls) (s : State) → 0 < w → s w ≡ not b → fires (withControl w b cs) s ≡ false
 unfolding fires withControl
-fires-miss w true cs s e = rw (allOne-insert w (cs .ones) s, e)
-fires-miss w false cs s e = rw (allZero-insert w (cs .zeros) s, e) (last (allOne (cs .ones) s))
-  where
-    last : (a : Bool) → a && false ≡ false
-    last true = refl
-    last false = refl
+fires-miss w true cs s p e = rw (allOne-asked w (cs .ones) s p, e)
+fires-miss w false cs s p e = rw (allZero-asked w (cs .zeros) s p, e) (and-false-right (allOne (cs .ones) s) false refl)
 
 -- controls that do not fire do not with one more
 pub fires-fewer : (w : ℕ) (b : Bool) (cs : Controls) (s : State) → fires cs s ≡ false → fires (withControl w b cs) s ≡ false
-fires-fewer w b cs s h = byBool (s w)
-    (λ e. go b e)
-    (λ e. back b e)
+fires-fewer w b cs s h = byEq w 0
+    (λ z. rw (control-none w b cs z) h)
+    (λ n. byBool (s w) (λ e. go b (omega arith) e) (λ e. back b (omega arith) e))
   where
-    go : (b : Bool) → s w ≡ true → fires (withControl w b cs) s ≡ false
-    go true e = fires-hit w true cs s e ∙ h
-    go false e = fires-miss w false cs s e
-    back : (b : Bool) → s w ≡ false → fires (withControl w b cs) s ≡ false
-    back true e = fires-miss w true cs s e
-    back false e = fires-hit w false cs s e ∙ h
+    go : (b : Bool) → 0 < w → s w ≡ true → fires (withControl w b cs) s ≡ false
+    go true p e = fires-hit w true cs s e ∙ h
+    go false p e = fires-miss w false cs s p e
+    back : (b : Bool) → 0 < w → s w ≡ false → fires (withControl w b cs) s ≡ false
+    back true p e = fires-miss w true cs s p e
+    back false p e = fires-hit w false cs s e ∙ h
 
 -- a gate that fires, and one that does not
 pub flip-fires : (cs : Controls) (t : ℕ) (s : State) → fires cs s ≡ true → act (flip cs t) s ≡ flipped t s

@@ -17,7 +17,7 @@ use Rattle.model.specs.Lists.{range, delete, remove, removeAll, holds, m
 use Rattle.model.specs.Faults.{callFaults, faults, callFaultsWithin, programFaults}
 use Rattle.model.specs.Meaning.{update, flipped, stateOf, digit, wordFrom, callDoes, does, callDoesWithin, endState, endWord}
 use Rattle.model.specs.Reach.{calls, reachesBelow, isEmpty, lacksRemoval, width, anyBelow, anyLacksRemoval, anyTooWide}
-use Rattle.model.specs.Gates.{insert, withControl, swapOf, exchange, renamed, allOne, allZero, fires, act, acts}
+use Rattle.model.specs.Gates.{insert, asked, withControl, swapOf, exchange, renamed, allOne, allZero, fires, act, acts}
 use Rattle.model.specs.Emission.{
   startChain, whole, invoked, invocations, invokes, returns, left, right, swaps, entryGates, samePair, allEntryGates, around, bodies, bodiesFrom,
   chainsWithin, emission, gates, below, inUse, peak,
@@ -75,7 +75,7 @@ pub worked : Facts
 unfolding andThen provided byteOf signed16 numberOf reading.number numbers removals procedure statementKind conditionKind optional fields known
     opening contents two conditionOf condition statementOf statement statements trees readTable range delete remove removeAll holds member callFaults
     faults callFaultsWithin programFaults update flipped stateOf digit wordFrom callDoes does callDoesWithin endState endWord calls reachesBelow
-    isEmpty lacksRemoval width anyBelow anyLacksRemoval anyTooWide after require outcome number valueOr accepted run insert withControl swapOf exchange
+    isEmpty lacksRemoval width anyBelow anyLacksRemoval anyTooWide after require outcome number valueOr accepted run insert asked withControl swapOf exchange
     startChain whole invoked invocations invokes returns left right swaps entryGates samePair allEntryGates around bodies bodiesFrom chainsWithin
     emission gates below inUse peak listBit listBytes encode encodeAll fourBytes write fit fitted circuit compile renamed allOne allZero fires act
     acts ascends distinct within lowerFirst gateIsWellFormed bytes wireList gateOf readGate readGates fourByteNumber circuitOf readCircuit blockFrom

@@ -13,15 +13,19 @@ pub record Controls : Type 0 where
 abbrev pub noControls : Controls
 noControls = record { ones = []; zeros = [] }
 
--- a wire put into an ascending list
+-- a wire put into an ascending list, once only: one that stands there stays as it is
 unfoldable pub insert : ℕ → List ℕ → List ℕ
 insert w [] = w ∷ []
-insert w (x ∷ l) = elim (ltb w x) [ true ↦ w ∷ x ∷ l | false ↦ x ∷ insert w l ]
+insert w (x ∷ l) = elim (ltb w x) [ true ↦ w ∷ x ∷ l | false ↦ elim (eqb w x) [ true ↦ x ∷ l | false ↦ x ∷ insert w l ] ]
+
+-- a wire asked beside others; 0 is no wire, and is not asked
+unfoldable pub asked : ℕ → List ℕ → List ℕ
+asked w l = elim (eqb w 0) [ true ↦ l | false ↦ insert w l ]
 
 -- one control more: wire w is asked for 1 (true) or 0 (false)
 unfoldable pub withControl : ℕ → Bool → Controls → Controls
-withControl w true cs = record { ones = insert w (cs .ones); zeros = cs .zeros }
-withControl w false cs = record { ones = cs .ones; zeros = insert w (cs .zeros) }
+withControl w true cs = record { ones = asked w (cs .ones); zeros = cs .zeros }
+withControl w false cs = record { ones = cs .ones; zeros = asked w (cs .zeros) }
 
 -- "Gates are NOT and swap, under controls"
 pub data Gate : Type 0 where
