@@ -13,7 +13,7 @@ use Rattle.model.proofs.BooleanLaws.{or-false}
 use Rattle.decoded.specs.DecodedTable.{removalsIn, testAt, statementAt}
 use Rattle.step.specs.declared.Step.{Step}
 use Rattle.step.specs.declared.Step.the-variants as step
-use Rattle.step.specs.Steps.{stepAt}
+use Rattle.step.specs.Steps.{touchedBy, stepAt}
 use Rattle.step.proofs.StatementAtARecord.{Idle, at-step, idle-skip, spent-skip}
 use Rattle.step.proofs.ChosenBranch.{chosen-means}
 use Rattle.faults.specs.TouchedPositions.{CallTouches, joined, closes, callTouches, touches}
@@ -47,21 +47,19 @@ module _ (known g : List ℕ) (m depth i : ℕ) where
   pub walk-deep : depth ≡ 0 → 0 ≡ rowAt known g m depth i
   walk-deep e = idle (spent-skip g depth i e)
 
-  module _ (l : List ℕ) (st : Step) (deep : depth ≡ 0 → ⊥) (listed : l ≡ qubits (min m mostQubits)) (steps : st ≡ stepAt g i l) where
+  module _ (l : List ℕ) (st : Step) (deep : depth ≡ 0 → ⊥) (listed : l ≡ qubits (min m mostQubits)) (steps : st ≡ stepAt g i) where
     pub walk-idle : (x : Step) → st ≡ x → Idle x → 0 ≡ rowAt known g m depth i
-    walk-idle x e o = idle (idle-skip g depth i l deep steps x e o)
+    walk-idle x e o = idle (idle-skip g depth i deep steps x e o)
 
     module _ (row : ℕ) where
-      pub walk-touches : (q : ℕ) → st ≡ step.Touches q → row ≡ marked 0 q → row ≡ rowAt known g m depth i
+      pub walk-touches : (at q : ℕ) → st ≡ step.Touches at → q ≡ touchedBy g at l → row ≡ marked 0 q → row ≡ rowAt known g m depth i
       unfolding touches
-      walk-touches q e r =
-        let h = at-step g depth i l deep steps e in
-        rw (h .2, ← listed, ← h .3) (r ∙ one-row q)
+      walk-touches at q e t r = rw (at-step g depth i deep steps e, ← listed, ← t) (r ∙ one-row q)
 
       pub walk-calls : (f at : ℕ) (rest : List ℕ) → st ≡ step.Calls f at → rest ≡ remaining (removalsIn g at) l →
           row ≡ rowOf (callTouches (knownTouches known) f rest) → row ≡ rowAt known g m depth i
       unfolding touches
-      walk-calls f at rest e left r = rw (at-step g depth i l deep steps e, ← listed, ← left) r
+      walk-calls f at rest e left r = rw (at-step g depth i deep steps e, ← listed, ← left) r
 
       -- the chosen branch of an if
       pub walk-chosen : (c a b x : ℕ) → st ≡ step.Chooses c a b → x ≡ cond (holds (testAt g (depth - 1) c) l) a b →
@@ -83,14 +81,13 @@ module _ (known g : List ℕ) (m depth i : ℕ) where
 
       pub walk-sequence : st ≡ step.Sequence a b → bitOr first second ≡ rowAt known g m depth i
       unfolding touches
-      walk-sequence e = rw (at-step g depth i l deep steps e) together
+      walk-sequence e = rw (at-step g depth i deep steps e) together
 
-      pub walk-branches : (q closed : ℕ) → st ≡ step.Branches q a b → closed ≡ closedRow q (bitOr first second) →
+      pub walk-branches : (at q closed : ℕ) → st ≡ step.Branches at a b → q ≡ touchedBy g at l → closed ≡ closedRow q (bitOr first second) →
           closed ≡ rowAt known g m depth i
       unfolding touches
-      walk-branches q closed e c =
-        let h = at-step g depth i l deep steps e in
-        rw (h .2, ← listed, ← h .3)
+      walk-branches at q closed e t c =
+        rw (at-step g depth i deep steps e, ← listed, ← t)
           (c ∙ rw together (closes-rows (knownTouches known) (statementAt g (depth - 1) a) (statementAt g (depth - 1) b) m q))
 
 pub ruleset walking = (needs, walk-deep, walk-idle, walk-touches, walk-sequence, walk-chosen, walk-branches, walk-calls)

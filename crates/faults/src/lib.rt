@@ -14,7 +14,7 @@ ghost use Rattle.faults.specs.RowTable.{filledRow, filledIf, filledRank,
 use limits::{BODIES, BODY_COUNT, LENGTH_COUNT, MATRIX_LENGTH, MOST_DEPTH, MOST_QUBITS, PROGRAM_LENGTH, ROW_COUNT};
 use reach::{Parts, parts_at, recursive};
 use sets::{QubitSet, carried, size};
-use step::{Step, all, chosen, procedures, remaining, removal_count, root, step_at};
+use step::{Step, all, chosen, procedures, remaining, removal_count, root, step_at, touched};
 
 // A set of numbers below 64 is a word, whose bit t says whether t is in it. A row is the set of the positions touched, counted from 1; 0 is in it
 // for a fault inside.
@@ -82,10 +82,10 @@ fn touches(program: &[u32; PROGRAM_LENGTH], i: u32, depth: u8, m: u8, known: &[u
         return 0;
     }
     let list = all(m);
-    let step = step_at(program, i, list);
+    let step = step_at(program, i);
     match step {
         Step::Nothing => 0,
-        Step::Touches(q) => mark(0, q as u32),
+        Step::Touches(at) => mark(0, touched(program, at, list) as u32),
         Step::Sequence(first, second) => {
             let a = touches(program, first, depth - 1, m, known);
             let b = touches(program, second, depth - 1, m, known);
@@ -95,13 +95,16 @@ fn touches(program: &[u32; PROGRAM_LENGTH], i: u32, depth: u8, m: u8, known: &[u
             let part = chosen(program, test, yes, no, list, depth - 1);
             touches(program, part, depth - 1, m, known)
         }
-        Step::Branches(q, zero, one) => {
+        Step::Branches(at, zero, one) => {
+            let q = touched(program, at, list);
             let a = touches(program, zero, depth - 1, m, known);
             let b = touches(program, one, depth - 1, m, known);
             closes(q, a | b)
         }
         Step::Calls(f, at) => called(known, f, remaining(program, at, list)),
-        Step::Holds(_) => 0,
+        Step::Greater(_) => 0,
+        Step::AtLeast(_) => 0,
+        Step::Equal(_) => 0,
         Step::Both(_, _) => 0,
         Step::Either(_, _) => 0,
         Step::Negates(_) => 0,

@@ -26,7 +26,7 @@ use Rattle.inverse.specs.TurnedRecords.{inOrder, turnedOf, turnedAt, tur
 module _ (bs g : List ℕ) (test : ℕ → Condition) (part : ℕ → Statement) (turned : ℕ → ℕ → List ℕ)
     (parts-are : (j end : ℕ) → Placed bs g j end (part j) → turned j end ≡ statementBytes (inverse (part j))) (i end : ℕ) where
   turned-record : (r : Record) → Placed bs g i end (statementOf test part g i r) →
-      turnedOf turned bs g i end (partsOf (stepOf g i [] r)) ≡ statementBytes (inverse (statementOf test part g i r))
+      turnedOf turned bs g i end (partsOf (stepOf g i r)) ≡ statementBytes (inverse (statementOf test part g i r))
   unfolding statementOf partsOf stepOf turnedOf inOrder Placed headBytes statementBytes inverse
   turned-record kind.Skip h = h
   turned-record (kind.Not at a) h = h

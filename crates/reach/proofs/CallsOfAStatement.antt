@@ -14,8 +14,6 @@ use Rattle.model.specs.Limits.{mostProcedures, mostDepth}
 use Rattle.model.specs.Syntax.{Number, Statement}
 use Rattle.model.specs.Reach.{isEmpty, lacksRemoval, anyBelow}
 use Rattle.model.proofs.BooleanLaws.{byLt, or-false, any-here}
-use Rattle.sets.specs.Sets.{membersOf}
-use Rattle.sets.proofs.Members.{members-empty}
 use Rattle.decoded.specs.DecodedTable.{rootOf, procedureCount, removalsIn, statementAt, bodyAt}
 use Rattle.step.specs.declared.Step.{Step}
 use Rattle.step.specs.Steps.{stepAt}
@@ -133,12 +131,12 @@ module _ (g : List ℕ) (depth i : ℕ) where
         unfolding lacksBy
         lacks-call-bare b none k = lacks-are b (parts.Call q at) c (rw (bare (removalsIn g at) (omega arith)) (k ∙ sym (and-true (r q))))
 
--- the parts of a record, whatever the list
+-- the parts of a record
 pub step-parts : (found s : Step) (r : Parts) → found ≡ s → r ≡ partsOf s → r ≡ partsOf found
 step-parts found s r e q = rw e q
 
-pub parts-are : (found : Step) (g : List ℕ) (i : ℕ) (r : Parts) → found ≡ stepAt g i (membersOf 0) → r ≡ partsOf found → r ≡ partsAt g i
-parts-are found g i r e q = rw (← members-empty, ← e) q
+pub parts-are : (found : Step) (g : List ℕ) (i : ℕ) (r : Parts) → found ≡ stepAt g i → r ≡ partsOf found → r ≡ partsAt g i
+parts-are found g i r e q = rw (← e) q
 
 pub lacks-is : (m : List ℕ) (g : List ℕ) (f root : ℕ) (r : Bool) → root ≡ rootOf g f →
     r ≡ lacksRemoval (recursiveIn m f) (statementAt g mostDepth root) → r ≡ lacksIn m g f

@@ -1,7 +1,7 @@
 -- What the step of a record says of the statement at that record.
 use mathlib.Core.Path.{_≡_, refl}
 use mathlib.Core.Bool.{true, false}
-use mathlib.Core.List.{List, []}
+use mathlib.Core.List.{List}
 use Prim.Native.Nat.{ℕ, zero, suc, _+_, _-_}
 use native.Mathlib.Numerals.{sub-one}
 use Rattle.model.specs.Syntax.{Number, Condition, Statement, skip, NOT, sequence, if, qcase, call}
@@ -25,7 +25,7 @@ pub data ArePartsOf (part : ℕ → Statement) (g : List ℕ) : Parts → Statem
   as-call : (f at : ℕ) → ArePartsOf part g (parts.Call f at) (call (removalsIn g at) f)
 
 module _ (test : ℕ → Condition) (part : ℕ → Statement) (g : List ℕ) (i : ℕ) where
-  parts-of : (r : Record) → ArePartsOf part g (partsOf (stepOf g i [] r)) (statementOf test part g i r)
+  parts-of : (r : Record) → ArePartsOf part g (partsOf (stepOf g i r)) (statementOf test part g i r)
   unfolding partsOf stepOf statementOf
   parts-of kind.Skip = as-skip
   parts-of (kind.Not at a) = as-not (removalsIn g at) (numberOf a)

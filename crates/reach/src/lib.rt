@@ -127,18 +127,20 @@ fn parts_of(found: Step) -> Parts
         Step::Chooses(_, yes, no) => Parts::Two(yes, no, false),
         Step::Branches(_, zero, one) => Parts::Two(zero, one, false),
         Step::Calls(g, at) => Parts::Call(g, at),
-        Step::Holds(_) => Parts::Neither,
+        Step::Greater(_) => Parts::Neither,
+        Step::AtLeast(_) => Parts::Neither,
+        Step::Equal(_) => Parts::Neither,
         Step::Both(_, _) => Parts::Neither,
         Step::Either(_, _) => Parts::Neither,
         Step::Negates(_) => Parts::Neither,
     }
 }
 
-// What record i is for calls, whatever the list.
+// What record i is for calls.
 pub fn parts_at(program: &[u32; PROGRAM_LENGTH], i: u32) -> Parts
     ensures { λ r. ⌜ r ≡ partsAt (now (program .entry)) i ⌝ }
 {
-    parts_of(step_at(program, i, 0))
+    parts_of(step_at(program, i))
 }
 
 // Row f is marked for every call in the statement at record i, of at most `depth` records from its root down.

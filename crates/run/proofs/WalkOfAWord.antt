@@ -25,9 +25,9 @@ use Rattle.sets.proofs.Readings.{members-split}
 use Rattle.decoded.specs.DecodedTable.{rootOf, procedureCount, removalsIn, testAt, statementAt, programAt}
 use Rattle.step.specs.declared.Step.{Step}
 use Rattle.step.specs.declared.Step.the-variants as step
-use Rattle.step.specs.Steps.{stepAt}
+use Rattle.step.specs.Steps.{touchedBy, stepAt}
 use native.Mathlib.Numerals.{sub-one}
-use Rattle.step.proofs.StatementAtARecord.{Idle, at-step, idle-skip, spent-skip}
+use Rattle.step.proofs.StatementAtARecord.{Idle, at-step, at-branches, idle-skip, spent-skip}
 use Rattle.step.proofs.ChosenBranch.{chosen-means}
 use Rattle.run.specs.RunOnWords.{bitFlipped, flippedWord, bitOf, callWords, wordDoes, callWordsWithin, ranWord, walked, called}
 use Rattle.model.proofs.WordBits.{tested, shifted}
@@ -78,23 +78,23 @@ module _ (g : List ℕ) (left at : ℕ) (l : List ℕ) (fuel word whole : ℕ) (
   pub walk-spent : left ≤ 0 → word ≡ whole
   walk-spent h = skipped (spent-skip g left at (omega arith))
 
-  module _ (st : Step) (more : 0 < left) (steps : st ≡ stepAt g at l) where
+  module _ (st : Step) (more : 0 < left) (steps : st ≡ stepAt g at) where
     deep : left ≡ 0 → ⊥
     deep e = omega arith
 
     pub walk-idle : (x : Step) → st ≡ x → Idle x → word ≡ whole
-    walk-idle x e o = skipped (idle-skip g left at l deep steps x e o)
+    walk-idle x e o = skipped (idle-skip g left at deep steps x e o)
 
     -- NOT flips the bit of the qubit that it touches
-    pub walk-touches : (q r : ℕ) → st ≡ step.Touches q → r ≡ flippedWord q word → r ≡ whole
+    pub walk-touches : (place q r : ℕ) → st ≡ step.Touches place → q ≡ touchedBy g place l → r ≡ flippedWord q word → r ≡ whole
     unfolding wordDoes
-    walk-touches q r e h = let t = at-step g left at l deep steps e in rw (← inv, t .2) (h ∙ ap (λ (x : ℕ). flippedWord x word) (t .3))
+    walk-touches place q r e t h = rw (← inv, at-step g left at deep steps e, ← t) h
 
     -- a sequence hands the first statement's word to the second
     pub walk-sequence : (a b middle : ℕ) → st ≡ step.Sequence a b → middle ≡ walked g (left - 1) a l fuel word →
         walked g (left - 1) b l fuel middle ≡ whole
     unfolding wordDoes
-    walk-sequence a b middle e first = rw (← inv, at-step g left at l deep steps e)
+    walk-sequence a b middle e first = rw (← inv, at-step g left at deep steps e)
       (ap (λ (x : ℕ). walked g (left - 1) b l fuel x) first)
 
     -- if goes on as the statement that is chosen
@@ -106,10 +106,11 @@ module _ (g : List ℕ) (left at : ℕ) (l : List ℕ) (fuel word whole : ℕ) (
         g left at deep steps e q) ∙ inv
 
     -- qcase reads the bit of the qubit it touches and goes on as zero or one
-    pub walk-taken : (q a b x : ℕ) → st ≡ step.Branches q a b → x ≡ cond (bitOf q word) b a → walked g (left - 1) x l fuel word ≡ whole
-    walk-taken q a b x e k =
+    pub walk-taken : (place q a b x : ℕ) → st ≡ step.Branches place a b → q ≡ touchedBy g place l → x ≡ cond (bitOf q word) b a →
+        walked g (left - 1) x l fuel word ≡ whole
+    walk-taken place q a b x e t k =
       let calls = callWordsWithin (programAt g) fuel in
-      let s = at-step g left at l deep steps e in
+      let s = at-branches g left at l deep steps t e in
       let part = statementAt g (left - 1) in
       let reads = ap (λ (y : ℕ). bitOf y word) (s .3) in
       rw (← inv, s .2) (byBool (bitOf q word)
@@ -120,7 +121,7 @@ module _ (g : List ℕ) (left at : ℕ) (l : List ℕ) (fuel word whole : ℕ) (
     pub walk-calls : (f place r : ℕ) (rest : List ℕ) → st ≡ step.Calls f place → rest ≡ remaining (removalsIn g place) l →
         r ≡ called g f rest fuel word → r ≡ whole
     unfolding wordDoes
-    walk-calls f place r rest e kept h = rw (← inv, at-step g left at l deep steps e, ← kept) h
+    walk-calls f place r rest e kept h = rw (← inv, at-step g left at deep steps e, ← kept) h
 
 pub less-deep : (left depth : ℕ) → left ≤ depth → left - 1 ≤ depth
 less-deep left depth h = omega arith

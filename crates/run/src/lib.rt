@@ -11,7 +11,7 @@ ghost use Rattle.model.specs.Answers as model;
 use answers::Answer;
 use limits::{HIGH_BIT, LEAST_WORKSPACE, MOST_DEPTH, MOST_N, MOST_QUBITS, PROGRAM_LENGTH, SHORT_WORKSPACE, WRONG_QUBITS};
 use sets::{QubitSet, size};
-use step::{Step, all, chosen, procedures, remaining, root, step_at};
+use step::{Step, all, chosen, procedures, remaining, root, step_at, touched};
 use verdict::check_table;
 use wires::fits;
 
@@ -57,19 +57,27 @@ fn walk(program: &[u32; PROGRAM_LENGTH], i: u32, depth: u8, list: QubitSet, fuel
     let mut left = depth;
     let mut current = word;
     while 0 < left {
-        let step = step_at(program, at, list);
+        let step = step_at(program, at);
         left -= 1;
         match step {
-            Step::Touches(q) => return flip(current, q),
+            Step::Touches(record) => {
+                let q = touched(program, record, list);
+                return flip(current, q);
+            }
             Step::Sequence(first, second) => {
                 current = walk(program, first, left, list, fuel, current);
                 at = second;
             }
             Step::Chooses(condition, yes, no) => at = chosen(program, condition, yes, no, list, left),
-            Step::Branches(q, zero, one) => at = taken(current, q, zero, one),
+            Step::Branches(record, zero, one) => {
+                let q = touched(program, record, list);
+                at = taken(current, q, zero, one);
+            }
             Step::Calls(f, record) => return call(program, f, remaining(program, record, list), fuel, current),
             Step::Nothing => return current,
-            Step::Holds(_) => return current,
+            Step::Greater(_) => return current,
+            Step::AtLeast(_) => return current,
+            Step::Equal(_) => return current,
             Step::Both(_, _) => return current,
             Step::Either(_, _) => return current,
             Step::Negates(_) => return current,

@@ -28,12 +28,12 @@ pub ruleset choosing = (needs, choose-yes, choose-no)
 pub chosen-means : {A : Type 0} (means : Statement → A) (l : List ℕ) →
     ((c : Condition) (s t : Statement) → holds c l ≡ true → means (if c s t) ≡ means s) →
     ((c : Condition) (s t : Statement) → holds c l ≡ false → means (if c s t) ≡ means t) →
-    (g : List ℕ) (depth i : ℕ) {found : Step} → (depth ≡ 0 → ⊥) → found ≡ stepAt g i l →
+    (g : List ℕ) (depth i : ℕ) {found : Step} → (depth ≡ 0 → ⊥) → found ≡ stepAt g i →
     {c a b x : ℕ} → found ≡ step.Chooses c a b → x ≡ cond (holds (testAt g (depth - 1) c) l) a b →
     means (statementAt g depth i) ≡ means (statementAt g (depth - 1) x)
 chosen-means means l on-yes on-no g depth i deep steps {c = c} {a = a} {b = b} {x = x} e q =
     let test = testAt g (depth - 1) c in
     let part = statementAt g (depth - 1) in
-    ap means (at-step g depth i l deep steps e) ∙ byBool (holds test l)
+    ap means (at-step g depth i deep steps e) ∙ byBool (holds test l)
       (λ h. on-yes test (part a) (part b) h ∙ ap (λ (j : ℕ). means (part j)) (sym (rw h at q)))
       (λ h. on-no test (part a) (part b) h ∙ ap (λ (j : ℕ). means (part j)) (sym (rw h at q)))

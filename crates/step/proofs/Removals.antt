@@ -12,19 +12,19 @@ use lib.IntN.{ℤ}
 use mir.Syntax.{w32}
 use mir.Val.{SFits, toZ, ofZ}
 use mir.Facts.{toZ-ofZ}
-use Rattle.limits.specs.Sizes.{endField, countField, numberField, removalsField}
+use Rattle.limits.specs.Sizes.{setLength, endField, countField, numberField, removalsField}
 use Rattle.model.specs.Limits.{mostQubits}
 use Rattle.model.specs.Syntax.{Number}
 use Rattle.model.specs.Lists.{sizes, value, position, entry, remove, removeAll, remaining, comparedValue, qubits}
 use Rattle.model.proofs.ListLaws.{remove-out}
+use Rattle.model.proofs.BooleanLaws.{byLt}
 use Rattle.records.specs.declared.Number as code
-use Rattle.records.specs.Fields.{numberOf, based}
 use Rattle.sets.specs.Sets.{membersOf}
-use Rattle.sets.proofs.Members.{members-empty}
+use Rattle.sets.proofs.Members.{members-empty, members-at}
 use Rattle.decoded.specs.RecordWords.{rowAt, wordNumber}
 use Rattle.decoded.specs.DecodedTable.{wordIn, endOf, numbersIn, removalsIn}
 use Rattle.step.specs.declared.Lists.{Lists}
-use Rattle.step.specs.Steps.{valueOf, touchedBy}
+use Rattle.step.specs.Steps.{valueOf, numberIn, touchedBy}
 use Rattle.step.proofs.ConstantRange.{modelSizes, word-fair}
 
 -- nothing is left of nothing
@@ -45,7 +45,7 @@ removed-nothing g place left l w rest e h =
 
 -- a number, as the code reads, values and removes it, and then those behind it are all from here on
 removals-more : (g : List ℕ) (place left : ℕ) (l now : List ℕ) → 0 < left
-    → removeAll l (numbersIn (left - 1) g (place + 1)) (remove (position (value (numberOf (wordNumber (wordIn g place))) (sizes l now))) now)
+    → removeAll l (numbersIn (left - 1) g (place + 1)) (remove (position (value (numberIn g place) (sizes l now))) now)
       ≡ removeAll l (numbersIn left g place) now
 unfolding numbersIn removeAll
 removals-more g place zero l now h = absurd (not-suc-le-zero h)
@@ -57,9 +57,9 @@ pub removed-more : (g : List ℕ) (place left list rest : ℕ) (w : ℕ) (a : co
     → removeAll (membersOf list) (numbersIn (left - 1) g (place + 1)) r ≡ removeAll (membersOf list) (numbersIn left g place) (membersOf rest)
 removed-more g place left list rest w a z r word number f valued removed h =
     let s : Lists = record { whole = list; left = rest } in
-    let v : z ≡ value (numberOf (wordNumber (wordIn g place))) (sizes (membersOf list) (membersOf rest)) =
+    let v : z ≡ value (numberIn g place) (sizes (membersOf list) (membersOf rest)) =
           valued ∙ rw (number, word) (word-fair (wordIn g place) s) in
-    let one : r ≡ remove (position (value (numberOf (wordNumber (wordIn g place))) (sizes (membersOf list) (membersOf rest)))) (membersOf rest) =
+    let one : r ≡ remove (position (value (numberIn g place) (sizes (membersOf list) (membersOf rest)))) (membersOf rest) =
           removed ∙ ap (λ (x : ℤ). remove (position x) (membersOf rest)) (toZ-ofZ f ∙ v) in
     ap (removeAll (membersOf list) (numbersIn (left - 1) g (place + 1))) one ∙ removals-more g place left (membersOf list) (membersOf rest) h
 
@@ -81,9 +81,16 @@ pub touched-is : (g : List ℕ) (at list rest r w : ℕ) (a : code.Number) (z : 
 touched-is g at list rest r w a z left word number f valued entered =
     entered ∙ rw (toZ-ofZ f, valued, number, word, word-fair (wordIn g (at + numberField)) (record { whole = list; left = rest }), left)
 
+-- it is no more than the last qubit that a set can hold
+pub entry-low : (rest k r : ℕ) → r ≡ entry (membersOf rest) k → r ≤ setLength
+entry-low rest zero r e = rw e zero-le
+entry-low rest (suc k) r e = rw e (byLt k (length (membersOf rest))
+    (λ lt. members-at rest k lt .1)
+    (λ ge. rw (List·getD-eq-default (membersOf rest) 0 ge) zero-le))
+
 -- the value of a number in a comparison
 pub compared-is : (g : List ℕ) (at list w : ℕ) (a : code.Number) (z : ℤ) → w ≡ wordIn g at → a ≡ wordNumber w
-    → z ≡ valueOf a (record { whole = list; left = list }) → z ≡ comparedValue (numberOf (wordNumber (wordIn g at))) (membersOf list)
+    → z ≡ valueOf a (record { whole = list; left = list }) → z ≡ comparedValue (numberIn g at) (membersOf list)
 compared-is g at list w a z word number valued = valued ∙ rw (number, word) (word-fair (wordIn g at) (record { whole = list; left = list }))
 
 -- how many removals there are
@@ -110,4 +117,4 @@ all-few n r e h = let a : min n 64 ≡ min n mostQubits = omega arith in e ∙ a
 pub all-most : (n r : ℕ) → membersOf r ≡ qubits (min mostQubits 64) → mostQubits ≤ n → membersOf r ≡ qubits (min n mostQubits)
 all-most n r e h = let a : min mostQubits 64 ≡ min n mostQubits = omega arith in e ∙ ap qubits a
 
-pub ruleset lists = (needs, word-none, end-is, all-few, all-most, touched-is, compared-is, removals-counted)
+pub ruleset lists = (needs, word-none, end-is, all-few, all-most, touched-is, entry-low, compared-is, removals-counted)

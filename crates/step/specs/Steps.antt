@@ -1,12 +1,13 @@
--- What a record does on a list of qubits: the one step of check, run and emission.
+-- What a record does: the one step of check, run and emission, and what it asks of a list of qubits.
 use Prim.Native.Nat.{ℕ, _+_}
-use mathlib.Core.Bool.{cond, _&&_}
+use mathlib.Core.Bool.{cond}
 use mathlib.Core.List.{List}
 use lib.ListN.{length}
 use lib.IntN.{ℤ, pos, _+ℤ_}
-use lib.Signed.{ltZ, leZ}
+use lib.Signed.{ltZ}
 use Rattle.limits.specs.Sizes.{mostConstant, numberField}
-use Rattle.model.specs.Lists.{comparedValue, touched}
+use Rattle.model.specs.Syntax as syntax
+use Rattle.model.specs.Lists.{touched}
 use Rattle.records.specs.declared.Number.{Number}
 use Rattle.records.specs.declared.Number.the-variants as base
 use Rattle.records.specs.declared.Record.{Record}
@@ -29,29 +30,29 @@ valueOf (base.Constant z) s = z
 valueOf (base.SizePlus z) s = sumOf z (length (membersOf (s .whole)))
 valueOf (base.LeftPlus z) s = sumOf z (length (membersOf (s .left)))
 
+-- the number whose word stands at a place
+abbrev pub numberIn : List ℕ → ℕ → syntax.Number
+numberIn g at = numberOf (wordNumber (wordIn g at))
+
 -- the qubit that is touched in a whole list by the record whose words begin at a place: "the entry at position a of the remaining list"
 abbrev pub touchedBy : List ℕ → ℕ → List ℕ → ℕ
-touchedBy g at l = touched (removalsIn g at) (numberOf (wordNumber (wordIn g (at + numberField)))) l
-
--- the model's value of a number that a comparison holds
-abbrev pub modelValue : Number → List ℕ → ℤ
-modelValue a l = comparedValue (numberOf a) l
+touchedBy g at l = touched (removalsIn g at) (numberIn g (at + numberField)) l
 
 -- one clause for each of the kinds 0 to 11
-unfoldable pub stepOf : List ℕ → ℕ → List ℕ → Record → Step
-stepOf g i l kind.Skip = step.Nothing
-stepOf g i l (kind.Not at a) = step.Touches (touched (removalsIn g at) (numberOf a) l)
-stepOf g i l kind.Sequence = step.Sequence (i + 1) (endOf g (i + 1))
-stepOf g i l kind.If = step.Chooses (i + 1) (endOf g (i + 1)) (endOf g (endOf g (i + 1)))
-stepOf g i l (kind.Qcase at a) = step.Branches (touched (removalsIn g at) (numberOf a) l) (i + 1) (endOf g (i + 1))
-stepOf g i l (kind.Call at f) = step.Calls f at
-stepOf g i l (kind.Greater a b) = step.Holds (ltZ (modelValue b l) (modelValue a l))
-stepOf g i l (kind.AtLeast a b) = step.Holds (leZ (modelValue b l) (modelValue a l))
-stepOf g i l (kind.Equal a b) = step.Holds (leZ (modelValue a l) (modelValue b l) && leZ (modelValue b l) (modelValue a l))
-stepOf g i l kind.And = step.Both (i + 1) (endOf g (i + 1))
-stepOf g i l kind.Or = step.Either (i + 1) (endOf g (i + 1))
-stepOf g i l kind.Negation = step.Negates (i + 1)
+unfoldable pub stepOf : List ℕ → ℕ → Record → Step
+stepOf g i kind.Skip = step.Nothing
+stepOf g i (kind.Not at a) = step.Touches at
+stepOf g i kind.Sequence = step.Sequence (i + 1) (endOf g (i + 1))
+stepOf g i kind.If = step.Chooses (i + 1) (endOf g (i + 1)) (endOf g (endOf g (i + 1)))
+stepOf g i (kind.Qcase at a) = step.Branches at (i + 1) (endOf g (i + 1))
+stepOf g i (kind.Call at f) = step.Calls f at
+stepOf g i (kind.Greater a b) = step.Greater (rowAt i)
+stepOf g i (kind.AtLeast a b) = step.AtLeast (rowAt i)
+stepOf g i (kind.Equal a b) = step.Equal (rowAt i)
+stepOf g i kind.And = step.Both (i + 1) (endOf g (i + 1))
+stepOf g i kind.Or = step.Either (i + 1) (endOf g (i + 1))
+stepOf g i kind.Negation = step.Negates (i + 1)
 
 -- the step of record i
-abbrev pub stepAt : List ℕ → ℕ → List ℕ → Step
-stepAt g i l = stepOf g i l (recordIn g (rowAt i))
+abbrev pub stepAt : List ℕ → ℕ → Step
+stepAt g i = stepOf g i (recordIn g (rowAt i))

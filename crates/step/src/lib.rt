@@ -1,15 +1,15 @@
-// The one step that check, run and emission take from a record, on a list of qubits, which is a set.
+// The one step that check, run and emission take from a record, and what it asks of a list of qubits, which is a set.
 ghost use mathlib.Core.Bool.{cond};
 ghost use mathlib.Core.Path.{_≡_};
-ghost use Prim.Native.Nat.{min};
+ghost use Prim.Native.Nat.{_≤_, min};
 ghost use lib.ListN.{length};
+ghost use Rattle.limits.specs.Sizes.{setLength};
 ghost use Rattle.model.specs.Limits.{mostQubits};
 ghost use Rattle.model.specs.Lists.{qubits, remaining, comparedValue, holds};
 ghost use Rattle.sets.specs.Sets.{membersOf};
-ghost use Rattle.decoded.specs.RecordWords.{rowAt, wordNumber};
+ghost use Rattle.decoded.specs.RecordWords.{rowAt};
 ghost use Rattle.decoded.specs.DecodedTable.{wordIn, endOf, removalsIn, testAt, procedureCount, rootOf};
-ghost use Rattle.records.specs.Fields.{numberOf};
-ghost use Rattle.step.specs.Steps.{sumOf, valueOf, touchedBy, stepAt};
+ghost use Rattle.step.specs.Steps.{sumOf, valueOf, numberIn, touchedBy, stepAt};
 use decoded::number_of;
 use limits::{
     COUNT_FIELD, END_FIELD, MOST_CONSTANT, MOST_QUBITS, NUMBER_FIELD, PROCEDURE_FIELD, PROGRAM_LENGTH, RECORDS_AT, RECORD_LENGTH, REMOVALS_FIELD,
@@ -24,22 +24,24 @@ pub struct Lists {
     pub left: QubitSet,
 }
 
-// What a record does on a list. Children go by their numbers.
+// What a record does, whatever the list. Children go by their numbers, removals and numbers by where the words of the record begin.
 pub enum Step {
     // skip
     Nothing,
-    // NOT: the qubit it touches, 0 for none
-    Touches(u8),
+    // NOT: where the words of the record begin
+    Touches(u32),
     // sequence: first, second
     Sequence(u32, u32),
     // if: condition, yes, no
     Chooses(u32, u32, u32),
-    // qcase: the qubit it touches, zero, one
-    Branches(u8, u32, u32),
-    // call: the procedure, and where the words of the record begin, which has the removals
+    // qcase: where the words of the record begin, zero, one
+    Branches(u32, u32, u32),
+    // call: the procedure, and where the words of the record begin
     Calls(u8, u32),
-    // a comparison: whether it holds
-    Holds(bool),
+    // comparisons, greater, at least and equal: where the words of the record begin
+    Greater(u32),
+    AtLeast(u32),
+    Equal(u32),
     // and: first, second
     Both(u32, u32),
     // or: first, second
@@ -119,8 +121,9 @@ pub fn removal_count(program: &[u32; PROGRAM_LENGTH], at: u32) -> u32
 }
 
 // "NOT and qcase touch the entry at position a of the remaining list"; 0 where they touch nothing. The words of the record begin at a place.
-fn touched(program: &[u32; PROGRAM_LENGTH], at: u32, list: QubitSet) -> u8
+pub fn touched(program: &[u32; PROGRAM_LENGTH], at: u32, list: QubitSet) -> u8
     ensures { λ r. ⌜ r ≡ touchedBy (now (program .entry)) at (membersOf list) ⌝ }
+    ensures { λ r. ⌜ r ≤ setLength ⌝ }
 {
     let rest = remaining(program, at, list);
     entry(rest, value(number_of(word(program, at as usize + NUMBER_FIELD)), Lists { whole: list, left: rest }))
@@ -135,14 +138,14 @@ fn subtree_end(program: &[u32; PROGRAM_LENGTH], i: u32) -> u32
 
 // The value of a number in a comparison, whose word stands at a place: nothing is removed.
 fn compared(program: &[u32; PROGRAM_LENGTH], at: usize, list: QubitSet) -> i32
-    ensures { λ r. ⌜ r ≡ comparedValue (numberOf (wordNumber (wordIn (now (program .entry)) at))) (membersOf list) ⌝ }
+    ensures { λ r. ⌜ r ≡ comparedValue (numberIn (now (program .entry)) at) (membersOf list) ⌝ }
 {
     value(number_of(word(program, at)), Lists { whole: list, left: list })
 }
 
-// What record i does on a list: one match over the kinds 0 to 11. Past the last record there is none.
-pub fn step_at(program: &[u32; PROGRAM_LENGTH], i: u32, list: QubitSet) -> Step
-    ensures { λ r. ⌜ r ≡ stepAt (now (program .entry)) i (membersOf list) ⌝ }
+// What record i does: one match over the kinds 0 to 11. Past the last record there is none.
+pub fn step_at(program: &[u32; PROGRAM_LENGTH], i: u32) -> Step
+    ensures { λ r. ⌜ r ≡ stepAt (now (program .entry)) i ⌝ }
 {
     let words = &program[..];
     let at = row(i);
@@ -154,17 +157,17 @@ pub fn step_at(program: &[u32; PROGRAM_LENGTH], i: u32, list: QubitSet) -> Step
     let place = at as u32;
     match kind {
         0 => Step::Nothing,
-        1 => Step::Touches(touched(program, place, list)),
+        1 => Step::Touches(place),
         2 => Step::Sequence(first, subtree_end(program, first)),
         3 => {
             let second = subtree_end(program, first);
             Step::Chooses(first, second, subtree_end(program, second))
         }
-        4 => Step::Branches(touched(program, place, list), first, subtree_end(program, first)),
+        4 => Step::Branches(place, first, subtree_end(program, first)),
         5 => Step::Calls((word(program, at + PROCEDURE_FIELD) % 256) as u8, place),
-        6 => Step::Holds(compared(program, at + NUMBER_FIELD, list) > compared(program, at + REMOVALS_FIELD, list)),
-        7 => Step::Holds(compared(program, at + NUMBER_FIELD, list) >= compared(program, at + REMOVALS_FIELD, list)),
-        8 => Step::Holds(compared(program, at + NUMBER_FIELD, list) == compared(program, at + REMOVALS_FIELD, list)),
+        6 => Step::Greater(place),
+        7 => Step::AtLeast(place),
+        8 => Step::Equal(place),
         9 => Step::Both(first, subtree_end(program, first)),
         10 => Step::Either(first, subtree_end(program, first)),
         11 => Step::Negates(first),
@@ -179,9 +182,11 @@ fn holds(program: &[u32; PROGRAM_LENGTH], i: u32, list: QubitSet, depth: u8) -> 
     if depth == 0 {
         return true;
     }
-    let step = step_at(program, i, list);
+    let step = step_at(program, i);
     match step {
-        Step::Holds(result) => result,
+        Step::Greater(at) => compared(program, at as usize + NUMBER_FIELD, list) > compared(program, at as usize + REMOVALS_FIELD, list),
+        Step::AtLeast(at) => compared(program, at as usize + NUMBER_FIELD, list) >= compared(program, at as usize + REMOVALS_FIELD, list),
+        Step::Equal(at) => compared(program, at as usize + NUMBER_FIELD, list) == compared(program, at as usize + REMOVALS_FIELD, list),
         Step::Both(first, second) => holds(program, first, list, depth - 1) && holds(program, second, list, depth - 1),
         Step::Either(first, second) => holds(program, first, list, depth - 1) || holds(program, second, list, depth - 1),
         Step::Negates(first) => !holds(program, first, list, depth - 1),

@@ -5,7 +5,7 @@ use native.Mathlib.Numerals.{add-one, sub-one}
 use native.Mathlib.Omega.{arith}
 use mathlib.Core.Path.{_≡_, refl, sym, ap, _∙_}
 use mathlib.Core.Bool.{Bool, true, false}
-use mathlib.Core.List.{List, []}
+use mathlib.Core.List.{List}
 use borrow.Author.Needs.{needs}
 use borrow.Author.Tests.{lt-ltb, le-ltb}
 use lib.Dec.{ltb}
@@ -287,7 +287,7 @@ numbered-less g i end (qcase rs q s t) n =
 numbered-less g i end (call rs f) n = n
 
 record-order : (g : List ℕ) (d i end : ℕ) → ((j e : ℕ) → Numbered g j e (statementAt g d j) → InOrder g d j e) → (r : Record) →
-    Numbered g i end (statementOf (testAt g d) (statementAt g d) g i r) → PartsInOrder (InOrder g d) i end (partsOf (stepOf g i [] r))
+    Numbered g i end (statementOf (testAt g d) (statementAt g d) g i r) → PartsInOrder (InOrder g d) i end (partsOf (stepOf g i r))
 unfolding statementOf stepOf partsOf Numbered
 record-order g d i end go kind.Skip n = tt
 record-order g d i end go (kind.Not at a) n = tt

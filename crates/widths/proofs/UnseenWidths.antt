@@ -2,57 +2,26 @@
 use Prim.Native.Nat.{ℕ, zero, suc, _+_, _%_, _≤_, _<_}
 use native.Mathlib.Omega.{arith}
 use mathlib.Core.Path.{_≡_, refl, ap, _∙_}
-use mathlib.Core.Bool.{Bool, true, false, cond}
-use mathlib.Core.List.{List, [], _∷_, map}
+use mathlib.Core.List.{List, _∷_, map}
 use borrow.Author.Tests.{lt-ltb, le-ltb}
-use lib.Dec.{eqb}
 use Rattle.limits.specs.Sizes.{widthsAt, recordsAt, rootsAt, rootCount, endField, placeField, procedureField, countField, numberField, removalsField}
 use Rattle.model.specs.Limits.{mostDepth}
 use Rattle.model.specs.Syntax.{Statement, skip, NOT, sequence, if, qcase, call, Condition, Program}
 use Rattle.model.specs.Lists.{range}
 use Rattle.model.proofs.BooleanLaws.{byLt}
-use Rattle.model.specs.Reading.{requiredMap}
 use Rattle.records.specs.declared.Record.{Record}
 use Rattle.records.specs.declared.Record.the-variants as kind
 use Rattle.records.specs.declared.Number as code
-use Rattle.records.specs.Fields.{numberOf, plainRecord, touchRecord, comparisonRecord}
+use Rattle.records.specs.Fields.{numberOf}
 use Rattle.decoded.specs.RecordWords.{rowAt, wordNumber}
 use Rattle.decoded.specs.DecodedTable.{
   wordIn, startOf, endOf, rootOf, procedureCount, numbersIn, removalsIn, recordIn, testOf, testAt, statementOf, statementAt, bodyAt, programAt,
 }
 use Rattle.table.specs.ReadTable.{Placed, bodyEnd, BodiesPlaced}
 use Rattle.step.specs.Steps.{stepOf, stepAt}
+use Rattle.step.proofs.FieldsInWords.{HeldAt, held}
 use Rattle.reach.specs.CallsInATable.{partsAt, partsOf}
 use Rattle.widths.specs.KeptWidths.{Unseen}
-
--- the place of a record's removals
-abbrev HeldAt : ℕ → Record → Type 0
-HeldAt at kind.Skip = Unit {0}
-HeldAt at (kind.Not q a) = q ≡ at
-HeldAt at kind.Sequence = Unit {0}
-HeldAt at kind.If = Unit {0}
-HeldAt at (kind.Qcase q a) = q ≡ at
-HeldAt at (kind.Call q f) = q ≡ at
-HeldAt at (kind.Greater a b) = Unit {0}
-HeldAt at (kind.AtLeast a b) = Unit {0}
-HeldAt at (kind.Equal a b) = Unit {0}
-HeldAt at kind.And = Unit {0}
-HeldAt at kind.Or = Unit {0}
-HeldAt at kind.Negation = Unit {0}
-
-either : (at : ℕ) (b : Bool) (x y : Record) → HeldAt at x → HeldAt at y → HeldAt at (cond b x y)
-either at true x y p q = p
-either at false x y p q = q
-
-held : (g : List ℕ) (at : ℕ) → HeldAt at (recordIn g at)
-unfolding recordIn touchRecord comparisonRecord plainRecord
-held g at =
-    let k = wordIn g at in
-    either at (eqb (requiredMap k) 2) _ _ (either at (eqb k 1) _ _ refl refl)
-    (either at (eqb (requiredMap k) 6) _ _ (either at (eqb k 6) _ _ tt (either at (eqb k 7) (kind.AtLeast _ _) (kind.Equal _ _) tt tt))
-    (either at (eqb (requiredMap k) 8) (kind.Call _ _) _ refl
-    (either at (eqb k 2) kind.Sequence _ tt (either at (eqb k 3) kind.If _ tt (either at (eqb k 9) kind.And _ tt (either at (eqb k 10) kind.Or _ tt
-    (either at (eqb k 11) kind.Negation kind.Skip tt tt)))))))
 
 module _ (g h : List ℕ) (u : Unseen g h) where
   pub same-end : (i : ℕ) → endOf h i ≡ endOf g i
@@ -84,26 +53,26 @@ module _ (g h : List ℕ) (u : Unseen g h) where
   here : (i q : ℕ) → q ≡ rowAt i → removalsIn h q ≡ removalsIn g q
   here i q e = same-removals q (omega arith)
 
-  step-same : (i : ℕ) (l : List ℕ) (r : Record) → HeldAt (rowAt i) r → stepOf h i l r ≡ stepOf g i l r
+  step-same : (i : ℕ) (r : Record) → stepOf h i r ≡ stepOf g i r
   unfolding stepOf
-  step-same i l kind.Skip o = refl
-  step-same i l (kind.Not q a) o = rw (here i q o)
-  step-same i l kind.Sequence o = rw (same-end (i + 1))
-  step-same i l kind.If o = rw (same-end (i + 1), same-end (endOf g (i + 1)))
-  step-same i l (kind.Qcase q a) o = rw (here i q o, same-end (i + 1))
-  step-same i l (kind.Call q f) o = refl
-  step-same i l (kind.Greater a b) o = refl
-  step-same i l (kind.AtLeast a b) o = refl
-  step-same i l (kind.Equal a b) o = refl
-  step-same i l kind.And o = rw (same-end (i + 1))
-  step-same i l kind.Or o = rw (same-end (i + 1))
-  step-same i l kind.Negation o = refl
+  step-same i kind.Skip = refl
+  step-same i (kind.Not q a) = refl
+  step-same i kind.Sequence = rw (same-end (i + 1))
+  step-same i kind.If = rw (same-end (i + 1), same-end (endOf g (i + 1)))
+  step-same i (kind.Qcase q a) = rw (same-end (i + 1))
+  step-same i (kind.Call q f) = refl
+  step-same i (kind.Greater a b) = refl
+  step-same i (kind.AtLeast a b) = refl
+  step-same i (kind.Equal a b) = refl
+  step-same i kind.And = rw (same-end (i + 1))
+  step-same i kind.Or = rw (same-end (i + 1))
+  step-same i kind.Negation = refl
 
-  pub same-step : (i : ℕ) (l : List ℕ) → stepAt h i l ≡ stepAt g i l
-  same-step i l = rw (same-record i) (step-same i l (recordIn g (rowAt i)) (held g (rowAt i)))
+  pub same-step : (i : ℕ) → stepAt h i ≡ stepAt g i
+  same-step i = rw (same-record i) (step-same i (recordIn g (rowAt i)))
 
   pub same-parts : (i : ℕ) → partsAt h i ≡ partsAt g i
-  same-parts i = ap partsOf (same-step i [])
+  same-parts i = ap partsOf (same-step i)
 
   test-same : (d i : ℕ) → ((j : ℕ) → testAt h d j ≡ testAt g d j) → (r : Record) → testOf (testAt h d) h i r ≡ testOf (testAt g d) g i r
   unfolding testOf
@@ -125,15 +94,15 @@ module _ (g h : List ℕ) (u : Unseen g h) where
   same-test zero i = refl
   same-test (suc d) i = rw (same-record i) (test-same d i (same-test d) (recordIn g (rowAt i)))
 
-  statement-same : (d i : ℕ) → ((j : ℕ) → statementAt h d j ≡ statementAt g d j) → (r : Record) → HeldAt (rowAt i) r →
+  statement-same : (d i : ℕ) → ((j : ℕ) → statementAt h d j ≡ statementAt g d j) → (r : Record) → HeldAt g (rowAt i) r →
       statementOf (testAt h d) (statementAt h d) h i r ≡ statementOf (testAt g d) (statementAt g d) g i r
   unfolding statementOf
   statement-same d i s kind.Skip o = refl
-  statement-same d i s (kind.Not q a) o = rw (here i q o)
+  statement-same d i s (kind.Not q a) o = rw (here i q (o .0))
   statement-same d i s kind.Sequence o = rw (s (i + 1), same-end (i + 1), s (endOf g (i + 1)))
   statement-same d i s kind.If o =
       rw (same-test d (i + 1), same-end (i + 1), s (endOf g (i + 1)), same-end (endOf g (i + 1)), s (endOf g (endOf g (i + 1))))
-  statement-same d i s (kind.Qcase q a) o = rw (here i q o, s (i + 1), same-end (i + 1), s (endOf g (i + 1)))
+  statement-same d i s (kind.Qcase q a) o = rw (here i q (o .0), s (i + 1), same-end (i + 1), s (endOf g (i + 1)))
   statement-same d i s (kind.Call q f) o = rw (here i q o)
   statement-same d i s (kind.Greater a b) o = refl
   statement-same d i s (kind.AtLeast a b) o = refl

@@ -13,6 +13,7 @@ use Rattle.step.proofs.all.Reads as all-reads
 use Rattle.step.proofs.chosen.Reads as chosen-reads
 use Rattle.step.proofs.remaining.Reads as remaining-reads
 use Rattle.step.proofs.step_at.Reads as step-at-reads
+use Rattle.step.proofs.touched.Reads as touched-reads
 use Rattle.faults.proofs.+touches.{statement}
 use Rattle.faults.proofs.+touches.Tie.{close}
 
@@ -31,6 +32,8 @@ pub +touches-spec : {M : Type 1} → statement M
   all-reads.Learnt,
   step-at-reads.Asked,
   step-at-reads.Learnt,
+  touched-reads.Asked,
+  touched-reads.Learnt,
   mark-reads.Asked,
   mark-reads.Learnt,
   touches-below t,
@@ -51,10 +54,6 @@ pub +touches-spec : {M : Type 1} → statement M
     (λ c κs. search walking)
     (λ c. search walking)
     (λ c. search walking)
-    (λ c. search walking)
-    (λ c κs. search walking)
-    (λ c. search walking)
-    (λ c. search walking)
     (λ c κs. search walking)
     (λ c. search walking)
     (λ c κs. search walking)
@@ -68,10 +67,20 @@ pub +touches-spec : {M : Type 1} → statement M
     (λ c κs. search walking)
     (λ c. search walking)
     (λ c κs. search walking)
+    (λ c. search walking)
+    (λ c κs. search walking)
+    (λ c. search walking)
     (λ c κs. search walking)
     (λ c. search walking)
     (λ c κs. search walking)
     (λ c κs. search walking)
+    (λ c. search walking)
+    (λ c κs. search walking)
+    (λ c κs. search walking)
+    (λ c. search walking)
+    (λ c. search walking)
+    (λ c. search walking)
+    (λ c. search walking)
     (λ c. search walking)
     (λ c. search walking)
     (λ c. search walking)

@@ -20,6 +20,7 @@ use Rattle.step.proofs.procedures.Reads as procedures-reads
 use Rattle.step.proofs.remaining.Reads as remaining-reads
 use Rattle.step.proofs.root.Reads as root-reads
 use Rattle.step.proofs.step_at.Reads as step-at-reads
+use Rattle.step.proofs.touched.Reads as touched-reads
 use Rattle.run.proofs.+call+walk.{statement}
 use Rattle.run.proofs.+call+walk.Tie.{close}
 
@@ -71,6 +72,8 @@ pub +call+walk-spec : {M : Type 1} → statement M
     λ t. walk-lts.spec (
       step-at-reads.Asked,
       step-at-reads.Learnt,
+      touched-reads.Asked,
+      touched-reads.Learnt,
       flip-reads.Asked,
       flip-reads.Learnt,
       walk-below t,
@@ -93,6 +96,7 @@ pub +call+walk-spec : {M : Type 1} → statement M
     (λ c. search walking)
     (λ c. search walking)
     (λ c κs. search walking)
+    (λ c κs. search walking)
     (λ c. search walking)
     (λ c. search walking)
     (λ c κs. search walking)
@@ -104,11 +108,16 @@ pub +call+walk-spec : {M : Type 1} → statement M
     (λ c. search walking)
     (λ c. search walking)
     (λ c κs. search walking)
+    (λ c κs. search walking)
     (λ c. search walking)
     (λ c. search walking)
     (λ c. search walking)
     (λ c κs. search walking)
     (λ c κs. search walking)
+    (λ c. search walking)
+    (λ c. search walking)
+    (λ c. search walking)
+    (λ c. search walking)
     (λ c. search walking)
     (λ c. search walking)
     (λ c. search walking)

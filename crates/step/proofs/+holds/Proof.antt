@@ -6,6 +6,7 @@ use borrow.Fn.PlainCycle.{Measures, is, falls, and}
 use Rattle.step.proofs.holds.Reads as holds
 use Rattle.step.proofs.holds.Kinds as holds-kinds
 use Rattle.step.proofs.+holds.Lts-holds as holds-lts
+use Rattle.step.proofs.compared.Reads as compared-reads
 use Rattle.step.proofs.step_at.Reads as step-at-reads
 use Rattle.step.proofs.+holds.{statement}
 use Rattle.step.proofs.+holds.Tie.{close}
@@ -23,6 +24,8 @@ pub +holds-spec : {M : Type 1} → statement M
 +holds-spec = close μ-holds λ t. holds-lts.spec (
   step-at-reads.Asked,
   step-at-reads.Learnt,
+  compared-reads.Asked,
+  compared-reads.Learnt,
   holds-below t,
   holds.Post,
 )
@@ -35,6 +38,26 @@ pub +holds-spec : {M : Type 1} → statement M
     (λ c. search testing)
     (λ c κs. search testing)
     (λ c. search testing)
+    (λ c. search testing)
+    (λ c κs. search testing)
+    (λ c. search testing)
+    (λ c. search testing)
+    (λ c. search testing)
+    (λ c κs. search testing)
+    (λ c. search testing)
+    (λ c. search testing)
+    (λ c κs. search testing)
+    (λ c. search testing)
+    (λ c. search testing)
+    (λ c. search testing)
+    (λ c κs. search testing)
+    (λ c. search testing)
+    (λ c. search testing)
+    (λ c κs. search testing)
+    (λ c. search testing)
+    (λ c. search testing)
+    (λ c κs. search testing)
+    (λ c. search testing)
     (λ c κs. search testing)
     (λ c. search testing)
     (λ c. search testing)
@@ -44,6 +67,8 @@ pub +holds-spec : {M : Type 1} → statement M
     (λ c. search testing)
     (λ c. search testing)
     (λ c κs. search testing)
+    (λ c. search testing)
+    (λ c. search testing)
     (λ c. search testing)
     (λ c. search testing)
     (λ c. search testing)
@@ -53,12 +78,12 @@ pub +holds-spec : {M : Type 1} → statement M
     (λ c. search testing)
     (λ c. let b = c .before .before in
       held-and _ _ _ _ _ (b .before .before .before .before .before .if1 .left) (b .before .before .before .before .step-at .ensures) _ _ _
-      (b .holds .ensures) (b .before .before .step2 .given .1) (c .before .if2 .taken) _ (c .holds2 .ensures))
+      (b .holds .ensures) (b .before .before .step4 .given .1) (c .before .if2 .taken) _ (c .holds2 .ensures))
     (λ c. search testing)
     (λ c. search testing)
     (λ c. let b = c .before .before in
       held-or _ _ _ _ _ (b .before .before .before .before .before .if1 .left) (b .before .before .before .before .step-at .ensures) _ _ _
-      (b .holds3 .ensures) (b .before .before .step3 .given .1) (c .before .if3 .left) _ (c .holds4 .ensures))
+      (b .holds3 .ensures) (b .before .before .step5 .given .1) (c .before .if3 .left) _ (c .holds4 .ensures))
     (λ c. search testing)
     (λ c. search testing)
     (λ c. search testing)
