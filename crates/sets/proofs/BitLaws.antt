@@ -51,7 +51,7 @@ or-bit n m k =
     ap (λ (x : ℕ). eqb x 1) (ap (λ (x : ℕ). x % 2) (or-shr n m k) ∙ or-mod (n / 2 ^ k) (m / 2 ^ k) 1)
     ∙ either (n / 2 ^ k % 2) (m / 2 ^ k % 2) (mod-lt (n / 2 ^ k) (zero-lt-suc 1)) (mod-lt (m / 2 ^ k) (zero-lt-suc 1))
 
-power-same : (k : ℕ) → bit (2 ^ k) k ≡ true
+pub power-same : (k : ℕ) → bit (2 ^ k) k ≡ true
 power-same k = flip-same 0 k ∙ rw (zero-bit k)
 
 both : (x y : ℕ) → x < 2 → y < 2 → eqb (bitAnd x y) 1 ≡ eqb x 1 && eqb y 1
@@ -68,7 +68,7 @@ and-bit n m k =
     ap (λ (x : ℕ). eqb x 1) (ap (λ (x : ℕ). x % 2) (and-shr n m k) ∙ and-mod (n / 2 ^ k) (m / 2 ^ k) 1)
     ∙ both (n / 2 ^ k % 2) (m / 2 ^ k % 2) (mod-lt (n / 2 ^ k) (zero-lt-suc 1)) (mod-lt (m / 2 ^ k) (zero-lt-suc 1))
 
-power-other : (k j : ℕ) → j ≢ k → bit (2 ^ k) j ≡ false
+pub power-other : (k j : ℕ) → j ≢ k → bit (2 ^ k) j ≡ false
 power-other k j ne = flip-other 0 k j ne ∙ zero-bit j
 
 -- w has bit k and otherwise the bits of v, which lacks it
@@ -110,11 +110,11 @@ pub record Lowest (w t : ℕ) : Type 0 where
   pub more : More w (cleared w) t
   pub none : (j : ℕ) → j < t → bit w j ≡ false
 
-trailing-odd : (n w : ℕ) → w % 2 ≡ 1 → trailingZeros (suc n) w ≡ 0
+pub trailing-odd : (n w : ℕ) → w % 2 ≡ 1 → trailingZeros (suc n) w ≡ 0
 unfolding trailingZeros
 trailing-odd n w e = rw e
 
-trailing-even : (n w : ℕ) → w % 2 ≡ 0 → trailingZeros (suc n) w ≡ suc (trailingZeros n (w / 2))
+pub trailing-even : (n w : ℕ) → w % 2 ≡ 0 → trailingZeros (suc n) w ≡ suc (trailingZeros n (w / 2))
 unfolding trailingZeros
 trailing-even n w e = rw e
 

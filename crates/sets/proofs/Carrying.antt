@@ -1,14 +1,17 @@
--- Positions of a list carried to its members: member by member, while the row of positions is shifted down.
+-- Positions of a list carried to its members: in a list of neighbours by one shift, in others member by member, while the row of positions is shifted down.
 use mathlib.Core.Path.{_≡_, refl, sym, ap, _∙_}
 use mathlib.Core.Bool.{true, false}
 use mathlib.Core.List.{List, [], _∷_, _++_, map, map-id, append-assoc, append-nil}
 use Prim.Native.Nat.{ℕ, zero, suc, _+_, _-_, _*_, _/_, _%_, _^_, _≤_, _<_, min}
-use native.Mathlib.Nat.{min-le-right, not-suc-le-zero, lt-of-lt-of-le, lt-of-le-of-lt, zero-mul}
+use native.Mathlib.Nat.{
+  min-le-right, not-suc-le-zero, lt-of-lt-of-le, lt-of-le-of-lt, zero-mul, mul-one, mul-comm, mul-assoc, mul-le-mul-right, div-one,
+  div-div-eq-div-mul, mod-eq-of-lt, pow-succ',
+}
 use native.Mathlib.Omega.{arith}
 use borrow.Author.Needs.{needs}
-use lib.Bits.{bitAnd, bitOr, and-mask, or-zero-r, or-lt, and-le-l}
-use lib.Pow.{pow-pos, pow-lt, pow-mono, ones-lt}
-use lib.Count.{trailingZeros}
+use lib.Bits.{bitAnd, bitOr, and-mask, or-zero-r, or-lt, and-le-l, and-le-r}
+use lib.Pow.{pow-pos, pow-lt, pow-mono, ones-lt, shr-le, split}
+use lib.Count.{trailingZeros, trailing-le}
 use lib.ListN.{length, getD}
 use mir.Syntax.{w64}
 use mir.Val.{Fits}
@@ -19,8 +22,10 @@ use Rattle.model.proofs.ListLaws.{range-length}
 use Rattle.model.proofs.WordBits.{shifted, past-bit}
 use Rattle.sets.specs.Sets.{membersWithin, membersOf, entriesAt}
 use Rattle.sets.proofs.Filtering.{picked, picked-zero, picked-yes, picked-no, picked-same, picked-map}
-use Rattle.sets.proofs.BitLaws.{odd-bit, even-bit, byParity, more-or, cleared, lowest, lowest-below}
-use Rattle.sets.proofs.Members.{members-empty, members-full, members-cut, same-word, members-lowest, members-last, from, from-half, from-state}
+use Rattle.sets.proofs.BitLaws.{half-below, odd-bit, even-bit, byParity, trailing-odd, trailing-even, more-or, cleared, lowest, lowest-below}
+use Rattle.sets.proofs.Members.{
+  members-empty, members-full, members-cut, members-double, same-word, members-lowest, members-last, from, from-half, from-state,
+}
 use Rattle.sets.proofs.Positions.{entry-qubits}
 
 -- the entries of a list whose positions are in a row, the lowest bit of which is the first position
@@ -86,14 +91,73 @@ entries-qubits row n =
     ∙ picked-map n 1 (stateOf row) (entry (qubits n)) (λ q. q) (λ q l g. entry-qubits n q (omega arith))
     ∙ map-id (membersWithin n row)
 
-module _ (row w : ℕ) (n v : ℕ) (f : Fits w64 w) (size : n ≡ length (membersOf w)) (full : membersOf v ≡ qubits (min n 64)) (same : w ≡ v) where
-  pub carry-full : membersOf (bitAnd row w) ≡ entriesAt row (membersOf w)
-  carry-full =
+carry-full : (row w n v : ℕ) → w < 2 ^ 64 → membersOf v ≡ qubits (min n 64) → w ≡ v → membersOf (bitAnd row w) ≡ entriesAt row (membersOf w)
+carry-full row w n v f full same =
     let low : min n 64 ≤ 64 = min-le-right n 64 in
     let all : membersOf w ≡ qubits (min n 64) = ap membersOf same ∙ full in
-    let word : w ≡ 2 ^ min n 64 - 1 = same-word w (2 ^ min n 64 - 1) (f .fits)
+    let word : w ≡ 2 ^ min n 64 - 1 = same-word w (2 ^ min n 64 - 1) f
         (lt-of-lt-of-le (ones-lt (min n 64)) (pow-mono low)) (all ∙ sym (members-full (min n 64) low)) in
     ap (λ (x : ℕ). membersOf (bitAnd row x)) word ∙ members-cut row (min n 64) low ∙ sym (entries-qubits row (min n 64)) ∙ ap (entriesAt row) (sym all)
+
+-- entries that are one higher
+deposit-next : (row : ℕ) (l : List ℕ) → deposit row (map suc l) ≡ map suc (deposit row l)
+deposit-next row [] = rw (deposit-nil row)
+deposit-next row (x ∷ l) = byParity row
+    (λ o. rw (deposit-odd row (suc x) (map suc l) o, deposit-odd row x l o, deposit-next (row / 2) l))
+    (λ e. rw (deposit-even row (suc x) (map suc l) e, deposit-even row x l e, deposit-next (row / 2) l))
+
+-- what is found in a list whose lowest member is brought down to 1 is, as far up again, what is found in the list
+below-le : (x w t : ℕ) → x ≤ w / 2 ^ t → x * 2 ^ t ≤ w
+below-le x w t l = let a = mul-le-mul-right (2 ^ t) l in let b = split w t in omega arith
+
+module _ (row x w t : ℕ) where
+  no-further : t ≡ 0 → membersOf x ≡ deposit row (membersOf (w / 2 ^ t)) → membersOf (x * 2 ^ t) ≡ deposit row (membersOf w)
+  no-further z e = rw (z, mul-one x) (rw (z, div-one w) at e)
+
+  one-further : w < 2 ^ 64 → w % 2 ≡ 0 → x ≤ w / 2 ^ suc t → membersOf (x * 2 ^ t) ≡ deposit row (membersOf (w / 2)) →
+      membersOf (x * 2 ^ suc t) ≡ deposit row (membersOf w)
+  one-further b even l e =
+    let further : x * 2 ^ suc t ≡ x * 2 ^ t * 2 = ap (λ (y : ℕ). x * y) (pow-succ' 2 t ∙ mul-comm 2 (2 ^ t)) ∙ sym (mul-assoc x (2 ^ t) 2) in
+    let under : x * 2 ^ suc t ≤ w = below-le x w (suc t) l in
+    let twice : w / 2 * 2 ≡ w = omega arith in
+    ap membersOf further ∙ members-double (x * 2 ^ t) (omega arith) ∙ ap (map suc) e ∙ sym (deposit-next row (membersOf (w / 2)))
+    ∙ ap (deposit row) (sym (members-double (w / 2) (half-below 63 w b)) ∙ ap membersOf twice)
+
+shifted-run : (n row x w : ℕ) → w < 2 ^ 64 → x ≤ w / 2 ^ trailingZeros n w → membersOf x ≡ deposit row (membersOf (w / 2 ^ trailingZeros n w)) →
+    membersOf (x * 2 ^ trailingZeros n w) ≡ deposit row (membersOf w)
+shifted-run zero row x w b l e = no-further row x w (trailingZeros 0 w) (omega (arith, trailing-le 0 w)) e
+shifted-run (suc n) row x w b l e = byParity w
+    (λ odd. no-further row x w (trailingZeros (suc n) w) (trailing-odd n w odd) e)
+    (λ even.
+      let t : ℕ = trailingZeros n (w / 2) in
+      let next : trailingZeros (suc n) w ≡ suc t = trailing-even n w even in
+      let half : w / 2 ^ suc t ≡ w / 2 / 2 ^ t = ap (λ (y : ℕ). w / y) (pow-succ' 2 t) ∙ sym (div-div-eq-div-mul w 2 (2 ^ t)) in
+      rw next (one-further row x w t b even (rw next at l)
+        (shifted-run n row x (w / 2) (omega arith) (rw (next, half) at l) (rw (next, half) at e))))
+
+pub carry-empty : (row w : ℕ) → w ≡ 0 → membersOf 0 ≡ entriesAt row (membersOf w)
+carry-empty row w e = rw (e, members-empty) (sym (deposit-nil row) ∙ deposit-entries row [])
+
+module _ (w : ℕ) (f : Fits w64 w) (some : w ≡ 0 → ⊥) where
+  -- how many places are below the lowest member
+  pub carry-inside : trailingZeros 64 w < 64
+  carry-inside = lowest-below 64 w (omega arith) (f .fits)
+
+  pub carry-fits : Fits w64 (trailingZeros 64 w)
+  carry-fits = let h = carry-inside in record { fits = omega arith }
+
+-- in a list of neighbours
+module _ (row w n v : ℕ) (f : Fits w64 w) (full : membersOf v ≡ qubits (min n 64)) where
+  pub carry-run : w / 2 ^ trailingZeros 64 w ≡ v →
+      membersOf ((bitAnd row (w / 2 ^ trailingZeros 64 w) * 2 ^ trailingZeros 64 w) % 2 ^ 64) ≡ entriesAt row (membersOf w)
+  carry-run same =
+    let t : ℕ = trailingZeros 64 w in
+    let run : ℕ = w / 2 ^ t in
+    let low : run < 2 ^ 64 = lt-of-le-of-lt (shr-le w t) (f .fits) in
+    let under : bitAnd row run * 2 ^ t ≤ w = below-le (bitAnd row run) w t (and-le-r row run) in
+    ap membersOf (mod-eq-of-lt (lt-of-le-of-lt under (f .fits)))
+    ∙ shifted-run 64 row (bitAnd row run) w (f .fits) (and-le-r row run) (carry-full row run n v low full same ∙ sym (deposit-entries row (membersOf run)))
+    ∙ deposit-entries row (membersOf w)
 
 -- what the loop keeps: what was found, and what the rest of the row finds in the rest of the list, is what the whole row finds in the whole list;
 -- all that was found is below the rest
@@ -118,9 +182,6 @@ module _ (found t : ℕ) (low : found < 2 ^ t) (inside : t < 64) where
 module _ (w : ℕ) (some : w ≡ 0 → ⊥) (b : w < 2 ^ 64) where
   abbrev t : ℕ
   t = trailingZeros 64 w
-
-  inside : t < 64
-  inside = lowest-below 64 w (omega arith) b
 
   first : membersOf w ≡ suc t ∷ membersOf (cleared w)
   first = members-lowest w some b
@@ -157,11 +218,8 @@ module _ (row list found rest left : ℕ) (c : Carries row list found rest left)
   carry-end e = done (rw e (deposit-zero (membersOf rest)))
 
   module _ (some : rest ≡ 0 → ⊥) where
-    pub carry-inside : trailingZeros 64 rest < 64
-    carry-inside = inside rest some (c .bound)
-
-    pub carry-fits : Fits w64 (trailingZeros 64 rest)
-    carry-fits = let h = carry-inside in record { fits = omega arith }
+    below : trailingZeros 64 rest < 64
+    below = lowest-below 64 rest (omega arith) (c .bound)
 
     abbrev place : ℕ
     place = trailingZeros 64 rest
@@ -169,12 +227,12 @@ module _ (row list found rest left : ℕ) (c : Carries row list found rest left)
     -- the lowest member is found where its position is in the row
     carry-odd : left % 2 ≡ 1 → Carries row list (bitOr found (2 ^ place)) (cleared rest) (left / 2)
     carry-odd o = record {
-      so = rw (append found place (c .under some) carry-inside)
+      so = rw (append found place (c .under some) below)
         (append-assoc (membersOf found) (suc place ∷ []) (deposit (left / 2) (membersOf (cleared rest)))
         ∙ ap (λ (l : List ℕ). membersOf found ++ l)
           (sym (ap (deposit left) (first rest some (c .bound)) ∙ deposit-odd left (suc place) (membersOf (cleared rest)) o))
         ∙ c .so);
-      under = λ more. lt-of-lt-of-le (above found place (c .under some) carry-inside) (pow-mono (higher rest some (c .bound) more));
+      under = λ more. lt-of-lt-of-le (above found place (c .under some) below) (pow-mono (higher rest some (c .bound) more));
       bound = bound-less rest some (c .bound) }
 
     carry-even : left % 2 ≡ 0 → Carries row list found (cleared rest) (left / 2)
@@ -187,7 +245,7 @@ module _ (row list found rest left : ℕ) (c : Carries row list found rest left)
 
     pub carry-more : Carries row list (bitOr found ((bitAnd left 1 * 2 ^ trailingZeros 64 rest) % 2 ^ 64)) (bitAnd rest (rest - 1)) (left / 2)
     carry-more = byParity left
-      (λ o. rw (bit-odd left place o carry-inside) (carry-odd o))
+      (λ o. rw (bit-odd left place o below) (carry-odd o))
       (λ e. rw (bit-even left place e, or-zero-r found) (carry-even e))
 
-pub ruleset carrying = (needs, carry-full, carry-start, carry-none, carry-end, carry-inside, carry-fits, carry-more)
+pub ruleset carrying = (needs, carry-empty, carry-inside, carry-fits, carry-run, carry-start, carry-none, carry-end, carry-more)

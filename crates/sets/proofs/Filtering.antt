@@ -71,6 +71,16 @@ picked-map (suc n) a p f g h =
       (λ e. rw (picked-yes p n a e, rest, h a (omega arith) (omega arith)))
       (λ e. rw (picked-no p n a e, rest))
 
+-- a run of numbers that begins one later
+pub picked-next : (n a : ℕ) (p r : ℕ → Bool) → ((q : ℕ) → a ≤ q → p (suc q) ≡ r q) → picked p n (suc a) ≡ map suc (picked r n a)
+picked-next zero a p r h = rw (picked-zero p (suc a), picked-zero r a)
+picked-next (suc n) a p r h =
+    let rest : picked p n (suc (suc a)) ≡ map suc (picked r n (suc a)) = picked-next n (suc a) p r (λ q l. h q (omega arith)) in
+    let here : p (suc a) ≡ r a = h a (omega arith) in
+    byBool (r a)
+      (λ e. rw (picked-yes p n (suc a) (here ∙ e), picked-yes r n a e, rest))
+      (λ e. rw (picked-no p n (suc a) (here ∙ e), picked-no r n a e, rest))
+
 -- every one that is picked is among the numbers and passes
 pub picked-bounds : (n a : ℕ) (p : ℕ → Bool) (q : ℕ) → member q (picked p n a) ≡ true → (a ≤ q) × (q < a + n)
 picked-bounds zero a p q m = not-in-nil q (rw (picked-zero p a) at m)

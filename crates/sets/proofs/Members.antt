@@ -2,8 +2,8 @@
 use mathlib.Core.Path.{_≡_, refl, sym, ap, _∙_}
 use mathlib.Core.Logic.{_≢_}
 use mathlib.Core.Bool.{Bool, true, false, _&&_, and-true}
-use mathlib.Core.List.{[], _∷_, _++_}
-use Prim.Native.Nat.{ℕ, zero, suc, _+_, _-_, _/_, _^_, _≤_, _<_}
+use mathlib.Core.List.{[], _∷_, _++_, map}
+use Prim.Native.Nat.{ℕ, zero, suc, _+_, _-_, _*_, _/_, _^_, _≤_, _<_}
 use native.Mathlib.Nat.{not-suc-le-zero}
 use native.Mathlib.Omega.{arith}
 use lib.Bits.{bitAnd, bitXor}
@@ -14,11 +14,11 @@ use Rattle.model.specs.Lists.{qubits, delete, member}
 use Rattle.model.specs.Circuit.{ascends}
 use Rattle.model.specs.Meaning.{bit, stateOf}
 use Rattle.model.proofs.BooleanLaws.{not-true-false, and-false-right}
-use Rattle.model.proofs.WordBits.{past-bit, zero-bit}
+use Rattle.model.proofs.WordBits.{past-bit, zero-bit, word-zero}
 use Rattle.sets.specs.Sets.{membersWithin, membersOf}
 use Rattle.sets.proofs.Filtering.{
-  getD-in, picked, picked-zero, picked-yes, picked-no, picked-same, picked-none, picked-shorter, picked-all, picked-bounds, picked-member, picked-ascends,
-  picked-length, picked-first, picked-last, picked-delete,
+  getD-in, picked, picked-zero, picked-yes, picked-no, picked-same, picked-none, picked-shorter, picked-all, picked-next, picked-bounds,
+  picked-member, picked-ascends, picked-length, picked-first, picked-last, picked-delete,
 }
 use Rattle.sets.proofs.BitLaws.{
   higher-bit, half-below, odd-bit, even-bit, byParity, and-bit, More, more-xor, cleared, lowest, lowest-below, highest, ones-bit, same-bits,
@@ -99,6 +99,19 @@ members-cut row n h =
       (λ q l g. state-and row (2 ^ n - 1) q ∙ and-false-right (stateOf row q) (stateOf (2 ^ n - 1) q) (ones-past n q l))
     ∙ picked-same n 1 (stateOf (bitAnd row (2 ^ n - 1))) (stateOf row)
       (λ q l g. state-and row (2 ^ n - 1) q ∙ ap (λ (b : Bool). stateOf row q && b) (ones-state n q l g) ∙ and-true (stateOf row q))
+
+-- every member one higher
+pub members-double : (w : ℕ) → w < 2 ^ 63 → membersOf (w * 2) ≡ map suc (membersOf w)
+members-double w h =
+    picked-no (stateOf (w * 2)) 63 1 (state-bit (w * 2) 0 ∙ even-bit (w * 2) (omega arith))
+    ∙ picked-next 63 1 (stateOf (w * 2)) (stateOf w) next
+    ∙ ap (map suc) (sym (picked-shorter 64 63 1 (stateOf w) (omega arith) (λ q l g. word-zero 63 w h q l)))
+  where
+    next : (q : ℕ) → 1 ≤ q → stateOf (w * 2) (suc q) ≡ stateOf w q
+    next zero l = absurd (not-suc-le-zero l)
+    next (suc k) l =
+      let half : w * 2 / 2 ≡ w = omega arith in
+      state-bit (w * 2) (suc k) ∙ higher-bit (w * 2) k ∙ ap (λ (x : ℕ). bit x k) half ∙ sym (state-bit w k)
 
 -- how many they are
 abbrev pub from : ℕ → ℕ → ℕ → Bool

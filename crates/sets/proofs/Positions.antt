@@ -47,7 +47,33 @@ within-unsigned : (n : ℕ) (k : ℤ) → ltZ k (pos 1) ≡ false → ltZ (pos n
 within-unsigned n (pos a) s t h = let b : a ≤ n = ltb-false n a t in (tt, record { fits = omega arith })
 within-unsigned n (negsuc a) s t h = absurd (false≢true (sym s))
 
+-- a position that is tested at zero and at five
+none-below : (l : List ℕ) (k : ℤ) → ltZ k (pos 1) ≡ true → 0 ≡ entry l (position k)
+none-below l (pos a) t = let b : a < 1 = ltb-true a 1 t in let z : a ≡ 0 = omega arith in rw z
+none-below l (negsuc a) t = refl
+
+near-in : (k : ℤ) → ltZ k (pos 1) ≡ false → ltZ k (pos 5) ≡ true → (natAbs k ≡ position k) × T (nonNeg k) × Fits w8 (natAbs k)
+near-in (pos a) s t = let b : a < 5 = ltb-true a 5 t in (refl, tt, record { fits = omega arith })
+near-in (negsuc a) s t = absurd (false≢true (sym s))
+
 -- in the machine's terms, which reads signed numbers back from their bits
+module _ (k : ℤ) (f : SFits w32 k) where
+  pub entry-none : (l : List ℕ) → ltZ (toZ w32 (ofZ w32 k)) (pos 1) ≡ true → 0 ≡ entry l (position k)
+  entry-none l t = none-below l k (rw (toZ-ofZ f) at t)
+
+  module _ (s : ltZ (toZ w32 (ofZ w32 k)) (pos 1) ≡ false) (t : ltZ (toZ w32 (ofZ w32 k)) (pos 5) ≡ true) where
+    near : (natAbs k ≡ position k) × T (nonNeg k) × Fits w8 (natAbs k)
+    near = near-in k (rw (toZ-ofZ f) at s) (rw (toZ-ofZ f) at t)
+
+    pub near-unsigned : T (nonNeg (toZ w32 (ofZ w32 k)))
+    near-unsigned = rw (toZ-ofZ f) (near .1)
+
+    pub near-fits : Fits w8 (natAbs (toZ w32 (ofZ w32 k)))
+    near-fits = rw (toZ-ofZ f) (near .2)
+
+    pub entry-near : (l : List ℕ) (q : ℕ) → q ≡ entry l (natAbs (toZ w32 (ofZ w32 k))) → q ≡ entry l (position k)
+    entry-near l q e = e ∙ rw (toZ-ofZ f, near .0)
+
 module _ (n : ℕ) (k : ℤ) (h : Fits w8 n) (f : SFits w32 k) where
   byte-signed : toZ w32 n ≡ pos n
   byte-signed = let l : n < 256 = h .fits in toZ-pos w32 (omega arith)
@@ -203,4 +229,5 @@ module _ (w : ℕ) (k : ℤ) (q : ℕ) (f : SFits w32 k) (found : q ≡ entry (m
     pub remove-one : membersOf (bitXor w (one (q - 1))) ≡ remove (position k) (membersOf w)
     remove-one = rw (shifted 64 (q - 1) remove-shift) (remove-member w (position k) q there some .1)
 
-pub ruleset entries = (needs, entry-full, entry-above, entry-low, entry-high, remove-none, remove-shift, remove-one)
+pub ruleset entries = (
+    needs, entry-none, near-unsigned, near-fits, entry-near, entry-full, entry-above, entry-low, entry-high, remove-none, remove-shift, remove-one)

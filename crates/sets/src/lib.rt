@@ -101,10 +101,17 @@ fn from_highest(set: QubitSet, above: u8) -> u8
     last_member(rest)
 }
 
-// The member at a position, 0 where there is none. In qubits 1 to n each stands at its own position; in other sets it is reached from the nearer end.
+// The member at a position, 0 where there is none. The first four are reached from the lowest, and the set is not counted. Of the others, in qubits 1 to n
+// each stands at its own position; in other sets it is reached from the nearer end.
 pub fn entry(set: QubitSet, k: i32) -> u8
     ensures { λ r. ⌜ r ≡ entry (membersOf set) (position k) ⌝ }
 {
+    if k < 1 {
+        return 0;
+    }
+    if k < 5 {
+        return from_lowest(set, k as u8);
+    }
     let n = size(set);
     let i = within(n, k);
     if set == full(n) {
@@ -143,12 +150,17 @@ fn deposited(row: u64, list: QubitSet) -> QubitSet
     found
 }
 
-// Positions of a callee's list carried to the caller. In qubits 1 to n each position is its own qubit.
+// Positions of a callee's list carried to the caller. In qubits 1 to n each position is its own qubit, and in a list of neighbours all are as far from it.
 pub fn carried(row: u64, list: QubitSet) -> QubitSet
     ensures { λ r. ⌜ membersOf r ≡ entriesAt row (membersOf list) ⌝ }
 {
-    if list == full(size(list)) {
-        return row & list;
+    if list == 0 {
+        return 0;
+    }
+    let below = u64::trailing_zeros(list);
+    let run = list >> below;
+    if run == full(size(list)) {
+        return (row & run) << below;
     }
     deposited(row, list)
 }
