@@ -6,5 +6,4 @@ mod GateCheckLaws
 pub mod WireListReading
 pub mod GateReading
 pub mod CircuitReading
-pub mod ControlInsertion
 pub mod GateBytes

@@ -83,9 +83,21 @@ programLength = recordsAt + recordLength * recordCount
 abbrev pub placeCount : ℕ
 placeCount = 2 ^ 16
 
--- the controls of a gate that is emitted: the body's ancilla, and one for each record of a tree at most
-abbrev pub mostControls : ℕ
-mostControls = mostDepth + 1
+-- where a statement that is emitted stands, in words: the wires up to 64 asked for 1, those asked for 0, a wire above 64 asked for 1, and its list
+abbrev pub onesWord : ℕ
+onesWord = 0
+
+abbrev pub zerosWord : ℕ
+zerosWord = 1
+
+abbrev pub highWord : ℕ
+highWord = 2
+
+abbrev pub listWord : ℕ
+listWord = 3
+
+abbrev pub siteLength : ℕ
+siteLength = 4
 
 -- a swap under one control: map, target, count, control, second wire
 abbrev pub swapLength : ℕ
@@ -95,17 +107,35 @@ swapLength = 5
 abbrev pub wireCount : ℕ
 wireCount = mostWires + 1
 
--- what an ancilla keeps of the call that took it, in words: procedure, then the list
+-- where an emission is, in words: the number that refused it, bytes used, gates placed, the next wire, the highest wire taken, and the number of qubits
+abbrev pub statusWord : ℕ
+statusWord = 0
+
+abbrev pub usedWord : ℕ
+usedWord = 1
+
+abbrev pub gatesWord : ℕ
+gatesWord = 2
+
+abbrev pub nextWord : ℕ
+nextWord = 3
+
+abbrev pub highestWord : ℕ
+highestWord = 4
+
+abbrev pub qubitsWord : ℕ
+qubitsWord = 5
+
+abbrev pub stateLength : ℕ
+stateLength = 6
+
+-- what an ancilla keeps of the call that took it, in words: the procedure and the length of its list, then the list
 abbrev pub slotLength : ℕ
 slotLength = 2
 
 -- the slots of all wires
 abbrev pub slotsLength : ℕ
 slotsLength = slotLength * wireCount
-
--- the calls of a body are counted in 16 bits, and no further
-abbrev pub mostCalls : ℕ
-mostCalls = 2 ^ 16 - 1
 
 -- document 02, S-3: the lookup of an entry's swaps has an entry for each qubit and one for each wire
 abbrev pub lookupLength : ℕ

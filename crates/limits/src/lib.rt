@@ -13,7 +13,8 @@ ghost use Rattle.model.specs.Reading.{mostBase};
 ghost use Rattle.model.specs.Page.{bandGates};
 ghost use Rattle.limits.specs.Sizes.{
   bodyCount, matrixLength, lengthCount, rowCount, recordCount, rootsAt, rootCount, widthsAt, recordsAt, endField, placeField, procedureField, countField, numberField,
-  removalsField, recordLength, programLength, placeCount, mostControls, setLength, slotLength, slotsLength, mostCalls, kindCount, firstCondition,
+  removalsField, recordLength, programLength, placeCount, setLength, onesWord, zerosWord, highWord, listWord, siteLength, statusWord, usedWord,
+  gatesWord, nextWord, highestWord, qubitsWord, stateLength, slotLength, slotsLength, kindCount, firstCondition,
   mostConstant, wireCount, marksLength, lineColumns, lookupLength, mostCount, swapLength,
 };
 
@@ -166,22 +167,40 @@ pub const PROGRAM_LENGTH: usize = RECORDS_AT + RECORD_LENGTH * RECORD_COUNT;
 // A place in a table is kept in 16 bits.
 pub const PLACE_COUNT: usize = 65536;
 
-// The controls of a gate that is emitted: the body's ancilla, and one for each record of a tree at most.
-pub const MOST_CONTROLS: u8 = MOST_DEPTH + 1;
+// Where a statement that is emitted stands, in words: the wires up to 64 asked for 1, those asked for 0, a wire above 64 asked for 1, and its list.
+pub const ONES_WORD: usize = 0;
 
-pub const CONTROLS_LENGTH: usize = MOST_CONTROLS as usize;
+pub const ZEROS_WORD: usize = 1;
+
+pub const HIGH_WORD: usize = 2;
+
+pub const LIST_WORD: usize = 3;
+
+pub const SITE_LENGTH: usize = 4;
 
 // A swap under one control: map, target, count, control, second wire.
 pub const SWAP_LENGTH: usize = 5;
 
-// What an ancilla keeps of the call that took it, in words: procedure, then the list.
+// Where an emission is, in words: the number that refused it, bytes used, gates placed, the next wire, the highest wire taken, and the number of qubits.
+pub const STATUS_WORD: usize = 0;
+
+pub const USED_WORD: usize = 1;
+
+pub const GATES_WORD: usize = 2;
+
+pub const NEXT_WORD: usize = 3;
+
+pub const HIGHEST_WORD: usize = 4;
+
+pub const QUBITS_WORD: usize = 5;
+
+pub const STATE_LENGTH: usize = 6;
+
+// What an ancilla keeps of the call that took it, in words: the procedure and the length of its list, then the list.
 pub const SLOT_LENGTH: usize = 2;
 
 // The slots of all wires.
 pub const SLOTS_LENGTH: usize = SLOT_LENGTH * WIRE_COUNT;
-
-// The calls of a body are counted in 16 bits, and no further.
-pub const MOST_CALLS: u16 = 65535;
 
 // No listing has more bytes than this for each byte of its circuit, so a text of MOST_LISTING bytes is long enough for every listing.
 pub const LISTING_FACTOR: usize = 6;
@@ -236,15 +255,28 @@ fn numbers() -> [u8; 18]
 }
 
 // Each size is the one that follows from the definitions' limits.
-fn sizes() -> [usize; 13]
+fn sizes() -> [usize; 11]
     ensures {
-        λ r. ⌜ r ≡ bodyCount ∷ matrixLength ∷ lengthCount ∷ rowCount ∷ placeCount ∷ mostControls ∷ setLength ∷ slotLength ∷ slotsLength ∷ mostCalls ∷
-            lookupLength ∷ mostCount ∷ swapLength ∷ [] ⌝
+        λ r. ⌜ r ≡ bodyCount ∷ matrixLength ∷ lengthCount ∷ rowCount ∷ placeCount ∷ setLength ∷ slotLength ∷ slotsLength ∷ lookupLength ∷ mostCount ∷
+            swapLength ∷ [] ⌝
     }
 {
     [
-        BODY_COUNT, MATRIX_LENGTH, LENGTH_COUNT, ROW_COUNT, PLACE_COUNT, CONTROLS_LENGTH, SET_LENGTH, SLOT_LENGTH, SLOTS_LENGTH, MOST_CALLS as usize,
-        LOOKUP_LENGTH, MOST_COUNT as usize, SWAP_LENGTH,
+        BODY_COUNT, MATRIX_LENGTH, LENGTH_COUNT, ROW_COUNT, PLACE_COUNT, SET_LENGTH, SLOT_LENGTH, SLOTS_LENGTH, LOOKUP_LENGTH, MOST_COUNT as usize,
+        SWAP_LENGTH,
+    ]
+}
+
+// Each place in the words of an emission is the definition's.
+fn emission_places() -> [usize; 12]
+    ensures {
+        λ r. ⌜ r ≡ onesWord ∷ zerosWord ∷ highWord ∷ listWord ∷ siteLength ∷ statusWord ∷ usedWord ∷ gatesWord ∷ nextWord ∷ highestWord ∷ qubitsWord ∷
+            stateLength ∷ [] ⌝
+    }
+{
+    [
+        ONES_WORD, ZEROS_WORD, HIGH_WORD, LIST_WORD, SITE_LENGTH, STATUS_WORD, USED_WORD, GATES_WORD, NEXT_WORD, HIGHEST_WORD, QUBITS_WORD,
+        STATE_LENGTH,
     ]
 }
 

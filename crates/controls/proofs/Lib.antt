@@ -1,0 +1,2 @@
+pub mod ControlSets
+pub mod ControlBytes
