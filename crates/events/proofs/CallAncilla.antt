@@ -1,7 +1,7 @@
 -- The ways out of `invoke`, `flip_again` and `finish`.
 use mathlib.Core.Path.{_≡_, refl, sym, ap, _∙_}
 use mathlib.Core.List.{List, [], _∷_}
-use Prim.Native.Nat.{ℕ, _+_, _≤_, _<_}
+use Prim.Native.Nat.{ℕ, _+_, _-_, _≤_, _<_}
 use native.Mathlib.Nat.{le-refl}
 use native.Mathlib.Omega.{arith}
 use borrow.Author.Needs.{needs}
@@ -19,13 +19,12 @@ use Rattle.model.proofs.BooleanLaws.{byBool, byLt, byEq, not-zero}
 use Rattle.sets.specs.Sets.{membersOf}
 use Rattle.sets.proofs.Members.{members-empty}
 use Rattle.sets.proofs.Readings.{members-split}
-use Rattle.events.specs.declared.Emit.{Emit}
-use Rattle.events.specs.Scan.{Progress, progress, emitOf, roomOf, stopped, taken, freed, scan, wireOf, slotOf, heldIn}
+use Rattle.events.specs.Scan.{Emit, Progress, progress, emitOf, roomOf, stopped, taken, freed, scan, wireOf, slotOf, heldIn}
 use Rattle.events.specs.Slots.{filled, ancillaTaken, returned}
 use Rattle.events.specs.FollowedEvents.{Opens, Invokes, fills-slot}
 use Rattle.events.proofs.ScanOfEvents.{scan-stopped, scan-takes, scan-no-wire, scan-frees}
 use Rattle.events.proofs.EntryGates.{scan-nothing, scan-first}
-use Rattle.events.proofs.ConsecutiveWalks.{follows-none, follows-stopped, gates-next, filled-length, filled-before, filled-is}
+use Rattle.events.proofs.ConsecutiveWalks.{follows-none, follows-stopped, gates-next, filled-length, filled-before, filled-is, filled-tallied}
 
 -- the ways out of `finish`
 returned-scan : (a : ℕ) (st : Emit) (room : List ℕ) → progress (returned a st) room ≡ scan (frees a ∷ []) (progress st room)
@@ -51,15 +50,28 @@ one-return : (cs : Controls) (a q : ℕ) (l : List ℕ) (x y : Progress) → y �
 unfolding returns
 one-return cs a q l x y p = p
 
-module _ (w : ℕ) (cs : Controls) (a : ℕ) (x : Progress) where
-  pub again-none : w ≡ 0 → x ≡ scan (returns (membersOf w) cs (wireOf a)) x
-  again-none e = rw (e, members-empty) (no-return cs (wireOf a) x)
+module _ (w : ℕ) (cs : Controls) (behind : ℕ) where
+  pub again-none : w ≡ 0 → behind ≡ behind - length (invoked 0 (membersOf w) 0)
+  unfolding invoked
+  again-none e = rw (e, members-empty) (omega arith)
 
-  pub again-some : (t : ℕ) (y : Progress) → Fits w64 w → (w ≡ 0 → ⊥) → t ≡ wireOf a → y ≡ scan (places (flip cs t) ∷ []) x →
-      y ≡ scan (returns (membersOf w) cs (wireOf a)) x
-  again-some t y f h e p = rw (members-split w f h) (one-return cs (wireOf a) (entry (membersOf w) 1) (drop 1 (membersOf w)) x y (rw e at p))
+  pub again-some : (a : ℕ) → Fits w64 w → (w ≡ 0 → ⊥) → a ≡ behind - 1 → a ≡ behind - length (invoked 0 (membersOf w) 0)
+  unfolding invoked
+  again-some a f h e = rw (members-split w f h, e)
 
-pub ruleset finishing = (needs, finished, again-none, again-some)
+  module _ (a : ℕ) (x : Progress) where
+    pub flip-none : w ≡ 0 → x ≡ scan (returns (membersOf w) cs (wireOf a)) x
+    flip-none e = rw (e, members-empty) (no-return cs (wireOf a) x)
+
+    pub flip-some : (t : ℕ) (y : Progress) → Fits w64 w → (w ≡ 0 → ⊥) → t ≡ wireOf a → y ≡ scan (places (flip cs t) ∷ []) x →
+        y ≡ scan (returns (membersOf w) cs (wireOf a)) x
+    flip-some t y f h e p = rw (members-split w f h) (one-return cs (wireOf a) (entry (membersOf w) 1) (drop 1 (membersOf w)) x y (rw e at p))
+
+-- the ways out of `before`
+pub before-none : (a : ℕ) → a ≡ 0 → 0 ≡ a - 1
+before-none a e = omega arith
+
+pub ruleset finishing = (needs, finished, again-none, again-some, flip-none, flip-some, before-none)
 
 -- the ways out of `invoke`
 progress-emit : {a b : Emit} {x y : List ℕ} → progress a x ≡ progress b y → a ≡ b
@@ -95,7 +107,7 @@ module _ (f : ℕ) (cs : Controls) (st : Emit) (room slots : List ℕ) where
       rw (progress-emit still, progress-list still, progress-list e) (record {
         follows = record {
           scanned = sym (scan-no-wire _ st room ok (st .next) h);
-          long = refl; rises = le-refl (st .next); low = λ k. k; kept = λ i k. refl };
+          long = refl; rises = le-refl (st .next); low = λ k. k; kept = λ i k. refl; tallied = λ T. T };
         held = λ z. absurd (not-zero 21 z) })
 
     invoked-now : (a r : Emit) (room₁ slots₁ : List ℕ) → st .status ≡ 0 → st .next ≤ mostWires →
@@ -113,7 +125,8 @@ module _ (f : ℕ) (cs : Controls) (st : Emit) (room slots : List ℕ) where
           scanned = placed-then ∙ sym (scan-takes (places (flip cs n) ∷ []) st room ok n h);
           long = filled-length slots n f w;
           rises = omega arith; low = λ k. omega arith;
-          kept = λ i k. filled-before slots n f w i k };
+          kept = λ i k. filled-before slots n f w i k;
+          tallied = filled-tallied slots n f w space h byte };
         held = λ z. one-held (filled slots n f w) n (invocation f (q ∷ l) n)
           (filled-is slots n f w space h byte ∙ ap (λ (m : List ℕ). invocation f m n) is) })
 
@@ -127,11 +140,11 @@ module _ (f : ℕ) (cs : Controls) (st : Emit) (room slots : List ℕ) where
         (λ le. invoked-now a r room₁ slots₁ ok le (rw (eq-eqb (st .status) 0 ok, le-ltb mostWires (st .next) le) at e) p))
       (λ h. refused-before a r room₁ slots₁ h (rw (ne-eqb (st .status) 0 h) at e) p)
 
-  pub invoke-some : (w t : ℕ) (a r : Emit) (room₁ slots₁ : List ℕ) → Fits w64 w → Fits w8 f → (w ≡ 0 → ⊥) → t ≡ wireOf (st .next) →
+  pub invoke-some : (w n t : ℕ) (a r : Emit) (room₁ slots₁ : List ℕ) → Fits w64 w → Fits w8 f → (w ≡ 0 → ⊥) → n ≡ st .next → t ≡ wireOf n →
       progress a slots₁ ≡ ancillaTaken f w st slots → progress r room₁ ≡ scan (places (flip cs t) ∷ []) (progress a room) →
       Invokes f (membersOf w) cs st room slots r room₁ slots₁
-  invoke-some w t a r room₁ slots₁ fits byte h v e p =
+  invoke-some w n t a r room₁ slots₁ fits byte h is v e p =
     let split = members-split w fits h in
-    fills-slot (λ space. rw split (invoked-slot w (entry (membersOf w) 1) (drop 1 (membersOf w)) split byte space a r room₁ slots₁ e (rw v at p)))
+    fills-slot (λ space. rw split (invoked-slot w (entry (membersOf w) 1) (drop 1 (membersOf w)) split byte space a r room₁ slots₁ e (rw (v, is) at p)))
 
 pub ruleset invoking = (needs, invoke-none, invoke-some)

@@ -1,7 +1,8 @@
 -- Walks one after the other, and the slots that they leave as they are.
 use mathlib.Core.Path.{_≡_, refl, sym, ap, _∙_, subst}
+use mathlib.Core.Logic.{_≢_}
 use mathlib.Core.List.{List, [], _∷_, _++_}
-use Prim.Native.Nat.{ℕ, zero, suc, _+_, _*_, _≤_, _<_}
+use Prim.Native.Nat.{ℕ, zero, suc, _+_, _*_, _/_, _%_, _≤_, _<_}
 use native.Mathlib.Nat.{le-refl}
 use native.Mathlib.Omega.{arith}
 use borrow.Author.Tests.{eqb-true, le-ltb, ne-eqb}
@@ -18,9 +19,9 @@ use Rattle.model.specs.Answers.{usable}
 use Rattle.model.proofs.BooleanLaws.{byBool, byLt, byEq}
 use Rattle.agreement.proofs.AncillaStack.{OnlyGates}
 use Rattle.sets.specs.Sets.{membersOf}
-use Rattle.events.specs.declared.Emit.{Emit}
-use Rattle.events.specs.Scan.{
-  Progress, progress, emitOf, placed, scan, slotAt, slotProcedure, slotList, slotOf, heldIn,
+use Rattle.sets.proofs.Members.{members-length}
+use Rattle.events.specs.Scan.{Emit, 
+  Progress, progress, emitOf, placed, scan, slotAt, slotProcedure, slotList, slotOf, Tallied, heldIn,
 }
 use Rattle.events.specs.Slots.{filled, pairAt, appears}
 use Rattle.events.specs.FollowedEvents.{Follows}
@@ -45,19 +46,19 @@ gates-next (frees a ∷ es) st room x = absurd x
 -- nothing happens
 pub follows-none : (st : Emit) (room slots : List ℕ) → Follows [] st room slots st room slots
 follows-none st room slots = record {
-    scanned = scan-nothing (progress st room); long = refl; rises = le-refl (st .next); low = λ h. h; kept = λ i h. refl }
+    scanned = scan-nothing (progress st room); long = refl; rises = le-refl (st .next); low = λ h. h; kept = λ i h. refl; tallied = λ T. T }
 
 -- a refusal absorbs what follows
 pub follows-stopped : (es : List Event) (st : Emit) (room slots : List ℕ) → (st .status ≡ 0 → ⊥) → Follows es st room slots st room slots
 follows-stopped es st room slots f = record {
-    scanned = gate-stopped es st room f; long = refl; rises = le-refl (st .next); low = λ h. h; kept = λ i h. refl }
+    scanned = gate-stopped es st room f; long = refl; rises = le-refl (st .next); low = λ h. h; kept = λ i h. refl; tallied = λ T. T }
 
 -- gates in the room
 pub follows-gates : (es : List Event) (st : Emit) (room slots : List ℕ) (r : Emit) (room₁ : List ℕ) → OnlyGates es →
     progress r room₁ ≡ scan es (progress st room) → Follows es st room slots r room₁ slots
 follows-gates es st room slots r room₁ x e =
     let n : r .next ≡ st .next = ap (λ (s : Progress). emitOf s .next) e ∙ gates-next es st room x in
-    record { scanned = e; long = refl; rises = omega arith; low = λ h. omega arith; kept = λ i h. refl }
+    record { scanned = e; long = refl; rises = omega arith; low = λ h. omega arith; kept = λ i h. refl; tallied = λ T. T }
 
 module _ {st : Emit} {room slots : List ℕ} {a : Emit} {room₁ slots₁ : List ℕ} where
   -- the next wire behind events that are not refused
@@ -72,7 +73,7 @@ module _ {st : Emit} {room slots : List ℕ} {a : Emit} {room₁ slots₁ : List
     (λ z. subst (λ (v : List Event). Follows v st room slots a room₁ slots₁) (f z) F)
     (λ z. record {
       scanned = F .scanned ∙ scan-stopped es st room (ne-eqb (st .status) 0 z) ∙ sym (scan-stopped es₁ st room (ne-eqb (st .status) 0 z));
-      long = F .long; rises = F .rises; low = F .low; kept = F .kept })
+      long = F .long; rises = F .rises; low = F .low; kept = F .kept; tallied = F .tallied })
 
   pub follows-as : {es es₁ : List Event} → es ≡ es₁ → Follows es st room slots a room₁ slots₁ → Follows es₁ st room slots a room₁ slots₁
   follows-as e F = subst (λ (v : List Event). Follows v st room slots a room₁ slots₁) e F
@@ -86,7 +87,8 @@ module _ {st : Emit} {room slots : List ℕ} {a : Emit} {room₁ slots₁ : List
       long = G .long ∙ F .long;
       rises = omega arith;
       low = λ h. G .low (F .low h);
-      kept = λ i h. G .kept i (omega arith) ∙ F .kept i h }
+      kept = λ i h. G .kept i (omega arith) ∙ F .kept i h;
+      tallied = λ T. G .tallied (F .tallied T) }
 
 -- slots below a wire that nothing changes
 module _ (slots slots₁ : List ℕ) (top : ℕ) (same : (i : ℕ) → i < slotAt top → getD slots₁ i 0 ≡ getD slots i 0) where
@@ -103,7 +105,7 @@ module _ (slots slots₁ : List ℕ) (top : ℕ) (same : (i : ℕ) → i < slotA
   unfolding appears pairAt
   appears-kept a zero f m h = refl
   appears-kept a (suc n) f m h =
-    rw (same (slotLength * a) (omega arith), same (slotLength * a + 1) (omega arith), appears-kept (a + 1) n f m (omega arith))
+    rw (same (slotLength * a) (omega arith), appears-kept (a + 1) n f m (omega arith))
 
 pub held-append : (slots : List ℕ) (a m n : ℕ) → heldIn slots a (m + n) ≡ heldIn slots a m ++ heldIn slots (a + m) n
 unfolding heldIn
@@ -114,23 +116,31 @@ held-append slots a (suc m) n =
     rw (e, z) (ap (λ l. slotOf slots a ∷ l) (held-append slots (a + 1) m n))
 
 -- a slot that was filled, and all before it
-pub filled-length : (slots : List ℕ) (a f w : ℕ) → length (filled slots a f w) ≡ length slots
-filled-length slots a f w = length-set (set slots (slotAt a) f) (slotAt a + 1) w ∙ length-set slots (slotAt a) f
+module _ (slots : List ℕ) (a f w : ℕ) where
+  abbrev word : ℕ
+  word = f + 256 * length (membersOf w)
 
-pub filled-before : (slots : List ℕ) (a f w j : ℕ) → j < slotAt a → getD (filled slots a f w) j 0 ≡ getD slots j 0
-filled-before slots a f w j h =
-    getD-set-other (set slots (slotAt a) f) (slotAt a + 1) j w 0 (omega arith) ∙ getD-set-other slots (slotAt a) j f 0 (omega arith)
+  pub filled-length : length (filled slots a f w) ≡ length slots
+  filled-length = length-set (set slots (slotAt a) word) (slotAt a + 1) w ∙ length-set slots (slotAt a) word
 
-module _ (slots : List ℕ) (a f w : ℕ) (space : slotsLength ≤ length slots) (low : a ≤ mostWires) (byte : Fits w8 f) where
-  filled-procedure : slotProcedure (filled slots a f w) a ≡ f
-  filled-procedure =
-    let e : getD (filled slots a f w) (slotAt a) 0 ≡ f =
-          getD-set-other (set slots (slotAt a) f) (slotAt a + 1) (slotAt a) w 0 (omega arith) ∙ getD-set-same slots (slotAt a) f 0 (omega arith) in
-    rw e (omega (arith, byte .fits))
+  pub filled-before : (j : ℕ) → j < slotAt a → getD (filled slots a f w) j 0 ≡ getD slots j 0
+  filled-before j h = getD-set-other (set slots (slotAt a) word) (slotAt a + 1) j w 0 (omega arith) ∙ getD-set-other slots (slotAt a) j word 0 (omega arith)
 
-  filled-list : slotList (filled slots a f w) a ≡ membersOf w
-  filled-list = ap membersOf (getD-set-same (set slots (slotAt a) f) (slotAt a + 1) w 0 (omega (arith, length-set slots (slotAt a) f)))
+  module _ (space : slotsLength ≤ length slots) (low : a ≤ mostWires) (byte : Fits w8 f) where
+    filled-word : getD (filled slots a f w) (slotAt a) 0 ≡ word
+    filled-word = getD-set-other (set slots (slotAt a) word) (slotAt a + 1) (slotAt a) w 0 (omega arith) ∙ getD-set-same slots (slotAt a) word 0 (omega arith)
 
-  pub filled-is : slotOf (filled slots a f w) a ≡ invocation f (membersOf w) a
-  unfolding slotOf
-  filled-is = rw (filled-procedure, filled-list, le-ltb mostWires a low)
+    filled-list : slotList (filled slots a f w) a ≡ membersOf w
+    filled-list = ap membersOf (getD-set-same (set slots (slotAt a) word) (slotAt a + 1) w 0 (omega (arith, length-set slots (slotAt a) word)))
+
+    pub filled-is : slotOf (filled slots a f w) a ≡ invocation f (membersOf w) a
+    unfolding slotOf
+    filled-is = let e : word % 256 ≡ f = omega (arith, byte .fits) in rw (filled-word, e, filled-list, le-ltb mostWires a low)
+
+    pub filled-tallied : Tallied slots → Tallied (filled slots a f w)
+    filled-tallied T b = byEq b a
+      (λ e. let n : word / 256 % 256 ≡ length (membersOf w) = omega (arith, byte .fits, members-length w) in rw (e, filled-word, filled-list, n))
+      (λ ne. rw (other b (slotAt b) (omega arith) (omega arith), other b (slotAt b + 1) (omega arith) (omega arith)) (T b))
+      where
+        other : (b j : ℕ) → j ≢ slotAt a → j ≢ slotAt a + 1 → getD (filled slots a f w) j 0 ≡ getD slots j 0
+        other b j x y = getD-set-other (set slots (slotAt a) word) (slotAt a + 1) j w 0 y ∙ getD-set-other slots (slotAt a) j word 0 x

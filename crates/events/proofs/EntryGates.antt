@@ -1,22 +1,24 @@
 -- The ways out of the functions that emit entry gates, in order or reversed.
-use mathlib.Core.Path.{_≡_, refl, sym, _∙_}
+use mathlib.Core.Path.{_≡_, refl, sym, ap, _∙_}
 use mathlib.Core.Bool.{Bool, true, false}
 use mathlib.Core.List.{List, [], _∷_, _++_, reverse, reverse-cons, reverse-append}
-use Prim.Native.Nat.{ℕ, suc, _+_, _-_, _≤_, _<_}
+use Prim.Native.Nat.{ℕ, zero, suc, _+_, _-_, _≤_, _<_}
 use native.Mathlib.Numerals.{add-one}
+use native.Mathlib.Nat.{le-refl, zero-add}
 use native.Mathlib.Omega.{arith}
 use borrow.Author.Needs.{needs}
 use borrow.Author.Tests.{eq-eqb, ne-eqb}
 use lib.ListN.{length, getD, drop, drop-of-length-le}
-use Rattle.model.specs.Gates.{Controls, flip, swapOf}
+use Rattle.model.specs.Gates.{flip, swapOf}
 use Rattle.model.specs.Emission.{Event, places, under, swaps, entryGates, samePair, allEntryGates}
 use Rattle.model.proofs.BooleanLaws.{byBool}
+use Rattle.controls.specs.ControlWords.{controlsFrom, At}
+use Rattle.sets.specs.Sets.{membersOf}
 use Rattle.lookup.specs.declared.Plan.{Plan}
 use Rattle.lookup.specs.Plans.{pairsOf, swapsAlong, PlansSwaps, same-swaps}
 use Rattle.lookup.proofs.PlannedSwaps.{pairs-most, pair-at}
-use Rattle.events.specs.declared.Emit.{Emit}
-use Rattle.events.specs.Scan.{Progress, progress, scan, slotListLength, slotProcedure, slotList, wireOf, slotOf, heldIn}
-use Rattle.events.specs.Slots.{pairAt, turned, entryAt}
+use Rattle.events.specs.Scan.{Emit, Progress, progress, scan, slotListLength, slotProcedure, slotList, wireOf, slotOf, Tallied, heldIn}
+use Rattle.events.specs.Slots.{pairAt, turned, entryAt, entriesTo, swapsIn}
 use Rattle.events.proofs.ScanOfEvents.{scan-append}
 use Rattle.events.proofs.GatesAndSlots.{further, spent}
 
@@ -36,71 +38,96 @@ nothing-turned : (reversed : Bool) (x : Progress) → x ≡ scan (turned reverse
 nothing-turned true x = scan-nothing x
 nothing-turned false x = scan-nothing x
 
--- the swaps of a plan from a place on: the first of them, and the others
-from-place : (e i f t : ℕ) (r : Plan) → i < length (pairsOf r) → f ≡ getD (r .from) i 0 → t ≡ getD (r .to) i 0 →
-    swapsAlong e (drop i (pairsOf r)) ≡ places (swapOf (under e) f t) ∷ swapsAlong e (drop (suc i) (pairsOf r))
-unfolding swapsAlong
-from-place e i f t r h is-f is-t = rw (pair-at r i h, is-f, is-t)
-
-past-end : (e i : ℕ) (r : Plan) → length (pairsOf r) ≤ i → swapsAlong e (drop i (pairsOf r)) ≡ []
-unfolding swapsAlong
-past-end e i r h = rw (drop-of-length-le (pairsOf r) h)
+-- the swaps of two arrays from a place on: those of a plan, as many as it has
+swaps-along : (e : ℕ) (r : Plan) (i n : ℕ) → i + n ≡ length (pairsOf r) → swapsIn e (r .from) (r .to) i n ≡ swapsAlong e (drop i (pairsOf r))
+unfolding swapsIn swapsAlong
+swaps-along e r i zero h = let le : length (pairsOf r) ≤ i = omega arith in rw (drop-of-length-le (pairsOf r) le)
+swaps-along e r i (suc n) h =
+    rw (pair-at r i (omega arith)) (ap (_∷_ (places (swapOf (under e) (getD (r .from) i 0) (getD (r .to) i 0))))
+      (ap (λ (k : ℕ). swapsIn e (r .from) (r .to) k n) (add-one i) ∙ swaps-along e r (suc i) n (omega arith)))
 
 -- `emit_forth` so far: the swaps from i on make of it what all of them make
-pub data Forth (e : ℕ) (r : Plan) (x y : Progress) (i : ℕ) : Type 0 where
-  still : scan (swapsAlong e (drop i (pairsOf r))) y ≡ scan (swapsAlong e (pairsOf r)) x → Forth e r x y i
+pub data Forth (e : ℕ) (from to : List ℕ) (n : ℕ) (x y : Progress) (i : ℕ) : Type 0 where
+  still : scan (swapsIn e from to i (n - i)) y ≡ scan (swapsIn e from to 0 n) x → Forth e from to n x y i
 
 -- `emit_back` so far: the swaps from i on are placed, in reverse
-pub data Back (e : ℕ) (r : Plan) (x y : Progress) (i : ℕ) : Type 0 where
-  behind : y ≡ scan (reverse (swapsAlong e (drop i (pairsOf r)))) x → Back e r x y i
+pub data Back (e : ℕ) (from to : List ℕ) (n : ℕ) (x y : Progress) (i : ℕ) : Type 0 where
+  behind : y ≡ scan (reverse (swapsIn e from to i (n - i))) x → Back e from to n x y i
 
-module _ (e : ℕ) (r : Plan) (x : Progress) where
-  pub forth-starts : Forth e r x x 0
-  forth-starts = still refl
+module _ (e : ℕ) (from to : List ℕ) (n : ℕ) (x : Progress) where
+  one-swap : (i : ℕ) → i < n → swapsIn e from to i (n - i) ≡ places (swapOf (under e) (getD from i 0) (getD to i 0)) ∷ swapsIn e from to (i + 1) (n - (i + 1))
+  unfolding swapsIn
+  one-swap i h = rw (further n i h)
 
-  pub back-starts : (i : ℕ) → i ≡ length (pairsOf r) → Back e r x x i
-  back-starts i is = behind (rw (past-end e i r (omega arith)) (scan-nothing x))
+  no-swap : (i : ℕ) → n ≤ i → swapsIn e from to i (n - i) ≡ []
+  unfolding swapsIn
+  no-swap i h = rw (spent n i h)
 
-  module _ (y z : Progress) (i f t n : ℕ) (is-f : f ≡ getD (r .from) i 0) (is-t : t ≡ getD (r .to) i 0) (is-n : n ≡ length (pairsOf r))
-      (put : z ≡ scan (places (swapOf (under e) f t) ∷ []) y) (low : i < n) where
-    pub forth-next : Forth e r x y i → Forth e r x z (i + 1)
-    forth-next (still p) = still (rw (put, add-one i)
-      (sym (scan-append (places (swapOf (under e) f t) ∷ []) (swapsAlong e (drop (suc i) (pairsOf r))) y)
-        ∙ rw (← from-place e i f t r (omega arith) is-f is-t) p))
+  pub forth-starts : Forth e from to n x x 0
+  forth-starts = let z : n - 0 ≡ n = omega arith in still (rw z)
 
-    pub back-next : Back e r x y (i + 1) → Back e r x z i
-    back-next (behind p) = behind (rw (from-place e i f t r (omega arith) is-f is-t)
-      (scan-last (places (swapOf (under e) f t)) (swapsAlong e (drop (suc i) (pairsOf r))) x y z (rw (add-one i) at p) put))
+  pub back-starts : Back e from to n x x n
+  back-starts = behind (rw (no-swap n (le-refl n)) (scan-nothing x))
 
-  pub forth-ends : (y : Progress) (i n : ℕ) → n ≡ length (pairsOf r) → n ≤ i → Forth e r x y i → y ≡ scan (swapsAlong e (pairsOf r)) x
-  forth-ends y i n is h (still p) = scan-nothing y ∙ (rw (past-end e i r (omega arith)) at p)
+  module _ (y z : Progress) (i : ℕ) (put : z ≡ scan (places (swapOf (under e) (getD from i 0) (getD to i 0)) ∷ []) y) (low : i < n) where
+    pub forth-next : Forth e from to n x y i → Forth e from to n x z (i + 1)
+    forth-next (still p) = still (rw put
+      (sym (scan-append (places (swapOf (under e) (getD from i 0) (getD to i 0)) ∷ []) (swapsIn e from to (i + 1) (n - (i + 1))) y)
+        ∙ sym (ap (λ es. scan es y) (one-swap i low)) ∙ p))
 
-  pub back-ends : (y : Progress) (i : ℕ) → i ≤ 0 → Back e r x y i → y ≡ scan (reverse (swapsAlong e (pairsOf r))) x
-  back-ends y i h (behind p) = let z : i ≡ 0 = omega arith in rw z at p
+    pub back-next : Back e from to n x y (i + 1) → Back e from to n x z i
+    back-next (behind p) = behind (rw (one-swap i low)
+      (scan-last (places (swapOf (under e) (getD from i 0) (getD to i 0))) (swapsIn e from to (i + 1) (n - (i + 1))) x y z p put))
 
-pub ruleset following = (needs, pairs-most, forth-starts, forth-next, forth-ends, back-starts, back-next, back-ends)
+  pub forth-ends : (y : Progress) (i : ℕ) → n ≤ i → Forth e from to n x y i → y ≡ scan (swapsIn e from to 0 n) x
+  forth-ends y i h (still p) = scan-nothing y ∙ (rw (no-swap i h) at p)
+
+  pub back-ends : (y : Progress) (i : ℕ) → i ≤ 0 → Back e from to n x y i → y ≡ scan (reverse (swapsIn e from to 0 n)) x
+  back-ends y i h (behind p) = let z : i ≡ 0 = omega arith in let s : n - 0 ≡ n = omega arith in rw (z, s) at p
+
+pub ruleset following = (needs, forth-starts, forth-next, forth-ends, back-starts, back-next, back-ends)
 
 -- the ways out of `emit_gates`
+-- a list has no swaps onto itself
+swaps-same : (e : ℕ) (l : List ℕ) → swaps e l l ≡ []
+unfolding swaps
+swaps-same e [] = refl
+swaps-same e (x ∷ l) = rw (eq-eqb x x refl, swaps) (swaps-same e l)
+
+one-turned : (g : Event) (reversed : Bool) (x y : Progress) → y ≡ scan (g ∷ []) x → y ≡ scan (turned reversed (g ∷ [])) x
+one-turned g true x y p = p
+one-turned g false x y p = p
+
+pub gates-same : (slots : List ℕ) (d e : ℕ) (reversed : Bool) (st : Emit) (room : List ℕ) (f l u v : ℕ) (site none : List ℕ) (y : Progress) →
+    membersOf f ≡ slotList slots d → membersOf l ≡ slotList slots e → u ≡ wireOf e → At site none (under u) → v ≡ wireOf d → f ≡ l →
+    y ≡ scan (places (flip (controlsFrom site) v) ∷ []) (progress st room) →
+    y ≡ scan (turned reversed (entryGates (slotOf slots d) (slotOf slots e))) (progress st room)
+unfolding entryGates slotOf
+gates-same slots d e reversed st room f l u v site none y is-f is-l is-u is-site is-v same p =
+    let lists : slotList slots e ≡ slotList slots d = sym is-l ∙ ap membersOf (sym same) ∙ is-f in
+    rw (lists, swaps-same (wireOf e) (slotList slots d))
+      (one-turned (places (flip (under (wireOf e)) (wireOf d))) reversed (progress st room) y (rw (is-site .controls, is-u, is-v) at p))
+
 planned-are : (F L : List ℕ) (r : Plan) (e : ℕ) → PlansSwaps F L r → swapsAlong e (pairsOf r) ≡ swaps e F L
 planned-are F L r e (same-swaps s) = s e
 
-module _ (slots : List ℕ) (d e : ℕ) (reversed : Bool) (st : Emit) (room F L : List ℕ) (r : Plan) (u v : ℕ) (cs : Controls)
-    (is-f : F ≡ slotList slots d) (is-l : L ≡ slotList slots e) (P : PlansSwaps F L r) (is-u : u ≡ wireOf e) (is-cs : cs ≡ under u) (is-v : v ≡ wireOf d) where
-  pub gates-reversed : (y z : Progress) → reversed ≡ true → y ≡ scan (reverse (swapsAlong u (pairsOf r))) (progress st room) →
-      z ≡ scan (places (flip cs v) ∷ []) y →
+module _ (slots : List ℕ) (d e : ℕ) (reversed : Bool) (st : Emit) (room F L : List ℕ) (r : Plan) (u v : ℕ) (site none : List ℕ)
+    (n : ℕ) (is-n : n ≡ length (pairsOf r)) (is-f : F ≡ slotList slots d) (is-l : L ≡ slotList slots e) (P : PlansSwaps F L r) (is-u : u ≡ wireOf e) (is-site : At site none (under u)) (is-v : v ≡ wireOf d) where
+  pub gates-reversed : (y z : Progress) → reversed ≡ true → y ≡ scan (reverse (swapsIn u (r .from) (r .to) 0 n)) (progress st room) →
+      z ≡ scan (places (flip (controlsFrom site) v) ∷ []) y →
       z ≡ scan (turned reversed (entryGates (slotOf slots d) (slotOf slots e))) (progress st room)
   unfolding entryGates slotOf
   gates-reversed y z b p q =
     rw b (scan-last (places (flip (under (wireOf e)) (wireOf d))) (swaps (wireOf e) (slotList slots d) (slotList slots e)) (progress st room) y z
-      (rw (planned-are F L r u P, is-u, is-f, is-l) at p) (rw (is-cs, is-u, is-v) at q))
+      (rw (swaps-along u r 0 n (zero-add n ∙ is-n), planned-are F L r u P, is-u, is-f, is-l) at p) (rw (is-site .controls, is-u, is-v) at q))
 
-  pub gates-forth : (y z : Progress) → reversed ≡ false → y ≡ scan (places (flip cs v) ∷ []) (progress st room) →
-      z ≡ scan (swapsAlong u (pairsOf r)) y →
+  pub gates-forth : (y z : Progress) → reversed ≡ false → y ≡ scan (places (flip (controlsFrom site) v) ∷ []) (progress st room) →
+      z ≡ scan (swapsIn u (r .from) (r .to) 0 n) y →
       z ≡ scan (turned reversed (entryGates (slotOf slots d) (slotOf slots e))) (progress st room)
   unfolding entryGates slotOf
   gates-forth y z b p q =
     rw b (scan-first (places (flip (under (wireOf e)) (wireOf d))) (swaps (wireOf e) (slotList slots d) (slotList slots e)) (progress st room) y z
-      (rw (is-cs, is-u, is-v) at p) (rw (planned-are F L r u P, is-u, is-f, is-l) at q))
+      (rw (is-site .controls, is-u, is-v) at p) (rw (swaps-along u r 0 n (zero-add n ∙ is-n), planned-are F L r u P, is-u, is-f, is-l) at q))
 
 -- the ways out of `emit_entry`
 module _ (slots : List ℕ) (d e : ℕ) (reversed : Bool) (st : Emit) (room : List ℕ) (fe fd : ℕ) (is-fe : fe ≡ slotProcedure slots e)
@@ -119,44 +146,62 @@ module _ (slots : List ℕ) (d e : ℕ) (reversed : Bool) (st : Emit) (room : Li
     unfolding entryAt pairAt
     entry-same y h p = rw (← is-fe, ← is-fd, eq-eqb fe fd same, ← is-me, ← is-md, eq-eqb me md h) p
 
-pub ruleset gating = (needs, gates-reversed, gates-forth, entry-other, entry-apart, entry-same)
+pub ruleset gating = (needs, pairs-most, gates-same, gates-reversed, gates-forth, entry-other, entry-apart, entry-same)
 
--- the ways out of `emit_entries`
-pair-is : (slots : List ℕ) (d e : ℕ) → samePair (slotOf slots d) (slotOf slots e) ≡ pairAt slots e (slotProcedure slots d) (slotListLength slots d)
-unfolding samePair slotOf pairAt
-pair-is slots d e = refl
+-- `emit_entries` so far: the gates from slot a on make of it what all of them make; `emit_entries_back`: those from slot a on are placed, in reverse
+pub data Entering (slots : List ℕ) (d e upto : ℕ) (x y : Progress) (a : ℕ) : Type 0 where
+  still : scan (entriesTo slots d a (upto - a)) y ≡ scan (entriesTo slots d e (upto - e)) x → Entering slots d e upto x y a
 
-entries-cons : (slots : List ℕ) (d e n : ℕ) →
-    allEntryGates (slotOf slots d) (heldIn slots e (suc n)) ≡ entryAt slots d e ++ allEntryGates (slotOf slots d) (heldIn slots (e + 1) n)
-unfolding heldIn allEntryGates entryAt
-entries-cons slots d e n = byBool (pairAt slots e (slotProcedure slots d) (slotListLength slots d))
-    (λ t. rw (t, pair-is slots d e ∙ t, allEntryGates))
-    (λ t. rw (t, pair-is slots d e ∙ t, allEntryGates))
+pub data Leaving (slots : List ℕ) (d upto : ℕ) (x y : Progress) (a : ℕ) : Type 0 where
+  behind : y ≡ scan (reverse (entriesTo slots d a (upto - a))) x → Leaving slots d upto x y a
 
-module _ (slots : List ℕ) (d e upto : ℕ) (reversed : Bool) (st : Emit) (room : List ℕ) where
-  none-held : upto ≤ e → allEntryGates (slotOf slots d) (heldIn slots e (upto - e)) ≡ []
-  unfolding allEntryGates heldIn
-  none-held h = rw (spent upto e h)
+module _ (slots : List ℕ) (d e upto : ℕ) (x : Progress) where
+  no-entries : (a : ℕ) → upto ≤ a → entriesTo slots d a (upto - a) ≡ []
+  unfolding entriesTo
+  no-entries a h = rw (spent upto a h)
 
-  pub entries-none : upto ≤ e → progress st room ≡ scan (turned reversed (allEntryGates (slotOf slots d) (heldIn slots e (upto - e)))) (progress st room)
-  entries-none h = rw (none-held h) (nothing-turned reversed (progress st room))
+  one-entry : (a : ℕ) → a < upto → entriesTo slots d a (upto - a) ≡ entryAt slots d a ++ entriesTo slots d (a + 1) (upto - (a + 1))
+  unfolding entriesTo
+  one-entry a h = rw (further upto a h)
 
-  pub entries-reversed : (x y : Progress) → e < upto → reversed ≡ true →
-      x ≡ scan (turned reversed (allEntryGates (slotOf slots d) (heldIn slots (e + 1) (upto - (e + 1))))) (progress st room) →
-      y ≡ scan (turned reversed (entryAt slots d e)) x →
-      y ≡ scan (turned reversed (allEntryGates (slotOf slots d) (heldIn slots e (upto - e)))) (progress st room)
-  entries-reversed x y h b p q =
-    let E = entryAt slots d e in
-    let R = allEntryGates (slotOf slots d) (heldIn slots (e + 1) (upto - (e + 1))) in
-    rw (further upto e h, entries-cons slots d e (upto - (e + 1)), b, reverse-append E R, scan-append (reverse R) (reverse E) (progress st room),
-      ← (rw b at p)) (rw b at q)
+  pub entering-starts : Entering slots d e upto x x e
+  entering-starts = still refl
 
-  pub entries-forth : (x y : Progress) → e < upto → reversed ≡ false → x ≡ scan (turned reversed (entryAt slots d e)) (progress st room) →
-      y ≡ scan (turned reversed (allEntryGates (slotOf slots d) (heldIn slots (e + 1) (upto - (e + 1))))) x →
-      y ≡ scan (turned reversed (allEntryGates (slotOf slots d) (heldIn slots e (upto - e)))) (progress st room)
-  entries-forth x y h b p q =
-    let E = entryAt slots d e in
-    let R = allEntryGates (slotOf slots d) (heldIn slots (e + 1) (upto - (e + 1))) in
-    rw (further upto e h, entries-cons slots d e (upto - (e + 1)), b, scan-append E R (progress st room), ← (rw b at p)) (rw b at q)
+  pub entering-next : (y z : Progress) (a : ℕ) → a < upto → z ≡ scan (turned false (entryAt slots d a)) y → Entering slots d e upto x y a →
+      Entering slots d e upto x z (a + 1)
+  entering-next y z a h put (still p) = still (rw put
+    (sym (scan-append (entryAt slots d a) (entriesTo slots d (a + 1) (upto - (a + 1))) y) ∙ sym (ap (λ es. scan es y) (one-entry a h)) ∙ p))
 
-pub ruleset entering = (needs, entries-none, entries-reversed, entries-forth)
+  pub entering-ends : (y : Progress) (a : ℕ) → upto ≤ a → Entering slots d e upto x y a → y ≡ scan (entriesTo slots d e (upto - e)) x
+  entering-ends y a h (still p) = scan-nothing y ∙ sym (ap (λ es. scan es y) (no-entries a h)) ∙ p
+
+  pub leaving-none : upto ≤ e → x ≡ scan (reverse (entriesTo slots d e (upto - e))) x
+  leaving-none h = scan-nothing x ∙ sym (ap (λ es. scan (reverse es) x) (no-entries e h))
+
+  pub leaving-starts : Leaving slots d upto x x upto
+  leaving-starts = behind (scan-nothing x ∙ sym (ap (λ es. scan (reverse es) x) (no-entries upto (le-refl upto))))
+
+  pub leaving-next : (y z : Progress) (a : ℕ) → a < upto → z ≡ scan (turned true (entryAt slots d a)) y → Leaving slots d upto x y (a + 1) →
+      Leaving slots d upto x z a
+  leaving-next y z a h put (behind p) =
+    let E = entryAt slots d a in
+    let R = entriesTo slots d (a + 1) (upto - (a + 1)) in
+    behind (rw (one-entry a h, reverse-append E R, scan-append (reverse R) (reverse E) x, ← p) put)
+
+  pub leaving-ends : (y : Progress) (a : ℕ) → a ≤ e → e ≤ a → Leaving slots d upto x y a → y ≡ scan (reverse (entriesTo slots d e (upto - e))) x
+  leaving-ends y a h l (behind p) = let z : a ≡ e = omega arith in rw z at p
+
+pub ruleset entering = (needs, entering-starts, entering-next, entering-ends, leaving-none, leaving-starts, leaving-next, leaving-ends)
+
+-- where each slot has the length of its list, they are the entry gates of the definitions
+module _ (slots : List ℕ) (T : Tallied slots) (d : ℕ) where
+  pair-is : (e : ℕ) → samePair (slotOf slots d) (slotOf slots e) ≡ pairAt slots e (slotProcedure slots d) (slotListLength slots d)
+  unfolding samePair slotOf pairAt
+  pair-is e = rw (T e, T d)
+
+  pub entries-are : (e n : ℕ) → entriesTo slots d e n ≡ allEntryGates (slotOf slots d) (heldIn slots e n)
+  unfolding heldIn allEntryGates entryAt entriesTo
+  entries-are e zero = refl
+  entries-are e (suc n) = byBool (pairAt slots e (slotProcedure slots d) (slotListLength slots d))
+    (λ t. rw (t, pair-is e ∙ t, allEntryGates) (ap (λ es. entryGates (slotOf slots d) (slotOf slots e) ++ es) (entries-are (e + 1) n)))
+    (λ t. rw (t, pair-is e ∙ t, allEntryGates) (entries-are (e + 1) n))

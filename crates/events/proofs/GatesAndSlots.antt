@@ -1,31 +1,31 @@
 -- The ways out of the functions that walk over no statement: gates placed, slots filled and read, the next body sought.
 use mathlib.Core.Path.{_≡_, refl, sym, ap, _∙_}
-use mathlib.Core.Bool.{Bool, true, false, not, _||_, or-false}
+use mathlib.Core.Bool.{Bool, true, false, not, cond, _||_, or-false}
 use mathlib.Core.List.{List, [], _∷_}
-use Prim.Native.Nat.{ℕ, zero, suc, _+_, _-_, _*_, _≤_, _<_, max}
+use Prim.Native.Nat.{ℕ, zero, suc, _+_, _-_, _*_, _/_, _%_, _^_, _≤_, _<_, max}
 use native.Mathlib.Numerals.{add-one}
 use native.Mathlib.Omega.{arith}
-use mir.Syntax.{w64}
+use mir.Syntax.{w8, w16, w64}
 use mir.Val.{Fits}
 use borrow.Author.Needs.{needs}
 use borrow.Author.Tests.{lt-ltb, le-ltb, le-leb, lt-leb, eq-eqb, ne-eqb, eqb-true, leb-true}
 use lib.ListN.{length, getD, set, drop, drop-of-length-le}
 use lib.Seq.{sets, drop-cons}
-use lib.Dec.{eqb, leb}
+use lib.Dec.{eqb, ltb, leb}
 use Rattle.limits.specs.Sizes.{slotLength, swapLength}
-use Rattle.model.specs.Limits.{mostWires, mostCircuit, manyWires, noRoom}
+use Rattle.model.specs.Limits.{mostWires, mostCircuit, manyWires, noRoom, headerLength}
 use Rattle.model.specs.Gates.{Controls, noControls, withControl, Gate, flip, swapOf}
 use Rattle.model.specs.Emission.{Event, places, under}
 use Rattle.model.specs.Circuit.{encode, controlBytes}
 use Rattle.model.specs.Answers.{usable}
-use Rattle.model.proofs.BooleanLaws.{byBool, byLt, and-left, and-right, not-not}
-use Rattle.circuit.specs.GatesToWrite.{insertWithin, withControlWithin}
-use Rattle.circuit.proofs.GateBytes.{sets-past, flip-long, swap-long}
+use Rattle.model.proofs.BooleanLaws.{byBool, byEq, byLt, and-left, and-right, not-not}
+use Rattle.circuit.proofs.GateBytes.{sets-past}
+use Rattle.controls.specs.ControlWords.{controlsOf, highIn, controlsFrom}
+use Rattle.controls.proofs.ControlBytes.{flip-long, swap-long}
 use Rattle.sets.specs.Sets.{membersOf}
 use Rattle.lookup.proofs.CountedEntries.{touching}
-use Rattle.events.specs.declared.Emit.{Emit}
-use Rattle.events.specs.Scan.{progress, stopped, freed, placed, withGate, afterEvent, scan, slotListLength, slotProcedure, slotList}
-use Rattle.events.specs.Slots.{filled, ancillaTaken, returned, pairAt, appears, opensAt, opensBehind, seekOf}
+use Rattle.events.specs.Scan.{Emit, emitIn, progress, stopped, freed, placed, withGate, afterEvent, scan, begun, slotListLength, slotProcedure, slotList}
+use Rattle.events.specs.Slots.{filled, ancillaTaken, returned, pairAt, appears, opensAt, opensBehind, seekOf, longestBelow}
 use Rattle.events.proofs.ScanOfEvents.{scan-stopped}
 
 pub ruleset reading = (needs, lt-ltb, le-ltb)
@@ -42,98 +42,128 @@ module _ (room used n most : ℕ) (is : most ≡ usable room) where
 
 pub ruleset rooms = (needs, room-short, room-left)
 
--- the ways out of `with_gate`
-module _ (room : ℕ) (st : Emit) (n : ℕ) where
-  pub gate-many : (r : Emit) → mostCircuit ≤ st .gates → r ≡ stopped st noRoom → r ≡ withGate room st n
-  unfolding withGate
-  gate-many r h e = rw (e, le-ltb (st .gates) mostCircuit h) (byBool (leb (st .used + n) (usable room)) (λ t. rw t) (λ t. rw t))
+-- the ways out of `stop` and `with_gate`
+module _ (words : List ℕ) where
+  pub stop-is : (k : ℕ) → Fits w8 k →
+      emitIn (k ∷ getD words 1 0 ∷ getD words 2 0 ∷ getD words 3 0 ∷ getD words 4 0 ∷ getD words 5 0 ∷ []) ≡ stopped (emitIn words) k
+  stop-is k byte = let same : k % 2 ^ 8 ≡ k = omega (arith, byte .fits) in rw same
 
-  module _ (b : Bool) (fits : b ≡ leb (st .used + n) (usable room)) where
-    pub sum-fits : b ≡ true → Fits w64 (st .used + n)
-    sum-fits e = let h = leb-true (st .used + n) (usable room) (sym fits ∙ e) in record { fits = omega arith }
-
-    pub gate-past : (r : Emit) → b ≡ false → r ≡ stopped st noRoom → r ≡ withGate room st n
+  module _ (room n g : ℕ) (is-g : g ≡ emitIn words .gates) where
+    pub gate-many : (r : Emit) → mostCircuit ≤ g → r ≡ stopped (emitIn words) noRoom → r ≡ withGate room (emitIn words) n
     unfolding withGate
-    gate-past r t e = rw (e, ← fits, t)
+    gate-many r h e = let k : mostCircuit ≤ emitIn words .gates = omega arith in
+      rw (e, le-ltb (emitIn words .gates) mostCircuit k) (byBool (leb (emitIn words .used + n) (usable room)) (λ t. rw t) (λ t. rw t))
 
-    pub gate-fits : b ≡ true → st .gates < mostCircuit → placed st n ≡ withGate room st n
-    unfolding withGate
-    gate-fits t h = rw (← fits, t, lt-ltb (st .gates) mostCircuit h)
+    module _ (u : ℕ) (is-u : u ≡ emitIn words .used) (b : Bool) (fits : b ≡ leb (u + n) (usable room)) where
+      pub sum-fits : b ≡ true → Fits w64 (u + n)
+      sum-fits e = let h = leb-true (u + n) (usable room) (sym fits ∙ e) in record { fits = omega arith }
 
-pub ruleset growing = (needs, gate-many, sum-fits, gate-past, gate-fits)
+      pub gate-past : (r : Emit) → b ≡ false → r ≡ stopped (emitIn words) noRoom → r ≡ withGate room (emitIn words) n
+      unfolding withGate
+      gate-past r t e = rw (e, ← is-u, ← fits, t)
+
+      pub gate-fits : b ≡ true → g < mostCircuit →
+          emitIn (0 ∷ (u + n) ∷ (g + 1) ∷ getD words 3 0 ∷ getD words 4 0 ∷ getD words 5 0 ∷ []) ≡ withGate room (emitIn words) n
+      unfolding withGate
+      gate-fits t h =
+        let few : emitIn words .gates < mostCircuit = omega arith in
+        let same : (g + 1) % 2 ^ 32 ≡ emitIn words .gates + 1 = omega arith in
+        rw (← is-u, ← fits, t, lt-ltb (emitIn words .gates) mostCircuit few, same)
+
+pub ruleset growing = (needs, stop-is, gate-many, sum-fits, gate-past, gate-fits)
 
 -- the ways out of `emit_flip` and `emit_swap`: a gate by its bytes
 pub gate-stopped : (es : List Event) (st : Emit) (room : List ℕ) → (st .status ≡ 0 → ⊥) → progress st room ≡ scan es (progress st room)
 gate-stopped es st room f = sym (scan-stopped es st room (ne-eqb (st .status) 0 f))
 
-module _ (g : Gate) (st : Emit) (room : List ℕ) (ok : st .status ≡ 0) (n : ℕ) (is : n ≡ length (encode g)) (r : Emit) (next : r ≡ withGate (length room) st n) where
-  gate-put : (after : List ℕ) → r .status ≡ 0 → after ≡ sets room (st .used) (encode g) → progress r after ≡ scan (places g ∷ []) (progress st room)
+pub gate-before : (es : List Event) (st : Emit) (room : List ℕ) (s : ℕ) → s ≡ st .status → (s ≡ 0 → ⊥) → progress st room ≡ scan es (progress st room)
+gate-before es st room s is f = gate-stopped es st room (λ e. f (is ∙ e))
+
+module _ (g : Gate) (st : Emit) (room : List ℕ) (s : ℕ) (is-s : s ≡ st .status) (ok : s ≡ 0) (n : ℕ) (is : n ≡ length (encode g)) (r : Emit)
+    (next : r ≡ withGate (length room) st n) (s₁ : ℕ) (is-s₁ : s₁ ≡ r .status) where
+  gate-put : (u : ℕ) (after : List ℕ) → u ≡ st .used → s₁ ≡ 0 → after ≡ sets room u (encode g) → progress r after ≡ scan (places g ∷ []) (progress st room)
   unfolding scan afterEvent
-  gate-put after e q = rw (eq-eqb (st .status) 0 ok, ← is, ← next, eq-eqb (r .status) 0 e, q)
+  gate-put u after is-u e q = rw (eq-eqb (st .status) 0 (sym is-s ∙ ok), ← is, ← next, eq-eqb (r .status) 0 (sym is-s₁ ∙ e), q, is-u)
 
-  gate-refused : (r .status ≡ 0 → ⊥) → progress r room ≡ scan (places g ∷ []) (progress st room)
+  gate-refused : (s₁ ≡ 0 → ⊥) → progress r room ≡ scan (places g ∷ []) (progress st room)
   unfolding scan afterEvent
-  gate-refused e = rw (eq-eqb (st .status) 0 ok, ← is, ← next, ne-eqb (r .status) 0 e)
+  gate-refused e = rw (eq-eqb (st .status) 0 (sym is-s ∙ ok), ← is, ← next, ne-eqb (r .status) 0 (λ z. e (is-s₁ ∙ z)))
 
--- a NOT
-module _ (cs : Controls) (t : ℕ) (st : Emit) (room : List ℕ) (ok : st .status ≡ 0) (n : ℕ) (is : n ≡ 2 + length (controlBytes cs)) (r : Emit)
-    (next : r ≡ withGate (length room) st n) where
-  pub flip-placed : (after : List ℕ) → r .status ≡ 0 → after ≡ sets room (st .used) (encode (flip cs t)) →
-      progress r after ≡ scan (places (flip cs t) ∷ []) (progress st room)
-  flip-placed = gate-put (flip cs t) st room ok n (is ∙ sym (flip-long cs t)) r next
+-- a NOT, under the controls of a site
+module _ (site : List ℕ) (high : ℕ) (is-high : high ≡ highIn site) (t : ℕ) (st : Emit) (room : List ℕ) (s : ℕ) (is-s : s ≡ st .status) (ok : s ≡ 0)
+    (n : ℕ) (is : n ≡ 2 + length (controlBytes (controlsOf (getD site 0 0) high (getD site 1 0)))) (r : Emit) (next : r ≡ withGate (length room) st n)
+    (s₁ : ℕ) (is-s₁ : s₁ ≡ r .status) where
+  long : n ≡ length (encode (flip (controlsFrom site) t))
+  long = (rw is-high at is) ∙ sym (flip-long (controlsFrom site) t)
 
-  pub flip-refused : (r .status ≡ 0 → ⊥) → progress r room ≡ scan (places (flip cs t) ∷ []) (progress st room)
-  flip-refused = gate-refused (flip cs t) st room ok n (is ∙ sym (flip-long cs t)) r next
+  pub flip-placed : (u : ℕ) (after : List ℕ) → u ≡ st .used → s₁ ≡ 0 →
+      after ≡ sets room u (encode (flip (controlsOf (getD site 0 0) high (getD site 1 0)) t)) →
+      progress r after ≡ scan (places (flip (controlsFrom site) t) ∷ []) (progress st room)
+  flip-placed u after is-u e q = gate-put (flip (controlsFrom site) t) st room s is-s ok n long r next s₁ is-s₁ u after is-u e (rw is-high at q)
+
+  pub flip-refused : (s₁ ≡ 0 → ⊥) → progress r room ≡ scan (places (flip (controlsFrom site) t) ∷ []) (progress st room)
+  flip-refused = gate-refused (flip (controlsFrom site) t) st room s is-s ok n long r next s₁ is-s₁
 
 -- a swap under one ancilla
-module _ (e u v : ℕ) (st : Emit) (room : List ℕ) (ok : st .status ≡ 0) (r : Emit) (next : r ≡ withGate (length room) st swapLength) where
-  pub swap-placed : (after : List ℕ) → r .status ≡ 0 → after ≡ sets room (st .used) (encode (swapOf (under e) u v)) →
+module _ (e u v : ℕ) (st : Emit) (room : List ℕ) (s : ℕ) (is-s : s ≡ st .status) (ok : s ≡ 0) (n : ℕ)
+    (is : n ≡ length (encode (swapOf (under e) 0 0))) (r : Emit) (next : r ≡ withGate (length room) st n) (s₁ : ℕ) (is-s₁ : s₁ ≡ r .status) where
+  pub swap-placed : (w : ℕ) (after : List ℕ) → w ≡ st .used → s₁ ≡ 0 → after ≡ sets room w (encode (swapOf (under e) u v)) →
       progress r after ≡ scan (places (swapOf (under e) u v) ∷ []) (progress st room)
-  swap-placed = gate-put (swapOf (under e) u v) st room ok swapLength (sym (swap-long e u v)) r next
+  swap-placed = gate-put (swapOf (under e) u v) st room s is-s ok n (is ∙ sym (swap-long e u v)) r next s₁ is-s₁
 
-  pub swap-refused : (r .status ≡ 0 → ⊥) → progress r room ≡ scan (places (swapOf (under e) u v) ∷ []) (progress st room)
-  swap-refused = gate-refused (swapOf (under e) u v) st room ok swapLength (sym (swap-long e u v)) r next
+  pub swap-refused : (s₁ ≡ 0 → ⊥) → progress r room ≡ scan (places (swapOf (under e) u v) ∷ []) (progress st room)
+  swap-refused = gate-refused (swapOf (under e) u v) st room s is-s ok n (is ∙ sym (swap-long e u v)) r next s₁ is-s₁
 
-pub ruleset placing = (needs, gate-stopped, flip-placed, flip-refused, swap-placed, swap-refused)
+pub ruleset placing = (needs, gate-before, flip-placed, flip-refused, swap-placed, swap-refused)
 
 -- the ways out of `give_back`
-pub back-stopped : (a : ℕ) (st : Emit) → (st .status ≡ 0 → ⊥) → st ≡ returned a st
-unfolding returned
-back-stopped a st f = rw (ne-eqb (st .status) 0 f)
+module _ (a : ℕ) (words : List ℕ) (s : ℕ) (is : s ≡ emitIn words .status) where
+  pub back-stopped : (s ≡ 0 → ⊥) → emitIn words ≡ returned a (emitIn words)
+  unfolding returned
+  back-stopped f = rw (ne-eqb (emitIn words .status) 0 (λ e. f (is ∙ e)))
 
-pub back-given : (a : ℕ) (st : Emit) → st .status ≡ 0 → freed st a ≡ returned a st
-unfolding returned
-back-given a st e = rw (eq-eqb (st .status) 0 e)
+  pub back-given : Fits w16 a → s ≡ 0 →
+      emitIn (0 ∷ getD words 1 0 ∷ getD words 2 0 ∷ a ∷ getD words 4 0 ∷ getD words 5 0 ∷ []) ≡ returned a (emitIn words)
+  unfolding returned
+  back-given two e = let same : a % 2 ^ 16 ≡ a = omega (arith, two .fits) in rw (eq-eqb (emitIn words .status) 0 (sym is ∙ e), same)
 
 -- the ways out of `take`
-module _ (f l : ℕ) (st : Emit) (slots : List ℕ) where
-  pub take-stopped : (st .status ≡ 0 → ⊥) → progress st slots ≡ ancillaTaken f l st slots
+module _ (f l : ℕ) (words slots : List ℕ) (s : ℕ) (is : s ≡ emitIn words .status) where
+  pub take-stopped : (s ≡ 0 → ⊥) → progress (emitIn words) slots ≡ ancillaTaken f l (emitIn words) slots
   unfolding ancillaTaken
-  take-stopped h = rw (ne-eqb (st .status) 0 h)
+  take-stopped h = rw (ne-eqb (emitIn words .status) 0 (λ e. h (is ∙ e)))
 
-  pub take-past : (r : Emit) → st .status ≡ 0 → mostWires < st .next → r ≡ stopped st manyWires → progress r slots ≡ ancillaTaken f l st slots
-  unfolding ancillaTaken
-  take-past r e h q = rw (q, eq-eqb (st .status) 0 e, lt-ltb mostWires (st .next) h)
+  module _ (ok : s ≡ 0) (n : ℕ) (is-n : n ≡ emitIn words .next) where
+    pub take-past : (r : Emit) → mostWires < n → r ≡ stopped (emitIn words) manyWires → progress r slots ≡ ancillaTaken f l (emitIn words) slots
+    unfolding ancillaTaken
+    take-past r h q = rw (q, eq-eqb (emitIn words .status) 0 (sym is ∙ ok), ← is-n, lt-ltb mostWires n h)
 
-  pub take-one : (after : List ℕ) (h : ℕ) → st .status ≡ 0 → st .next ≤ mostWires → after ≡ filled slots (st .next) f l → h ≡ max (st .highest) (st .next) →
-      progress (record { status = 0; used = st .used; gates = st .gates; next = st .next + 1; highest = h }) after ≡ ancillaTaken f l st slots
-  unfolding ancillaTaken
-  take-one after h e le p q = rw (p, q, eq-eqb (st .status) 0 e, le-ltb mostWires (st .next) le)
+    pub take-one : (after : List ℕ) (t h : ℕ) → n ≤ mostWires → after ≡ filled slots n f l → t ≡ emitIn words .highest → h ≡ max t n →
+        progress (emitIn (0 ∷ getD words 1 0 ∷ getD words 2 0 ∷ (n + 1) ∷ h ∷ getD words 5 0 ∷ [])) after ≡ ancillaTaken f l (emitIn words) slots
+    unfolding ancillaTaken
+    take-one after t h le p is-t q =
+      let up : (n + 1) % 2 ^ 16 ≡ n + 1 = omega arith in
+      let high : h % 2 ^ 16 ≡ max (emitIn words .highest) n = omega arith in
+      rw (p, up, high, eq-eqb (emitIn words .status) 0 (sym is ∙ ok), ← is-n, le-ltb mostWires n le)
 
-pub ruleset takings = (needs, back-stopped, back-given, take-stopped, take-past, take-one)
+-- an emission that begins
+pub begins : (n : ℕ) → Fits w8 n → emitIn (0 ∷ headerLength ∷ 0 ∷ (n + 1) ∷ n ∷ n ∷ []) ≡ begun n
+begins n byte =
+    let up : (n + 1) % 2 ^ 16 ≡ n + 1 = omega (arith, byte .fits) in
+    let low : n % 2 ^ 16 ≡ n = omega (arith, byte .fits) in
+    rw (up, low)
+
+pub ruleset takings = (needs, back-stopped, back-given, take-stopped, take-past, take-one, begins)
 
 -- the ways out of `load`, `list_size` and `fill_slot`
 pub list-is : (slots : List ℕ) (a w : ℕ) → w ≡ getD slots (slotLength * a + 1) 0 → membersOf w ≡ slotList slots a
 list-is slots a w e = ap membersOf e
 
-pub length-is : (slots : List ℕ) (a w n : ℕ) → membersOf w ≡ slotList slots a → n ≡ length (membersOf w) → n ≡ slotListLength slots a
-length-is slots a w n e is = is ∙ ap length e
+pub slot-filled : (slots : List ℕ) (a f w n : ℕ) (middle end : List ℕ) → n ≡ length (membersOf w) → middle ≡ set slots (slotLength * a) (f + 256 * n) →
+    end ≡ set middle (slotLength * a + 1) w → end ≡ filled slots a f w
+slot-filled slots a f w n middle end is m e = rw (e, m, is)
 
-pub slot-filled : (slots : List ℕ) (a f w : ℕ) (middle end : List ℕ) → middle ≡ set slots (slotLength * a) f → end ≡ set middle (slotLength * a + 1) w →
-    end ≡ filled slots a f w
-slot-filled slots a f w middle end m e = rw (e, m)
-
-pub ruleset words = (touching, list-is, length-is, slot-filled)
+pub ruleset words = (touching, list-is, slot-filled)
 
 -- bytes that are stored one by one, so far: what is still to be stored makes of the slice what all of it makes
 pub data Storing (room₀ : List ℕ) (at : ℕ) (l room : List ℕ) (place i : ℕ) : Type 0 where
@@ -155,14 +185,21 @@ module _ (room₀ : List ℕ) (at : ℕ) (l room : List ℕ) (place i n : ℕ) (
   stored-full (still e) h = sets-past room place (drop i l) h ∙ e
 
 -- the ways out of `pair_at`, `appears`, `opens` and `seek`
-module _ (slots : List ℕ) (a f m x : ℕ) (is : x ≡ slotProcedure slots a) where
-  pub pair-yes : (y : ℕ) → x ≡ f → y ≡ slotListLength slots a → eqb y m ≡ pairAt slots a f m
-  unfolding pairAt
-  pair-yes y e q = rw (← is, eq-eqb x f e, q)
+two-parts : (w : ℕ) → w % 65536 ≡ w % 256 + 256 * (w / 256 % 256)
+two-parts w = omega arith
 
-  pub pair-no : (x ≡ f → ⊥) → false ≡ pairAt slots a f m
-  unfolding pairAt
-  pair-no h = rw (← is, ne-eqb x f h)
+differ : (y x f m : ℕ) → y < 256 → f < 256 → (y ≡ f → x ≡ m → ⊥) → y + 256 * x ≡ f + 256 * m → ⊥
+differ y x f m h g ne e = let low : y ≡ f = omega arith in let high : x ≡ m = omega arith in ne low high
+
+pub pair-is : (slots : List ℕ) (a f m w : ℕ) → Fits w8 f → w ≡ getD slots (slotLength * a) 0 → eqb (w % 65536) (f + 256 * m) ≡ pairAt slots a f m
+unfolding pairAt
+pair-is slots a f m w byte is = rw (← is, two-parts w) (byEq (w % 256) f
+    (λ e. byEq (w / 256 % 256) m
+      (λ q. rw (eq-eqb (w % 256) f e, eq-eqb (w / 256 % 256) m q) (eq-eqb (w % 256 + 256 * (w / 256 % 256)) (f + 256 * m) (rw (e, q))))
+      (λ q. rw (eq-eqb (w % 256) f e, ne-eqb (w / 256 % 256) m q)
+        (ne-eqb (w % 256 + 256 * (w / 256 % 256)) (f + 256 * m) (differ (w % 256) (w / 256 % 256) f m (omega arith) (byte .fits) (λ x y. q y)))))
+    (λ e. rw (ne-eqb (w % 256) f e)
+      (ne-eqb (w % 256 + 256 * (w / 256 % 256)) (f + 256 * m) (differ (w % 256) (w / 256 % 256) f m (omega arith) (byte .fits) (λ x y. e x)))))
 
 pub further : (n e : ℕ) → e < n → n - e ≡ suc (n - (e + 1))
 further n e h = omega arith
@@ -247,13 +284,40 @@ module _ (slots : List ℕ) (base m e upto a : ℕ) (left : seekOf slots base m 
   unfolding seekOf
   seek-on b h p q = rw (further upto a h, ← p, q) at left
 
+-- the ways out of `longer`
+module _ (best n m : ℕ) where
+  pub longer-past : m ≤ n → best ≡ max best (cond (ltb n m) n 0)
+  longer-past h = rw (le-ltb n m h) (omega arith)
+
+  pub longer-more : n < m → best < n → n ≡ max best (cond (ltb n m) n 0)
+  longer-more h l = rw (lt-ltb n m h) (omega arith)
+
+  pub longer-less : n < m → n ≤ best → best ≡ max best (cond (ltb n m) n 0)
+  longer-less h l = rw (lt-ltb n m h) (omega arith)
+
+-- `longest_below` so far: the longest of what was looked at and of what is left is that of the whole
+module _ (slots : List ℕ) (from upto m a best : ℕ) (left : max best (longestBelow slots a (upto - a) m) ≡ longestBelow slots from (upto - from) m) where
+  pub longest-ends : upto ≤ a → best ≡ longestBelow slots from (upto - from) m
+  unfolding longestBelow
+  longest-ends h = let z : max best (longestBelow slots a 0 m) ≡ best = omega arith in sym z ∙ (rw (spent upto a h) at left)
+
+  pub longest-on : (n r : ℕ) → a < upto → n ≡ slotListLength slots a → r ≡ max best (cond (ltb n m) n 0) →
+      max r (longestBelow slots (a + 1) (upto - (a + 1)) m) ≡ longestBelow slots from (upto - from) m
+  unfolding longestBelow
+  longest-on n r h is e =
+    let u = cond (ltb (slotListLength slots a) m) (slotListLength slots a) 0 in
+    let v = longestBelow slots (a + 1) (upto - (a + 1)) m in
+    let all : max best (max u v) ≡ longestBelow slots from (upto - from) m = rw (further upto a h) at left in
+    rw (e, is) (assoc best u v ∙ all)
+    where
+      assoc : (x y z : ℕ) → max (max x y) z ≡ max x (max y z)
+      assoc x y z = omega arith
+
+pub longest-begins : (slots : List ℕ) (from upto m : ℕ) → max 0 (longestBelow slots from (upto - from) m) ≡ longestBelow slots from (upto - from) m
+longest-begins slots from upto m = omega arith
+
+pub ruleset lengthening = (needs, longer-past, longer-more, longer-less, longest-begins, longest-ends, longest-on)
+
 pub ruleset seeking = (
-  needs, pair-yes, pair-no, appears-none, appears-here, appears-on, opens-yes, opens-no, passed-none, opens-is, passed-next, seek-none, seek-here, seek-on,
+  needs, pair-is, appears-none, appears-here, appears-on, opens-yes, opens-no, passed-none, opens-is, passed-next, seek-none, seek-here, seek-on,
 )
-
--- one control under none
-pub under-is : (a : ℕ) (none r : Controls) → none ≡ noControls → r ≡ withControlWithin a true none → r ≡ under a
-unfolding withControlWithin insertWithin withControl
-under-is a none r e q = rw (q, e)
-
-pub ruleset controlling = (needs, under-is)

@@ -20,8 +20,7 @@ use Rattle.model.proofs.RoundTrip.{encode-length}
 use Rattle.agreement.proofs.AncillaStack.{Stacked, highest, peak-highest, emission-stacked}
 use Rattle.agreement.proofs.FirstMisfit.{AllFit, fit-all, fits-length}
 use Rattle.circuit.proofs.GateBytes.{sets-append}
-use Rattle.events.specs.declared.Emit.{Emit}
-use Rattle.events.specs.Scan.{Progress, progress, emitOf, stopped, taken, freed, placed, afterEvent, withGate, scan, begun, emissionEnd}
+use Rattle.events.specs.Scan.{Emit, Progress, progress, emitOf, stopped, taken, freed, placed, afterEvent, withGate, scan, begun, emissionEnd}
 
 -- events one after the other
 pub scan-append : (xs ys : List Event) (x : Progress) → scan (xs ++ ys) x ≡ scan ys (scan xs x)

@@ -6,8 +6,7 @@ use lib.ListN.{length, getD}
 use Rattle.limits.specs.Sizes.{wireCount, slotsLength}
 use Rattle.model.specs.Gates.{Controls}
 use Rattle.model.specs.Emission.{Event, Invocation, invoked, invokes}
-use Rattle.events.specs.declared.Emit.{Emit}
-use Rattle.events.specs.Scan.{progress, scan, slotAt, heldIn}
+use Rattle.events.specs.Scan.{Emit, progress, scan, slotAt, Tallied, heldIn}
 
 -- the events are scanned; the slots below the first next wire are as they were
 pub record Follows (es : List Event) (st : Emit) (room slots : List ℕ) (r : Emit) (room₁ slots₁ : List ℕ) : Type 0 where
@@ -16,6 +15,7 @@ pub record Follows (es : List Event) (st : Emit) (room slots : List ℕ) (r : Em
   pub rises : st .next ≤ r .next
   pub low : st .next ≤ wireCount → r .next ≤ wireCount
   pub kept : (i : ℕ) → i < slotAt (st .next) → getD slots₁ i 0 ≡ getD slots i 0
+  pub tallied : Tallied slots → Tallied slots₁
 
 -- the same, and the slots from the first next wire on hold the new invocations
 pub record Opens (es : List Event) (news : List Invocation) (st : Emit) (room slots : List ℕ) (r : Emit) (room₁ slots₁ : List ℕ) : Type 0 where

@@ -1,20 +1,34 @@
 -- An emission as the code keeps it: what each event does to the state of the walk and to the room, and the slots of the ancillas.
-use Prim.Native.Nat.{ℕ, zero, suc, _+_, _*_, _%_, max}
+use Prim.Native.Nat.{ℕ, zero, suc, _+_, _*_, _/_, _%_, _^_, max}
+use mathlib.Core.Path.{_≡_}
 use mathlib.Core.Bool.{cond}
 use mathlib.Core.List.{List, [], _∷_}
 use lib.ListN.{length, getD}
 use lib.Seq.{sets}
 use lib.Dec.{eqb, ltb, leb}
-use Rattle.limits.specs.Sizes.{slotLength}
+use Rattle.limits.specs.Sizes.{slotLength, statusWord, usedWord, gatesWord, nextWord, highestWord}
 use Rattle.model.specs.Limits.{mostWires, mostCircuit, manyWires, noRoom, headerLength}
 use Rattle.model.specs.Syntax.{Program}
 use Rattle.model.specs.Emission.{Event, takes, places, frees, Invocation, invocation, emission, gates, peak}
 use Rattle.model.specs.Circuit.{encode, encodeAll}
 use Rattle.model.specs.Answers.{usable}
 use Rattle.sets.specs.Sets.{membersOf}
-use Rattle.events.specs.declared.Emit.{Emit}
 
--- what is seen of an emission: where it stands, and the room
+-- where an emission is: 0 or the number that refuses it, bytes used, gates placed, the next wire, and the highest wire taken
+pub record Emit : Type 0 where
+  pub status : ℕ
+  pub used : ℕ
+  pub gates : ℕ
+  pub next : ℕ
+  pub highest : ℕ
+
+-- as the code keeps it, in words: of a word that holds less than 64 bits, the low ones
+abbrev pub emitIn : List ℕ → Emit
+emitIn words = record {
+  status = getD words statusWord 0 % 2 ^ 8; used = getD words usedWord 0; gates = getD words gatesWord 0 % 2 ^ 32;
+  next = getD words nextWord 0 % 2 ^ 16; highest = getD words highestWord 0 % 2 ^ 16 }
+
+-- what is seen of an emission: where it is, and the room
 pub data Progress : Type 0 where
   progress : Emit → List ℕ → Progress
 
@@ -64,7 +78,7 @@ emissionEnd P n = record {
   status = 0; used = headerLength + length (encodeAll (gates (emission P n))); gates = length (gates (emission P n));
   next = n + 1; highest = n + peak [] (emission P n) }
 
--- an ancilla's slot holds the invocation that took it: a word for the procedure, and the set of the list
+-- an ancilla's slot holds the invocation that took it: a word for the procedure and the length of its list, and the set of the list
 abbrev pub slotAt : ℕ → ℕ
 slotAt a = slotLength * a
 
@@ -75,7 +89,11 @@ abbrev pub slotList : List ℕ → ℕ → List ℕ
 slotList slots a = membersOf (getD slots (slotAt a + 1) 0)
 
 abbrev pub slotListLength : List ℕ → ℕ → ℕ
-slotListLength slots a = length (slotList slots a)
+slotListLength slots a = getD slots (slotAt a) 0 / 256 % 256
+
+-- each slot has the length of its list
+abbrev pub Tallied : List ℕ → Type 0
+Tallied slots = (a : ℕ) → slotListLength slots a ≡ length (slotList slots a)
 
 -- the wire of an ancilla. None is above the limit: for such the code has 0.
 abbrev pub wireOf : ℕ → ℕ

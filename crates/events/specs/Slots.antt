@@ -1,17 +1,18 @@
 -- What the code does with the slots of ancillas: they are filled, compared, and sought for the next body.
-use Prim.Native.Nat.{ℕ, zero, suc, _+_, _-_}
+use Prim.Native.Nat.{ℕ, zero, suc, _+_, _-_, _*_, max}
 use mathlib.Core.Bool.{Bool, true, false, not, cond, _&&_}
-use mathlib.Core.List.{List, [], reverse}
-use lib.ListN.{set}
+use mathlib.Core.List.{List, [], _∷_, _++_, reverse}
+use lib.ListN.{length, getD, set}
 use lib.Dec.{eqb, ltb}
+use Rattle.sets.specs.Sets.{membersOf}
 use Rattle.model.specs.Limits.{mostWires, manyWires}
-use Rattle.model.specs.Emission.{Event, entryGates}
-use Rattle.events.specs.declared.Emit.{Emit}
-use Rattle.events.specs.Scan.{Progress, progress, stopped, taken, freed, slotAt, slotListLength, slotProcedure, slotOf}
+use Rattle.model.specs.Gates.{swapOf}
+use Rattle.model.specs.Emission.{Event, places, under, entryGates}
+use Rattle.events.specs.Scan.{Emit, Progress, progress, stopped, taken, freed, slotAt, slotListLength, slotProcedure, slotOf}
 
 -- an invocation put into the slot of its ancilla, its list as a set
 abbrev pub filled : List ℕ → ℕ → ℕ → ℕ → List ℕ
-filled slots a f list = set (set slots (slotAt a) f) (slotAt a + 1) list
+filled slots a f list = set (set slots (slotAt a) (f + 256 * length (membersOf list))) (slotAt a + 1) list
 
 -- the next ancilla is taken, and its slot filled
 unfoldable pub ancillaTaken : ℕ → ℕ → Emit → List ℕ → Progress
@@ -54,3 +55,18 @@ turned false es = es
 -- the entry gates from slot e to the body of slot d, if they are of one pair
 unfoldable pub entryAt : List ℕ → ℕ → ℕ → List Event
 entryAt slots d e = cond (pairAt slots e (slotProcedure slots d) (slotListLength slots d)) (entryGates (slotOf slots d) (slotOf slots e)) []
+
+-- those from n slots, from e on
+unfoldable pub entriesTo : List ℕ → ℕ → ℕ → ℕ → List Event
+entriesTo slots d e zero = []
+entriesTo slots d e (suc n) = entryAt slots d e ++ entriesTo slots d (e + 1) n
+
+-- the greatest length below m of the lists in n slots, from a on, 0 for none
+unfoldable pub longestBelow : List ℕ → ℕ → ℕ → ℕ → ℕ
+longestBelow slots a zero m = 0
+longestBelow slots a (suc n) m = max (cond (ltb (slotListLength slots a) m) (slotListLength slots a) 0) (longestBelow slots (a + 1) n m)
+
+-- n swaps of the wires in two arrays, from place i on, under the ancilla e
+unfoldable pub swapsIn : ℕ → List ℕ → List ℕ → ℕ → ℕ → List Event
+swapsIn e from to i zero = []
+swapsIn e from to i (suc n) = places (swapOf (under e) (getD from i 0) (getD to i 0)) ∷ swapsIn e from to (i + 1) n

@@ -1,39 +1,85 @@
 // The events of an emission: an ancilla taken, a gate placed, ancillas given back; and the runs of them that ask no table: swaps, the gates of an entry,
-// the two ends of a call. Ancillas keep their invocations in slots, two words for each, in which the next body is sought.
+// the two ends of a call. Where an emission is stands in words that are lent (`State`). Ancillas keep their invocations in slots, two words for each, in which the
+// next body is sought.
 ghost use mathlib.Core.Path.{_≡_};
+ghost use mathlib.Core.Bool.{cond};
 ghost use mathlib.Core.List.{[], _∷_, reverse};
-ghost use Prim.Native.Nat.{_+_, _-_, max};
-ghost use lib.ListN.{getD, set};
-ghost use lib.Dec.{leb};
+ghost use Prim.Native.Nat.{_+_, _-_, _≤_, max};
+ghost use lib.ListN.{length, getD, set};
+ghost use lib.Dec.{leb, ltb};
 ghost use Rattle.model.specs.Gates.{flip, swapOf};
 ghost use Rattle.model.specs.Emission as model;
-ghost use Rattle.model.specs.Emission.{places, frees, entryGates, allEntryGates, returns};
+ghost use Rattle.model.specs.Emission.{places, frees, invoked, entryGates, returns};
 ghost use Rattle.model.specs.Answers.{usable};
-ghost use Rattle.circuit.specs.GatesToWrite.{controlsFrom};
+ghost use Rattle.limits.specs.Sizes.{setLength};
+ghost use Rattle.controls.specs.ControlWords.{controlsFrom};
 ghost use Rattle.sets.specs.Sets.{membersOf};
-ghost use Rattle.lookup.specs.Plans.{pairsOf, swapsAlong};
-ghost use Rattle.events.specs.Scan.{progress, stopped, withGate, scan, slotListLength, slotProcedure, slotList, wireOf, slotOf, heldIn};
-ghost use Rattle.events.specs.Slots.{filled, ancillaTaken, returned, pairAt, appears, opensBehind, seekOf, turned, entryAt};
+ghost use Rattle.events.specs.Scan.{
+  emitIn, progress, stopped, withGate, scan, begun, slotListLength, slotProcedure, slotList, wireOf, slotOf,
+};
+ghost use Rattle.events.specs.Slots.{filled, ancillaTaken, returned, pairAt, appears, opensBehind, seekOf, turned, entryAt, entriesTo, longestBelow, swapsIn};
 ghost use Rattle.events.specs.FollowedEvents.{Invokes};
-use circuit::write::{ControlLists, with_control, no_controls, flip_length, put_flip, put_swap};
-use limits::{LAST_WIRE, MANY_WIRES, MOST_CIRCUIT, MOST_GATES, NO_ROOM, SLOT_LENGTH, SLOTS_LENGTH, SWAP_LENGTH};
-use lookup::{Plan, pair_count, plan_swaps};
+use controls::{Site, flip_length, high_wire, put_flip, put_swap, swap_length, under};
+use limits::{
+    GATES_WORD, HEADER_LENGTH, HIGHEST_WORD, LAST_WIRE, MANY_WIRES, MOST_CIRCUIT, MOST_GATES, NEXT_WORD, NO_ROOM, ONES_WORD, QUBITS_WORD, SET_LENGTH, SLOT_LENGTH, SLOTS_LENGTH,
+    STATE_LENGTH, STATUS_WORD, USED_WORD, ZEROS_WORD,
+};
+use lookup::{pair_count, plan_swaps};
 use sets::{QubitSet, size};
 
-// Where an emission stands: 0 or the number that refuses it, bytes used, gates placed, the next wire, and the highest wire taken.
-pub struct Emit {
-    pub status: u8,
-    pub used: usize,
-    pub gates: u32,
-    pub next: u16,
-    pub highest: u16,
+// Where an emission is: 0 or the number that refuses it, bytes used, gates placed, the next wire, the highest wire taken, and the number of qubits.
+pub type State = [u64; STATE_LENGTH];
+
+// What each ancilla keeps of the call that took it.
+pub type Slots = [u64; SLOTS_LENGTH];
+
+// The number that refuses, 0 for none.
+pub fn status(state: &State) -> u8
+    ensures { λ r. ⌜ r ≡ emitIn (now (state .entry)) .status ⌝ }
+{
+    (state[STATUS_WORD] % 256) as u8
+}
+
+// How many bytes are used?
+pub fn used(state: &State) -> usize
+    ensures { λ r. ⌜ r ≡ emitIn (now (state .entry)) .used ⌝ }
+{
+    state[USED_WORD] as usize
+}
+
+// How many gates are placed?
+pub fn gates(state: &State) -> u32
+    ensures { λ r. ⌜ r ≡ emitIn (now (state .entry)) .gates ⌝ }
+{
+    (state[GATES_WORD] % 4294967296) as u32
+}
+
+// The next wire.
+pub fn next(state: &State) -> u16
+    ensures { λ r. ⌜ r ≡ emitIn (now (state .entry)) .next ⌝ }
+{
+    (state[NEXT_WORD] % 65536) as u16
+}
+
+// The highest wire taken.
+pub fn highest(state: &State) -> u16
+    ensures { λ r. ⌜ r ≡ emitIn (now (state .entry)) .highest ⌝ }
+{
+    (state[HIGHEST_WORD] % 65536) as u16
+}
+
+// An emission on n qubits begins behind the header.
+pub fn begin(n: u8) -> State
+    ensures { λ r. ⌜ emitIn r ≡ begun n ⌝ }
+{
+    [0, HEADER_LENGTH as u64, 0, n as u64 + 1, n as u64, n as u64]
 }
 
 // A refusal; nothing else changes.
-fn stop(st: Emit, number: u8) -> Emit
-    ensures { λ r. ⌜ r ≡ stopped st number ⌝ }
+fn stop(state: &mut State, number: u8)
+    ensures { λ r. ⌜ emitIn (now (state .exit)) ≡ stopped (emitIn (now (state .entry))) number ⌝ }
 {
-    Emit { status: number, used: st.used, gates: st.gates, next: st.next, highest: st.highest }
+    *state = [number as u64, state[1], state[2], state[3], state[4], state[5]];
 }
 
 // "room past 65,536 bytes is not used"
@@ -55,58 +101,63 @@ fn in_room(room: usize, used: usize, length: usize) -> bool
 }
 
 // Behind one gate more, of so many bytes: or 23.
-fn with_gate(room: usize, st: Emit, length: usize) -> Emit
-    ensures { λ r. ⌜ r ≡ withGate room st length ⌝ }
+fn with_gate(room: usize, state: &mut State, length: usize)
+    ensures { λ r. ⌜ emitIn (now (state .exit)) ≡ withGate room (emitIn (now (state .entry))) length ⌝ }
 {
-    let used = st.used;
-    let gates = st.gates;
+    let used = used(state);
+    let gates = gates(state);
     if MOST_GATES <= gates {
-        return stop(st, NO_ROOM);
+        stop(state, NO_ROOM);
+        return;
     }
     if in_room(room, used, length) {
-        return Emit { status: 0, used: used + length, gates: gates + 1, next: st.next, highest: st.highest };
+        *state = [0, (used + length) as u64, gates as u64 + 1, state[3], state[4], state[5]];
+        return;
     }
-    stop(st, NO_ROOM)
+    stop(state, NO_ROOM);
 }
 
 // A NOT is placed, or 23.
-pub fn emit_flip(controls: ControlLists, target: u8, room: &mut [u8], st: Emit) -> Emit
-    ensures { λ r. ⌜ progress r (now (room .exit)) ≡ scan (places (flip (controlsFrom controls) target) ∷ []) (progress st (now (room .entry))) ⌝ }
+pub fn emit_flip(site: &Site, target: u8, room: &mut [u8], state: &mut State)
+    ensures { λ r. ⌜ progress (emitIn (now (state .exit))) (now (room .exit)) ≡
+        scan (places (flip (controlsFrom (now (site .entry))) target) ∷ []) (progress (emitIn (now (state .entry))) (now (room .entry))) ⌝ }
 {
-    if st.status != 0 {
-        return st;
+    if status(state) != 0 {
+        return;
     }
-    let next = with_gate(room.len(), st, flip_length(controls));
-    if next.status == 0 {
-        put_flip(room, st.used, controls, target);
-        return next;
+    let ones = site[ONES_WORD];
+    let zeros = site[ZEROS_WORD];
+    let high = high_wire(site);
+    let at = used(state);
+    with_gate(room.len(), state, flip_length(ones, high, zeros));
+    if status(state) == 0 {
+        put_flip(room, at, ones, high, zeros, target);
     }
-    next
 }
 
 // A swap under an ancilla is placed, or 23.
-fn emit_swap(e: u8, first: u8, second: u8, room: &mut [u8], st: Emit) -> Emit
-    ensures { λ r. ⌜ progress r (now (room .exit)) ≡ scan (places (swapOf (model.under e) first second) ∷ []) (progress st (now (room .entry))) ⌝ }
+fn emit_swap(e: u8, first: u8, second: u8, room: &mut [u8], state: &mut State)
+    ensures { λ r. ⌜ progress (emitIn (now (state .exit))) (now (room .exit)) ≡
+        scan (places (swapOf (model.under e) first second) ∷ []) (progress (emitIn (now (state .entry))) (now (room .entry))) ⌝ }
 {
-    if st.status != 0 {
-        return st;
+    if status(state) != 0 {
+        return;
     }
-    let next = with_gate(room.len(), st, SWAP_LENGTH);
-    if next.status == 0 {
-        put_swap(room, st.used, e, first, second);
-        return next;
+    let at = used(state);
+    with_gate(room.len(), state, swap_length(e));
+    if status(state) == 0 {
+        put_swap(room, at, e, first, second);
     }
-    next
 }
 
 // The ancillas from a on are given back.
-fn give_back(st: Emit, a: u16) -> Emit
-    ensures { λ r. ⌜ r ≡ returned a st ⌝ }
+fn give_back(state: &mut State, a: u16)
+    ensures { λ r. ⌜ emitIn (now (state .exit)) ≡ returned a (emitIn (now (state .entry))) ⌝ }
 {
-    if st.status != 0 {
-        return st;
+    if status(state) != 0 {
+        return;
     }
-    Emit { status: 0, used: st.used, gates: st.gates, next: a, highest: st.highest }
+    *state = [0, state[1], state[2], a as u64, state[4], state[5]];
 }
 
 // The wire of an ancilla.
@@ -124,24 +175,24 @@ fn word_at(words: &[u64], at: usize) -> u64
 }
 
 // The procedure in a slot.
-pub fn procedure(slots: &[u64; SLOTS_LENGTH], a: u16) -> u8
+pub fn procedure(slots: &Slots, a: u16) -> u8
     ensures { λ r. ⌜ r ≡ slotProcedure (now (slots .entry)) a ⌝ }
 {
     (word_at(&slots[..], SLOT_LENGTH * a as usize) % 256) as u8
 }
 
 // The list in a slot.
-pub fn load(slots: &[u64; SLOTS_LENGTH], a: u16) -> QubitSet
+pub fn load(slots: &Slots, a: u16) -> QubitSet
     ensures { λ r. ⌜ membersOf r ≡ slotList (now (slots .entry)) a ⌝ }
 {
     word_at(&slots[..], SLOT_LENGTH * a as usize + 1)
 }
 
 // The length of the list in a slot.
-fn list_size(slots: &[u64; SLOTS_LENGTH], a: u16) -> u8
+fn list_size(slots: &Slots, a: u16) -> u8
     ensures { λ r. ⌜ r ≡ slotListLength (now (slots .entry)) a ⌝ }
 {
-    size(load(slots, a))
+    (word_at(&slots[..], SLOT_LENGTH * a as usize) / 256 % 256) as u8
 }
 
 // A word is stored, none past the end.
@@ -154,10 +205,10 @@ fn put_word(words: &mut [u64], at: usize, word: u64)
 }
 
 // An invocation is put into the slot of its ancilla.
-fn fill_slot(slots: &mut [u64; SLOTS_LENGTH], a: u16, f: u8, list: QubitSet)
+fn fill_slot(slots: &mut Slots, a: u16, f: u8, list: QubitSet)
     ensures { λ r. ⌜ now (slots .exit) ≡ filled (now (slots .entry)) a f list ⌝ }
 {
-    put_word(&mut slots[..], SLOT_LENGTH * a as usize, f as u64);
+    put_word(&mut slots[..], SLOT_LENGTH * a as usize, f as u64 + 256 * (size(list) as u64));
     put_word(&mut slots[..], SLOT_LENGTH * a as usize + 1, list);
 }
 
@@ -168,32 +219,31 @@ fn larger(a: u16, b: u16) -> u16
 }
 
 // The next ancilla is taken for a call of f with a list, or 22.
-fn take(f: u8, list: QubitSet, slots: &mut [u64; SLOTS_LENGTH], st: Emit) -> Emit
-    ensures { λ r. ⌜ progress r (now (slots .exit)) ≡ ancillaTaken f list st (now (slots .entry)) ⌝ }
+fn take(f: u8, list: QubitSet, slots: &mut Slots, state: &mut State)
+    ensures { λ r. ⌜ progress (emitIn (now (state .exit))) (now (slots .exit)) ≡
+        ancillaTaken f list (emitIn (now (state .entry))) (now (slots .entry)) ⌝ }
 {
-    if st.status != 0 {
-        return st;
+    if status(state) != 0 {
+        return;
     }
-    let next = st.next;
+    let next = next(state);
     if LAST_WIRE < next {
-        return stop(st, MANY_WIRES);
+        stop(state, MANY_WIRES);
+        return;
     }
     fill_slot(slots, next, f, list);
-    Emit { status: 0, used: st.used, gates: st.gates, next: next + 1, highest: larger(st.highest, next) }
+    *state = [0, state[1], state[2], next as u64 + 1, larger(highest(state), next) as u64, state[5]];
 }
 
-// Is slot a of the pair of f and length m?
-fn pair_at(slots: &[u64; SLOTS_LENGTH], a: u16, f: u8, m: u8) -> bool
+// Is slot a of the pair of f and length m? Both stand in one word.
+fn pair_at(slots: &Slots, a: u16, f: u8, m: u8) -> bool
     ensures { λ r. ⌜ r ≡ pairAt (now (slots .entry)) a f m ⌝ }
 {
-    if procedure(slots, a) == f {
-        return list_size(slots, a) == m;
-    }
-    false
+    word_at(&slots[..], SLOT_LENGTH * a as usize) % 65536 == f as u64 + 256 * (m as u64)
 }
 
 // Is one of the slots from `from` on, before `upto`, of that pair?
-fn appears(slots: &[u64; SLOTS_LENGTH], from: u16, upto: u16, f: u8, m: u8) -> bool
+fn appears(slots: &Slots, from: u16, upto: u16, f: u8, m: u8) -> bool
     ensures { λ r. ⌜ r ≡ appears (now (slots .entry)) from (upto - from) f m ⌝ }
 {
     let mut a = from;
@@ -207,7 +257,7 @@ fn appears(slots: &[u64; SLOTS_LENGTH], from: u16, upto: u16, f: u8, m: u8) -> b
 }
 
 // Does slot a of a chain from `base` on open the body of its pair, with lists of length m, as far as the slots before `from` say?
-fn opens(slots: &[u64; SLOTS_LENGTH], base: u16, m: u8, from: u16, a: u16) -> bool
+fn opens(slots: &Slots, base: u16, m: u8, from: u16, a: u16) -> bool
     ensures { λ r. ⌜ r ≡ opensBehind (now (slots .entry)) base m from a ⌝ }
 {
     if list_size(slots, a) == m {
@@ -218,7 +268,7 @@ fn opens(slots: &[u64; SLOTS_LENGTH], base: u16, m: u8, from: u16, a: u16) -> bo
 
 // The first slot from e on, before `upto`, that opens the body of its pair, otherwise `upto`. A slot that is passed over is of a pair that was there before e,
 // or of another length: so only the slots before e are asked.
-pub fn seek(slots: &[u64; SLOTS_LENGTH], base: u16, m: u8, e: u16, upto: u16) -> u16
+pub fn seek(slots: &Slots, base: u16, m: u8, e: u16, upto: u16) -> u16
     ensures { λ r. ⌜ r ≡ seekOf (now (slots .entry)) base m e (upto - e) ⌝ }
 {
     let mut a = e;
@@ -231,115 +281,164 @@ pub fn seek(slots: &[u64; SLOTS_LENGTH], base: u16, m: u8, e: u16, upto: u16) ->
     a
 }
 
-// The one control of a body, or of an entry.
-pub fn under(a: u8) -> ControlLists
-    ensures { λ r. ⌜ controlsFrom r ≡ model.under a ⌝ }
+// The longer of two lengths, of which the second counts only below m.
+fn longer(best: u8, length: u8, m: u8) -> u8
+    ensures { λ r. ⌜ r ≡ max best (cond (ltb length m) length 0) ⌝ }
 {
-    with_control(no_controls(), a, true)
+    if m <= length {
+        return best;
+    }
+    if best < length { length } else { best }
 }
 
-// The swaps of a plan under an ancilla, in order.
-fn emit_forth(e: u8, plan: Plan, room: &mut [u8], st: Emit) -> Emit
-    ensures { λ r. ⌜ progress r (now (room .exit)) ≡ scan (swapsAlong e (pairsOf plan)) (progress st (now (room .entry))) ⌝ }
+// The greatest length below m of the lists in the slots from `from` on, before `upto`; 0 for none.
+pub fn longest_below(slots: &Slots, from: u16, upto: u16, m: u8) -> u8
+    ensures { λ r. ⌜ r ≡ longestBelow (now (slots .entry)) from (upto - from) m ⌝ }
 {
-    let count = pair_count(plan) as usize;
-    let mut done = st;
-    let mut i = 0;
+    let mut best = 0u8;
+    let mut a = from;
+    while a < upto {
+        best = longer(best, list_size(slots, a), m);
+        a += 1;
+    }
+    best
+}
+
+// The first swaps of a plan under an ancilla, in order: those of the wires in two arrays.
+fn emit_forth(e: u8, from: &[u8; SET_LENGTH], to: &[u8; SET_LENGTH], count: u8, room: &mut [u8], state: &mut State)
+    requires { ⌜ count ≤ setLength ⌝ }
+    ensures { λ r. ⌜ progress (emitIn (now (state .exit))) (now (room .exit)) ≡
+        scan (swapsIn e (now (from .entry)) (now (to .entry)) 0 count) (progress (emitIn (now (state .entry))) (now (room .entry))) ⌝ }
+{
+    let mut i = 0u8;
     while i < count {
-        done = emit_swap(e, plan.from[i], plan.to[i], room, done);
+        emit_swap(e, from[i as usize], to[i as usize], room, state);
         i += 1;
     }
-    done
 }
 
 // The same swaps in reverse.
-fn emit_back(e: u8, plan: Plan, room: &mut [u8], st: Emit) -> Emit
-    ensures { λ r. ⌜ progress r (now (room .exit)) ≡ scan (reverse (swapsAlong e (pairsOf plan))) (progress st (now (room .entry))) ⌝ }
+fn emit_back(e: u8, from: &[u8; SET_LENGTH], to: &[u8; SET_LENGTH], count: u8, room: &mut [u8], state: &mut State)
+    requires { ⌜ count ≤ setLength ⌝ }
+    ensures { λ r. ⌜ progress (emitIn (now (state .exit))) (now (room .exit)) ≡
+        scan (reverse (swapsIn e (now (from .entry)) (now (to .entry)) 0 count)) (progress (emitIn (now (state .entry))) (now (room .entry))) ⌝ }
 {
-    let mut done = st;
-    let mut i = pair_count(plan) as usize;
+    let mut i = count;
     while 0 < i {
         i -= 1;
-        done = emit_swap(e, plan.from[i], plan.to[i], room, done);
+        emit_swap(e, from[i as usize], to[i as usize], room, state);
     }
-    done
 }
 
 // "flip the body's ancilla under the entry ancilla; then" the swaps: from slot e to the body of slot d, in order or reversed.
-fn emit_gates(slots: &[u64; SLOTS_LENGTH], d: u16, e: u16, reversed: bool, n: u8, room: &mut [u8], st: Emit) -> Emit
-    ensures { λ r. ⌜ progress r (now (room .exit)) ≡
-        scan (turned reversed (entryGates (slotOf (now (slots .entry)) d) (slotOf (now (slots .entry)) e))) (progress st (now (room .entry))) ⌝ }
+fn emit_gates(slots: &Slots, d: u16, e: u16, reversed: bool, room: &mut [u8], state: &mut State)
+    ensures { λ r. ⌜ progress (emitIn (now (state .exit))) (now (room .exit)) ≡
+        scan (turned reversed (entryGates (slotOf (now (slots .entry)) d) (slotOf (now (slots .entry)) e)))
+          (progress (emitIn (now (state .entry))) (now (room .entry))) ⌝ }
 {
-    let plan = plan_swaps(n, load(slots, d), load(slots, e));
+    let first = load(slots, d);
+    let later = load(slots, e);
     let a = wire(e);
-    let controls = under(a);
+    let site = under(a, 0);
     let target = wire(d);
-    if reversed {
-        let swapped = emit_back(a, plan, room, st);
-        return emit_flip(controls, target, room, swapped);
+    // a list that is the first one stays where it is
+    if first == later {
+        emit_flip(&site, target, room, state);
+        return;
     }
-    let flipped = emit_flip(controls, target, room, st);
-    emit_forth(a, plan, room, flipped)
+    let plan = plan_swaps((state[QUBITS_WORD] % 256) as u8, first, later);
+    let count = pair_count(plan);
+    let from = plan.from;
+    let to = plan.to;
+    if reversed {
+        emit_back(a, &from, &to, count, room, state);
+        emit_flip(&site, target, room, state);
+        return;
+    }
+    emit_flip(&site, target, room, state);
+    emit_forth(a, &from, &to, count, room, state);
 }
 
 // These, if the slots are of one pair.
-fn emit_entry(slots: &[u64; SLOTS_LENGTH], d: u16, e: u16, reversed: bool, n: u8, room: &mut [u8], st: Emit) -> Emit
-    ensures { λ r. ⌜ progress r (now (room .exit)) ≡ scan (turned reversed (entryAt (now (slots .entry)) d e)) (progress st (now (room .entry))) ⌝ }
+fn emit_entry(slots: &Slots, d: u16, e: u16, reversed: bool, room: &mut [u8], state: &mut State)
+    ensures { λ r. ⌜ progress (emitIn (now (state .exit))) (now (room .exit)) ≡
+        scan (turned reversed (entryAt (now (slots .entry)) d e)) (progress (emitIn (now (state .entry))) (now (room .entry))) ⌝ }
 {
     if procedure(slots, e) == procedure(slots, d) {
         if list_size(slots, e) == list_size(slots, d) {
-            return emit_gates(slots, d, e, reversed, n, room, st);
+            emit_gates(slots, d, e, reversed, room, state);
         }
     }
-    st
 }
 
-// "Before the shared body's left part, for each such call in order" the entry gates; behind its right part "the same gates come in reverse".
-pub fn emit_entries(slots: &[u64; SLOTS_LENGTH], d: u16, e: u16, upto: u16, reversed: bool, n: u8, room: &mut [u8], st: Emit) -> Emit
-    ensures { λ r. ⌜ progress r (now (room .exit)) ≡
-        scan (turned reversed (allEntryGates (slotOf (now (slots .entry)) d) (heldIn (now (slots .entry)) e (upto - e)))) (progress st (now (room .entry))) ⌝ }
+// "Before the shared body's left part, for each such call in order" the entry gates: to the body of slot d, from the slots from e on, before `upto`.
+pub fn emit_entries(slots: &Slots, d: u16, e: u16, upto: u16, room: &mut [u8], state: &mut State)
+    ensures { λ r. ⌜ progress (emitIn (now (state .exit))) (now (room .exit)) ≡
+        scan (entriesTo (now (slots .entry)) d e (upto - e)) (progress (emitIn (now (state .entry))) (now (room .entry))) ⌝ }
+{
+    let mut a = e;
+    while a < upto {
+        emit_entry(slots, d, a, false, room, state);
+        a += 1;
+    }
+}
+
+// "After its right part the same gates come in reverse."
+pub fn emit_entries_back(slots: &Slots, d: u16, e: u16, upto: u16, room: &mut [u8], state: &mut State)
+    ensures { λ r. ⌜ progress (emitIn (now (state .exit))) (now (room .exit)) ≡
+        scan (reverse (entriesTo (now (slots .entry)) d e (upto - e))) (progress (emitIn (now (state .entry))) (now (room .entry))) ⌝ }
 {
     if upto <= e {
-        return st;
+        return;
     }
-    if reversed {
-        let rest = emit_entries(slots, d, e + 1, upto, reversed, n, room, st);
-        return emit_entry(slots, d, e, reversed, n, room, rest);
+    let mut a = upto;
+    while e < a {
+        a -= 1;
+        emit_entry(slots, d, a, true, room, state);
     }
-    let here = emit_entry(slots, d, e, reversed, n, room, st);
-    emit_entries(slots, d, e + 1, upto, reversed, n, room, here)
 }
 
 // A call that names a pair takes the next ancilla and flips it under the controls in force. "A call with an empty list emits nothing"
-pub fn invoke(f: u8, list: QubitSet, controls: ControlLists, room: &mut [u8], slots: &mut [u64; SLOTS_LENGTH], st: Emit) -> Emit
+pub fn invoke(f: u8, list: QubitSet, site: &Site, room: &mut [u8], slots: &mut Slots, state: &mut State)
     ensures {
-        λ r. ⌜ Invokes f (membersOf list) (controlsFrom controls) st (now (room .entry)) (now (slots .entry)) r (now (room .exit)) (now (slots .exit)) ⌝
+        λ r. ⌜ Invokes f (membersOf list) (controlsFrom (now (site .entry))) (emitIn (now (state .entry))) (now (room .entry)) (now (slots .entry))
+            (emitIn (now (state .exit))) (now (room .exit)) (now (slots .exit)) ⌝
     }
 {
     if list == 0 {
-        return st;
+        return;
     }
-    let a = wire(st.next);
-    let taken = take(f, list, slots, st);
-    emit_flip(controls, a, room, taken)
+    let a = wire(next(state));
+    take(f, list, slots, state);
+    emit_flip(site, a, room, state);
 }
 
 // A chain's end: its first ancilla is flipped back, and all its ancillas are given back.
-pub fn finish(base: u16, controls: ControlLists, room: &mut [u8], st: Emit) -> Emit
-    ensures { λ r. ⌜ progress r (now (room .exit)) ≡
-        scan (places (flip (controlsFrom controls) (wireOf base)) ∷ frees base ∷ []) (progress st (now (room .entry))) ⌝ }
+pub fn finish(base: u16, site: &Site, room: &mut [u8], state: &mut State)
+    ensures { λ r. ⌜ progress (emitIn (now (state .exit))) (now (room .exit)) ≡
+        scan (places (flip (controlsFrom (now (site .entry))) (wireOf base)) ∷ frees base ∷ []) (progress (emitIn (now (state .entry))) (now (room .entry))) ⌝ }
 {
-    let flipped = emit_flip(controls, wire(base), room, st);
-    give_back(flipped, base)
+    emit_flip(site, wire(base), room, state);
+    give_back(state, base);
 }
 
-// A recursive call's ancilla is flipped "again at its place in the right". "A call with an empty list emits nothing"
-pub fn flip_again(list: QubitSet, controls: ControlLists, a: u16, room: &mut [u8], st: Emit) -> Emit
-    ensures { λ r. ⌜ progress r (now (room .exit))
-        ≡ scan (returns (membersOf list) (controlsFrom controls) (wireOf a)) (progress st (now (room .entry))) ⌝ }
+// The ancilla before one.
+fn before(a: u16) -> u16
+    ensures { λ r. ⌜ r ≡ a - 1 ⌝ }
 {
-    if list != 0 {
-        return emit_flip(controls, wire(a), room, st);
+    if a == 0 { 0 } else { a - 1 }
+}
+
+// A recursive call's ancilla is flipped "again at its place in the right": it is the one before `behind`, and is given. "A call with an empty list emits nothing"
+pub fn flip_again(list: QubitSet, site: &Site, behind: u16, room: &mut [u8], state: &mut State) -> u16
+    ensures { λ r. ⌜ r ≡ behind - length (invoked 0 (membersOf list) 0) ⌝ }
+    ensures { λ r. ⌜ progress (emitIn (now (state .exit))) (now (room .exit)) ≡
+        scan (returns (membersOf list) (controlsFrom (now (site .entry))) (wireOf r)) (progress (emitIn (now (state .entry))) (now (room .entry))) ⌝ }
+{
+    if list == 0 {
+        return behind;
     }
-    st
+    let a = before(behind);
+    emit_flip(site, wire(a), room, state);
+    a
 }

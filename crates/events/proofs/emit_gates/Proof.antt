@@ -1,22 +1,27 @@
 -- `emit_gates` meets its contract: each way out is one law.
 use Rattle.events.proofs.EntryGates.{gating}
-use borrow.Author.Needs.{needs}
 use Rattle.events.proofs.emit_gates.Statement.{statement}
 use Rattle.events.proofs.emit_gates.Tie as tie
 
 pub emit-gates-spec : {M : Type 1} → statement M
 emit-gates-spec = tie.close (tie.spec
-    (λ c κs. search needs)
-    (λ c κs. search needs)
-    (λ c κs. search needs)
-    (λ c κs. search needs)
-    (λ c κs. search needs)
-    (λ c κs. search needs)
-    (λ c κs. search needs)
-    (λ c κs. search needs)
-    (λ c. search needs)
+    (λ c κs. search gating)
+    (λ c κs. search gating)
+    (λ c κs. search gating)
+    (λ c κs. search gating)
+    (λ c κs. search gating)
+    (λ c κs. search gating)
     (λ c. search gating)
-    (λ c κs. search needs)
-    (λ c κs. search needs)
-    (λ c. search needs)
+    (λ c. search gating)
+    (λ c. search gating)
+    (λ c. search gating)
+    (λ c κs. search gating)
+    (λ c κs. search gating)
+    (λ c κs. search gating)
+    (λ c κs. search gating)
+    (λ c. search gating)
+    (λ c. search gating)
+    (λ c κs. search gating)
+    (λ c κs. search gating)
+    (λ c. search gating)
     (λ c. search gating))
