@@ -14,7 +14,7 @@ use Rattle.model.specs.Limits.{mostWires, mostDepth, mostCircuit}
 use Rattle.model.specs.Syntax.{Program, body}
 use Rattle.model.specs.Lists.{member}
 use Rattle.model.specs.Reach.{recursive}
-use Rattle.model.specs.Gates.{Controls, withControl, insert, Gate, flip}
+use Rattle.model.specs.Gates.{Controls, Gate, flip}
 use Rattle.model.specs.Emission.{
   Event, places, frees, Chains, startChain, Invocation, invocation, invoked, invokes, left, right, under, allEntryGates, Emitted, bodyInvocations,
   around, bodies, bodiesFrom, chainsWithin,
@@ -27,18 +27,18 @@ use Rattle.agreement.proofs.AncillaStack.{only-reverse, entries-only, bodies-st
 use Rattle.decoded.specs.DecodedTable.{procedureCount, rootOf, statementAt, programAt}
 use Rattle.reach.proofs.MatrixOfAProgram.{count-at, body-at}
 use Rattle.step.proofs.StatementAtARecord.{spent-skip}
+use Rattle.controls.specs.ControlWords.{controlsFrom, listFrom, At}
 use Rattle.widths.specs.KeptWidths.{WidthsKnown}
-use Rattle.events.specs.declared.Emit.{Emit}
-use Rattle.events.specs.Scan.{Progress, progress, emitOf, freed, placed, scan, slotProcedure, slotList, wireOf, slotOf, heldIn}
-use Rattle.events.specs.Slots.{appears, seekOf}
+use Rattle.events.specs.Scan.{Emit, Progress, progress, emitOf, freed, placed, scan, slotListLength, slotProcedure, slotList, wireOf, slotOf, Tallied, heldIn}
+use Rattle.events.specs.Slots.{appears, seekOf, entriesTo, longestBelow}
 use Rattle.events.specs.FollowedEvents.{Follows, Opens, Invokes}
 use Rattle.emit.specs.WalkPromises.{
-  Ready, Roomy, bodyDepth, KnownIn, chainsIn, bodiesUpTo, leftOf, rightOf, DoneIn, Call, walks-call, Left, Right, BodyLeft, walks-body-left, BodyRight,
+  Ready, bodyDepth, KnownIn, Before, chainsIn, bodiesUpTo, leftOf, rightOf, DoneIn, Call, walks-call, Left, Right, BodyLeft, walks-body-left, BodyRight,
   walks-body-right, Bodies,
   walks-bodies, Rest, walks-rest, Inner, walks-inner, Body, walks-body,
 }
 use Rattle.events.proofs.ScanOfEvents.{scan-append, scan-stopped, scan-places, scan-no-gate, scan-many, scan-frees, nextAfter, stacked-after}
-use Rattle.events.proofs.EntryGates.{scan-nothing}
+use Rattle.events.proofs.EntryGates.{scan-nothing, entries-are}
 use Rattle.events.proofs.ConsecutiveWalks.{
   gates-next, follows-none, follows-stopped, follows-gates, follows-next, follows-if, follows-as, follows-append, slot-kept, held-kept, appears-kept,
   held-append,
@@ -47,7 +47,7 @@ use Rattle.emit.proofs.WalkPreconditions.{ready-then}
 use Rattle.emit.proofs.WholeStatement.{left-next}
 use Rattle.emit.proofs.LeftPart.{was-ok, use-left, use-invokes}
 use Rattle.emit.proofs.RightPart.{use-right}
-use Rattle.emit.proofs.NextBody.{seek-low, seek-none, seek-found}
+use Rattle.emit.proofs.NextBody.{seek-low, seek-none, seek-found, longest-less, longest-most, skip-lengths}
 
 -- the bodies of a chain: where they end, and the whole of them
 module _ (prog : List ℕ) (k : ℕ) where
@@ -80,8 +80,8 @@ module _ {prog : List ℕ} {k : ℕ} {st : Emit} {room ws : List ℕ} {r : Emit}
         st room ws r room₁ ws₁
   use-body-left (walks-body-left g) = g
 
-  use-body-right : {d first : ℕ} → BodyRight prog k st room ws r room₁ ws₁ d first → Ready prog st ws → d ≤ mostWires →
-      (st .status ≡ 0 → first + length (bodyInvocations (programAt prog) (chainsIn prog k) (slotOf ws d) first) ≤ wireCount) →
+  use-body-right : {d behind : ℕ} → BodyRight prog k st room ws r room₁ ws₁ d behind → Ready prog st ws → d ≤ mostWires → (first : ℕ) →
+      (st .status ≡ 0 → Before behind first (length (bodyInvocations (programAt prog) (chainsIn prog k) (slotOf ws d) first))) →
       Follows (rightOf prog k (slotOf ws d) first (st .next)) st room ws r room₁ ws₁
   use-body-right (walks-body-right g) = g
 
@@ -101,7 +101,7 @@ module _ {prog : List ℕ} {k : ℕ} {st : Emit} {room ws : List ℕ} {r : Emit}
   use-body (walks-body g) = g
 
 -- the bodies of length n by the slot that is found
-module _ (prog : List ℕ) (k : ℕ) (ws : List ℕ) (base n j upto : ℕ) where
+module _ (prog : List ℕ) (k : ℕ) (ws : List ℕ) (T : Tallied ws) (base n j upto : ℕ) where
   no-bodies : (known : List ℕ) (calls all : List Invocation) (next : ℕ) → n ≡ 0 → [] ≡ bodiesUpTo prog k n known calls all next .events
   unfolding bodiesUpTo
   no-bodies known calls all next e = rw e
@@ -119,7 +119,7 @@ module _ (prog : List ℕ) (k : ℕ) (ws : List ℕ) (base n j upto : ℕ) where
   up-found (suc v) d q nz le known S all next e h =
     let low = seek-low ws base n j (upto - j) in
     let end : j + (upto - j) - (d + 1) ≡ upto - (d + 1) = omega arith in
-    let t = seek-found (programAt prog) (chainsIn prog k) ws base n (bodiesFrom (programAt prog) (chainsIn prog k) v) known all next j (upto - j) d
+    let t = seek-found (programAt prog) (chainsIn prog k) ws T base n (bodiesFrom (programAt prog) (chainsIn prog k) v) known all next j (upto - j) d
           le S e (omega arith) in
     (rw (q, ← end) (t .0), t .1)
 
@@ -131,49 +131,59 @@ module _ (prog : List ℕ) (k : ℕ) (ws : List ℕ) (base n j upto : ℕ) where
   up-none (suc v) d q nz le known S all next e h =
     let low = seek-low ws base n j (upto - j) in
     let less : suc v - 1 ≡ v = omega arith in
-    rw (less, q) (seek-none (programAt prog) (chainsIn prog k) ws base n
+    rw (less, q) (seek-none (programAt prog) (chainsIn prog k) ws T base n
       (bodiesFrom (programAt prog) (chainsIn prog k) v) known all next j (upto - j)
       le S (omega arith))
 
 -- the ways out of `emit_bodies`
 module _ {prog : List ℕ} {k : ℕ} {st : Emit} {room ws : List ℕ} {base n j upto : ℕ} where
-  pub bodies-stopped : (st .status ≡ 0 → ⊥) → Bodies prog k st room ws st room ws base n j upto
-  bodies-stopped h = walks-bodies (λ R a b c known S. follows-stopped _ st room ws h)
+  pub bodies-stopped : {s : ℕ} → s ≡ st .status → (s ≡ 0 → ⊥) → Bodies prog k st room ws st room ws base n j upto
+  bodies-stopped e h = walks-bodies (λ R a b c known S. follows-stopped _ st room ws (λ z. h (e ∙ z)))
 
   pub bodies-empty : n ≡ 0 → Bodies prog k st room ws st room ws base n j upto
   bodies-empty e = walks-bodies (λ R a b c known S. follows-as
-    (no-bodies prog k ws base n j upto known _ _ (st .next) e) (follows-none st room ws))
+    (no-bodies prog k ws (R .tallied) base n j upto known _ _ (st .next) e) (follows-none st room ws))
 
   module _ {r : Emit} {room₁ ws₁ : List ℕ} where
     pub bodies-found : {d : ℕ} → (n ≡ 0 → ⊥) → d ≡ seekOf ws base n j (upto - j) → d < upto →
         Body prog k st room ws r room₁ ws₁ base n d upto → Bodies prog k st room ws r room₁ ws₁ base n j upto
     bodies-found {d = d} nz e h A = walks-bodies (λ R le top over known S.
       let low = seek-low ws base n j (upto - j) in
-      let t = up-found prog k ws base n j upto n d refl nz le known S (heldIn ws base (st .next - base)) (st .next) e h in
+      let t = up-found prog k ws (R .tallied) base n j upto n d refl nz le known S (heldIn ws base (st .next - base)) (st .next) e h in
       follows-as (sym (ap (λ (o : Emitted). o .events) (t .0))) (use-body A R (omega arith) h top (slotProcedure ws d ∷ known) (t .1)))
 
-    pub bodies-on : {d : ℕ} → (n ≡ 0 → ⊥) → d ≡ seekOf ws base n j (upto - j) → upto ≤ d →
-        Bodies prog k st room ws r room₁ ws₁ base (n - 1) base (st .next) → Bodies prog k st room ws r room₁ ws₁ base n j upto
-    bodies-on {d = d} nz e h A = walks-bodies (λ R le top over known S.
+    pub bodies-on : {d next m : ℕ} → (n ≡ 0 → ⊥) → d ≡ seekOf ws base n j (upto - j) → upto ≤ d → next ≡ st .next → m ≡ longestBelow ws base (next - base) n →
+        Bodies prog k st room ws r room₁ ws₁ base m base next → Bodies prog k st room ws r room₁ ws₁ base n j upto
+    bodies-on {d = d} {m = m} nz e h is longest B = walks-bodies (λ R le top over known S.
+      let P = programAt prog in
+      let ch = chainsIn prog k in
+      let A = rw is at B in
+      let is-m : m ≡ longestBelow ws base (st .next - base) n = rw is at longest in
+      let less = longest-less ws base (st .next - base) n m is-m nz in
       let all = heldIn ws base (st .next - base) in
+      let skipped = skip-lengths P ch ws (R .tallied) base (st .next - base) (st .next) m (n - 1) (omega arith)
+            (λ i l g x y. let z = longest-most ws base (st .next - base) n i l g (omega arith) in clash-lengths (slotListLength ws i) m _ is-m x z) in
       follows-as
-        (ap (λ (o : Emitted). o .events) (bodies-all prog k (n - 1) all (st .next) ∙
-          sym (up-none prog k ws base n j upto n d refl nz le known S all (st .next) e h)))
-        (use-bodies A R (le-refl base) (le-refl (st .next)) over [] (none-done ws base (n - 1))))
+        (ap (λ (o : Emitted). o .events) (bodies-all prog k m all (st .next) ∙ sym skipped ∙
+          sym (up-none prog k ws (R .tallied) base n j upto n d refl nz le known S all (st .next) e h)))
+        (use-bodies A R (le-refl base) (le-refl (st .next)) over [] (none-done ws base m)))
+      where
+        clash-lengths : (a m l : ℕ) → m ≡ l → m < a → a ≤ l → ⊥
+        clash-lengths a m l e x z = omega arith
 
 -- the ways out of `emit_rest`: the bodies that follow and the right part
-module _ {prog : List ℕ} {k : ℕ} {st : Emit} {room ws : List ℕ} {base n d upto first : ℕ} where
-  pub rest-past : upto ≤ d → Rest prog k st room ws st room ws base n d upto first
-  rest-past h = walks-rest (λ R le lt top over Q known S. not-below d upto h lt)
+module _ {prog : List ℕ} {k : ℕ} {st : Emit} {room ws : List ℕ} {base n d upto : ℕ} where
+  pub rest-past : upto ≤ d → Rest prog k st room ws st room ws base n d upto
+  rest-past h = walks-rest (λ R le lt first top over Q known S. not-below d upto h lt)
 
-  pub rest-walk : {a : Emit} {room₁ ws₁ : List ℕ} {b : Emit} {room₂ ws₂ : List ℕ} → d < upto →
-      Bodies prog k st room ws a room₁ ws₁ base n (d + 1) upto → BodyRight prog k a room₁ ws₁ b room₂ ws₂ d first →
-      Rest prog k st room ws b room₂ ws₂ base n d upto first
-  rest-walk {a = a} {ws₁ = ws₁} h A B = walks-rest (λ R le lt top over Q known S.
+  pub rest-walk : {a : Emit} {room₁ ws₁ : List ℕ} {b : Emit} {room₂ ws₂ : List ℕ} {behind : ℕ} → d < upto → behind ≡ st .next →
+      Bodies prog k st room ws a room₁ ws₁ base n (d + 1) upto → BodyRight prog k a room₁ ws₁ b room₂ ws₂ d behind →
+      Rest prog k st room ws b room₂ ws₂ base n d upto
+  rest-walk {a = a} {ws₁ = ws₁} h is A B = walks-rest (λ R le lt first top over Q known S.
     let F = use-bodies A R (omega arith) (omega arith) (omega arith) known S in
     let slot : slotOf ws₁ d ≡ slotOf ws d = slot-kept ws ws₁ (st .next) (F .kept) d (omega arith) in
     let small = R .low in
-    let G = use-body-right B (ready-then R F) (omega arith) (λ ok. rw slot (Q (was-ok F ok))) in
+    let G = use-body-right B (ready-then R F) (omega arith) first (λ ok. rw (slot, is) (Q (was-ok F ok))) in
     let later = heldIn ws (d + 1) (upto - (d + 1)) in
     let all = heldIn ws base (st .next - base) in
     follows-append F (follows-if
@@ -181,9 +191,9 @@ module _ {prog : List ℕ} {k : ℕ} {st : Emit} {room ws : List ℕ} {base n d 
 
 -- the ways out of `emit_inner`: the left part, then the rest
 module _ {prog : List ℕ} {k : ℕ} {st : Emit} {room ws : List ℕ} {base n d upto : ℕ} where
-  use-rest : {first : ℕ} {r : Emit} {room₁ ws₁ : List ℕ} → Rest prog k st room ws r room₁ ws₁ base n d upto first →
-      Ready prog st ws → base ≤ d → d < upto → upto ≤ first → first ≤ st .next →
-      (st .status ≡ 0 → first + length (bodyInvocations (programAt prog) (chainsIn prog k) (slotOf ws d) first) ≤ wireCount) →
+  use-rest : {r : Emit} {room₁ ws₁ : List ℕ} → Rest prog k st room ws r room₁ ws₁ base n d upto →
+      Ready prog st ws → base ≤ d → d < upto → (first : ℕ) → upto ≤ first → first ≤ st .next →
+      (st .status ≡ 0 → Before (st .next) first (length (bodyInvocations (programAt prog) (chainsIn prog k) (slotOf ws d) first))) →
       (known : List ℕ) → DoneIn ws base n (d + 1) known →
       Follows
         (let inner = bodiesUpTo prog k n known (heldIn ws (d + 1) (upto - (d + 1))) (heldIn ws base (st .next - base)) (st .next) in
@@ -192,7 +202,7 @@ module _ {prog : List ℕ} {k : ℕ} {st : Emit} {room ws : List ℕ} {base n d 
 
 module _ {prog : List ℕ} {k : ℕ} {st : Emit} {room ws : List ℕ} {base n d upto : ℕ} where
   pub inner-walk : {a : Emit} {room₁ ws₁ : List ℕ} {b : Emit} {room₂ ws₂ : List ℕ} → BodyLeft prog k st room ws a room₁ ws₁ d →
-      Rest prog k a room₁ ws₁ b room₂ ws₂ base n d upto (st .next) → Inner prog k st room ws b room₂ ws₂ base n d upto
+      Rest prog k a room₁ ws₁ b room₂ ws₂ base n d upto → Inner prog k st room ws b room₂ ws₂ base n d upto
   inner-walk {a = a} {ws₁ = ws₁} A B = walks-inner (λ R le lt top known S.
     let P = programAt prog in
     let ch = chainsIn prog k in
@@ -213,7 +223,7 @@ module _ {prog : List ℕ} {k : ℕ} {st : Emit} {room ws : List ℕ} {base n d 
           let w : base + (st .next - base) ≡ st .next = omega arith in
           rw (e, held-append ws₁ base (st .next - base) (length news), w, O .held ok,
             held-kept ws ws₁ (st .next) (F .kept) base (st .next - base) (omega arith)) in
-    let G = use-rest B R₁ le lt top (F .rises) (λ ok. rw slot (let z = up ok in let l = R₁ .low in omega arith)) known done₁ in
+    let G = use-rest B R₁ le lt (st .next) top (F .rises) (λ ok. rw slot (record { ends = up ok; wires = R₁ .low })) known done₁ in
     follows-append F (follows-if (λ ok. rw (slot, later, all ok, up ok)) G))
 
   use-inner : {r : Emit} {room₁ ws₁ : List ℕ} → Inner prog k st room ws r room₁ ws₁ base n d upto →
@@ -245,11 +255,12 @@ around-is P ch d later next inner =
 
 module _ {prog : List ℕ} {k : ℕ} {st : Emit} {room ws : List ℕ} {base n d upto : ℕ} where
   pub body-walk : {a : Emit} {room₁ : List ℕ} {b : Emit} {room₂ ws₂ : List ℕ} {r : Emit} {room₃ : List ℕ} → d < upto →
-      progress a room₁ ≡ scan (allEntryGates (slotOf ws d) (heldIn ws (d + 1) (upto - (d + 1)))) (progress st room) →
+      progress a room₁ ≡ scan (entriesTo ws d (d + 1) (upto - (d + 1))) (progress st room) →
       Inner prog k a room₁ ws b room₂ ws₂ base n d upto →
-      progress r room₃ ≡ scan (reverse (allEntryGates (slotOf ws₂ d) (heldIn ws₂ (d + 1) (upto - (d + 1))))) (progress b room₂) →
+      progress r room₃ ≡ scan (reverse (entriesTo ws₂ d (d + 1) (upto - (d + 1)))) (progress b room₂) →
       Body prog k st room ws r room₃ ws₂ base n d upto
-  body-walk {a = a} {room₁ = room₁} {b = b} {room₂ = room₂} {ws₂ = ws₂} {r = r} {room₃ = room₃} h e A q = walks-body (λ R le lt top known S.
+  body-walk {a = a} {room₁ = room₁} {b = b} {room₂ = room₂} {ws₂ = ws₂} {r = r} {room₃ = room₃} h e₀ A q₀ = walks-body (λ R le lt top known S.
+    let e = rw (entries-are ws (R .tallied) d (d + 1) (upto - (d + 1))) at e₀ in
     let s = slotOf ws d in
     let later = heldIn ws (d + 1) (upto - (d + 1)) in
     let E = allEntryGates s later in
@@ -259,6 +270,7 @@ module _ {prog : List ℕ} {k : ℕ} {st : Emit} {room ws : List ℕ} {base n d 
     let G = use-inner A (ready-then R F) le lt (omega arith) known S in
     let slot : slotOf ws₂ d ≡ s = slot-kept ws ws₂ (a .next) (G .kept) d (omega arith) in
     let held : heldIn ws₂ (d + 1) (upto - (d + 1)) ≡ later = held-kept ws ws₂ (a .next) (G .kept) (d + 1) (upto - (d + 1)) (omega arith) in
+    let q = rw (entries-are ws₂ (G .tallied (R .tallied)) d (d + 1) (upto - (d + 1))) at q₀ in
     let H = follows-gates (reverse E) b room₂ ws₂ r room₃ (only-reverse E only) (rw (slot, held) at q) in
     let news = bodyInvocations (programAt prog) (chainsIn prog k) s (st .next) in
     let inner = bodiesUpTo prog k n known later (heldIn ws base (st .next - base) ++ news) (st .next + length news) in
@@ -282,32 +294,26 @@ module _ (prog : List ℕ) (f i depth : ℕ) (at : i ≡ rootOf prog f) (deep : 
       (λ lt. spent-skip prog depth i (body-none lt) ∙ sym (body-out (programAt prog) f (rw (count-at prog) lt)))
       (λ le. rw (body-all le, at) (sym (body-at prog f le)))
 
-  under-roomy : (w : ℕ) (cs : Controls) → cs ≡ under w → Roomy depth cs
-  unfolding withControl insert
-  under-roomy w cs e = byLt p f
-      (λ lt. let none = body-none lt in rw e (record { ones = omega arith; zeros = omega arith }))
-      (λ le. let all = body-all le in rw e (record { ones = omega arith; zeros = omega arith }))
-
   body-known : WidthsKnown prog → KnownIn prog f depth i
   body-known known nz = byLt p f (λ lt. absurd (nz (body-none lt))) (λ le. rw (body-all le, at) (known f le))
 
 -- the ways out of `emit_body_left` and `emit_body_right`
-module _ {prog : List ℕ} {k : ℕ} {st : Emit} {room ws : List ℕ} {d : ℕ} {r : Emit} {room₁ ws₁ : List ℕ} {f i depth w : ℕ} {l : List ℕ}
-    {cs : Controls} (is-f : f ≡ slotProcedure ws d) (is-l : l ≡ slotList ws d) (at : i ≡ rootOf prog f)
-    (deep : depth ≡ bodyDepth (procedureCount prog) f) (is-w : w ≡ wireOf d) (is-cs : cs ≡ under w) where
-  pub body-left-walk : Left prog k st room ws r room₁ ws₁ i depth l cs → BodyLeft prog k st room ws r room₁ ws₁ d
+module _ {prog : List ℕ} {k : ℕ} {st : Emit} {room ws : List ℕ} {d : ℕ} {r : Emit} {room₁ ws₁ : List ℕ} {f i depth w : ℕ} {l site : List ℕ}
+    (is-f : f ≡ slotProcedure ws d) (is-w : w ≡ wireOf d) (is-l : l ≡ slotList ws d) (here : At site l (under w)) (at : i ≡ rootOf prog f)
+    (deep : depth ≡ bodyDepth (procedureCount prog) f) where
+  pub body-left-walk : Left prog k st room ws r room₁ ws₁ i depth (listFrom site) (controlsFrom site) → BodyLeft prog k st room ws r room₁ ws₁ d
   unfolding slotOf
   body-left-walk A = walks-body-left (λ R h.
-    let O = use-left f A (body-known prog f i depth at deep (R .widths)) R (under-roomy prog f i depth at deep w cs is-cs) in
-    rw (body-is prog f i depth at deep, is-f, is-l, is-cs, is-w) at O)
+    let O = use-left f A (body-known prog f i depth at deep (R .widths)) R in
+    rw (body-is prog f i depth at deep, here .list, here .controls, is-f, is-l, is-w) at O)
 
-  pub body-right-walk : {first : ℕ} → Right prog k st room ws r room₁ ws₁ i depth l cs first →
-      BodyRight prog k st room ws r room₁ ws₁ d first
+  pub body-right-walk : {behind given : ℕ} → Right prog k st room ws r room₁ ws₁ i depth (listFrom site) (controlsFrom site) behind given →
+      BodyRight prog k st room ws r room₁ ws₁ d behind
   unfolding slotOf
-  body-right-walk {first = first} A = walks-body-right (λ R h Q.
-    let F = use-right f A (body-known prog f i depth at deep (R .widths)) R (under-roomy prog f i depth at deep w cs is-cs)
-          (λ ok. rw (body-is prog f i depth at deep, is-f, is-l) (Q ok)) in
-    rw (body-is prog f i depth at deep, is-f, is-l, is-cs, is-w) at F)
+  body-right-walk A = walks-body-right (λ R h first Q.
+    let F = use-right f A (body-known prog f i depth at deep (R .widths)) R first
+          (λ ok. rw (body-is prog f i depth at deep, here .list, is-f, is-l) (Q ok)) in
+    rw (body-is prog f i depth at deep, here .list, here .controls, is-f, is-l, is-w) at (F .0))
 
 -- a chain's end: its first ancilla is flipped back, and all its ancillas are given back
 finish-between : (g : Gate) (a : ℕ) (b : Emit) (room : List ℕ) → a ≤ b .next →
@@ -339,7 +345,8 @@ follows-finish {xs = xs} {st = st} {room = room} {b = b} {room₁ = room₁} {r 
       long = F .long;
       rises = rw n (t .0);
       low = λ k. let a = F .low k in let c = t .1 in rw n (omega arith);
-      kept = F .kept }
+      kept = F .kept;
+      tallied = F .tallied }
 
 start-is : (ch : Chains) (f : ℕ) (l : List ℕ) (cs : Controls) (next : ℕ) → (length l ≡ 0 → ⊥) →
     (invokes l cs next ++ (ch f l next ++ (places (flip cs next) ∷ frees next ∷ []))) ≡ startChain ch f l cs next
@@ -382,18 +389,19 @@ taken-low {f = f} {l = l} {cs = cs} {st = st} {a = a} A some space small ok =
 
 -- the ways out of `emit_call`
 module _ {prog : List ℕ} {k : ℕ} {st : Emit} {room ws : List ℕ} {f : ℕ} {l : List ℕ} {cs : Controls} where
-  pub call-stopped : (st .status ≡ 0 → ⊥) → Call prog k st room ws st room ws f l cs
-  call-stopped h = walks-call (λ R. follows-stopped _ st room ws h)
+  pub call-stopped : {s : ℕ} → s ≡ st .status → (s ≡ 0 → ⊥) → Call prog k st room ws st room ws f l cs
+  call-stopped e h = walks-call (λ R. follows-stopped _ st room ws (λ z. h (e ∙ z)))
 
   module _ {n : ℕ} (is : n ≡ length l) where
     pub call-empty : n ≡ 0 → Call prog k st room ws st room ws f l cs
     call-empty e = walks-call (λ R. follows-as (no-start (chainsIn prog k) f l cs (st .next) (sym is ∙ e)) (follows-none st room ws))
 
     module _ {a : Emit} {room₁ ws₁ : List ℕ} (nz : n ≡ 0 → ⊥) (A : Invokes f l cs st room ws a room₁ ws₁) where
-      pub call-flat : {r : Emit} {room₂ : List ℕ} → k ≡ 0 →
-          progress r room₂ ≡ scan (places (flip cs (wireOf (st .next))) ∷ frees (st .next) ∷ []) (progress a room₁) →
+      pub call-flat : {base : ℕ} {r : Emit} {room₂ : List ℕ} → base ≡ st .next → k ≡ 0 →
+          progress r room₂ ≡ scan (places (flip cs (wireOf base)) ∷ frees base ∷ []) (progress a room₁) →
           Call prog k st room ws r room₂ ws₁ f l cs
-      call-flat e q = walks-call (λ R.
+      call-flat is-base e u = walks-call (λ R.
+        let q = rw is-base at u in
         let O = use-invokes A (R .space) in
         follows-as
           (ap (λ (es : List Event). invokes l cs (st .next) ++ (es ++ (places (flip cs (st .next)) ∷ frees (st .next) ∷ [])))
@@ -402,11 +410,13 @@ module _ {prog : List ℕ} {k : ℕ} {st : Emit} {room ws : List ℕ} {f : ℕ} 
           (follows-finish (flip cs (wireOf (st .next))) (flip cs (st .next)) (O .follows)
             (λ ok. ap (flip cs) (taken-low A (λ e. nz (is ∙ e)) (R .space) (R .low) ok .1)) q))
 
-      pub call-chain : {b : Emit} {room₂ ws₂ : List ℕ} {r : Emit} {room₃ : List ℕ} → (k ≡ 0 → ⊥) →
-          Bodies prog (k - 1) a room₁ ws₁ b room₂ ws₂ (st .next) n (st .next) (a .next) →
-          progress r room₃ ≡ scan (places (flip cs (wireOf (st .next))) ∷ frees (st .next) ∷ []) (progress b room₂) →
+      pub call-chain : {base upto : ℕ} {b : Emit} {room₂ ws₂ : List ℕ} {r : Emit} {room₃ : List ℕ} → base ≡ st .next → (k ≡ 0 → ⊥) → upto ≡ a .next →
+          Bodies prog (k - 1) a room₁ ws₁ b room₂ ws₂ base n base upto →
+          progress r room₃ ≡ scan (places (flip cs (wireOf base)) ∷ frees base ∷ []) (progress b room₂) →
           Call prog k st room ws r room₃ ws₂ f l cs
-      call-chain {b = b} {room₂ = room₂} {ws₂ = ws₂} h B q = walks-call (λ R.
+      call-chain {b = b} {room₂ = room₂} {ws₂ = ws₂} is-base h is-upto C u = walks-call (λ R.
+        let B = rw (is-base, is-upto) at C in
+        let q = rw is-base at u in
         let P = programAt prog in
         let some : length l ≡ 0 → ⊥ = λ e. nz (is ∙ e) in
         let next = st .next in

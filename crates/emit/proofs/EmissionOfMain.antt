@@ -1,5 +1,5 @@
 -- Main emitted from its start: the whole emission is scanned.
-use mathlib.Core.Path.{_≡_, ap, _∙_}
+use mathlib.Core.Path.{_≡_, refl, ap, _∙_}
 use mathlib.Core.List.{List}
 use Prim.Native.Nat.{ℕ, suc, _+_, _≤_, _<_, min}
 use native.Mathlib.Omega.{arith}
@@ -14,9 +14,9 @@ use Rattle.model.specs.Emission.{whole, emission}
 use Rattle.decoded.specs.DecodedTable.{procedureCount, rootOf, statementAt, programAt}
 use Rattle.widths.specs.KeptWidths.{WidthsKnown}
 use Rattle.reach.proofs.MatrixOfAProgram.{count-at}
-use Rattle.events.specs.declared.Emit.{Emit}
-use Rattle.events.specs.Scan.{progress, scan, begun}
-use Rattle.emit.specs.WalkPromises.{bodyDepth, Ready, Roomy, chainsIn, Whole, Emits, walks-main}
+use Rattle.controls.specs.ControlWords.{controlsFrom, listFrom, At}
+use Rattle.events.specs.Scan.{Emit, progress, scan, begun, Tallied}
+use Rattle.emit.specs.WalkPromises.{bodyDepth, Ready, chainsIn, Whole, Emits, walks-main}
 use Rattle.emit.proofs.WholeStatement.{use-whole}
 
 -- the emission as a walk over the program
@@ -29,18 +29,18 @@ emission-is prog n k root l cs h e a q c =
     let next : n + 1 ≡ suc n = omega arith in
     rw (e, a, q, c, all, next, count-at prog)
 
-pub main-walk : {prog : List ℕ} {n : ℕ} {room ws : List ℕ} {r : Emit} {room₁ ws₁ : List ℕ} {k root : ℕ} {l : List ℕ} {cs : Controls} →
-    k ≡ procedureCount prog → root ≡ rootOf prog 0 → l ≡ qubits (min n mostQubits) → cs ≡ noControls → Whole prog k (begun n) room ws r room₁ ws₁ root mostDepth l cs →
-    Emits prog n room ws r room₁ ws₁
-main-walk {prog = prog} {n = n} {room = room} {ws = ws} {k = k} {root = root} {l = l} {cs = cs} e a q c A =
-    walks-main (λ few widths small space.
-    let R : Ready prog (begun n) ws = record { few = few; widths = widths; some = omega arith; low = omega arith; space = space } in
-    let C : Roomy mostDepth cs = rw c (record { ones = omega arith; zeros = omega arith }) in
-    let F = use-whole A R C in
-    (F .scanned ∙ ap (λ es. scan es (progress (begun n) room)) (emission-is prog n k root l cs small e a q c), F .long))
+pub main-walk : {prog : List ℕ} {n : ℕ} {st : Emit} {room ws : List ℕ} {r : Emit} {room₁ ws₁ : List ℕ} {k root : ℕ} {l site : List ℕ} →
+    st ≡ begun n → k ≡ procedureCount prog → root ≡ rootOf prog 0 → l ≡ qubits (min n mostQubits) → At site l noControls →
+    Whole prog k st room ws r room₁ ws₁ root mostDepth (listFrom site) (controlsFrom site) → Emits prog n room ws r room₁ ws₁
+main-walk {prog = prog} {n = n} {room = room} {ws = ws} {k = k} {root = root} {l = l} b e a q c W =
+    walks-main (λ few widths small space tallied.
+    let A = rw (b, c .list, c .controls) at W in
+    let R : Ready prog (begun n) ws = record { few = few; widths = widths; some = omega arith; low = omega arith; space = space; tallied = tallied } in
+    let F = use-whole A R in
+    (F .scanned ∙ ap (λ es. scan es (progress (begun n) room)) (emission-is prog n k root l noControls small e a q refl), F .long))
 
 pub use-main : {prog : List ℕ} {n : ℕ} {room ws : List ℕ} {r : Emit} {room₁ ws₁ : List ℕ} → Emits prog n room ws r room₁ ws₁ →
-    procedureCount prog ≤ mostProcedures → WidthsKnown prog → n ≤ mostQubits → slotsLength ≤ length ws →
+    procedureCount prog ≤ mostProcedures → WidthsKnown prog → n ≤ mostQubits → slotsLength ≤ length ws → Tallied ws →
     (progress r room₁ ≡ scan (emission (programAt prog) n) (progress (begun n) room)) × (length ws₁ ≡ length ws)
 use-main (walks-main g) = g
 

@@ -13,13 +13,10 @@ use Rattle.model.specs.Lists.{holds}
 use Rattle.model.specs.Reach.{recursive, width}
 use Rattle.model.specs.Emission.{isWide}
 use Rattle.model.proofs.BooleanLaws.{byLt, byBool}
-use Rattle.records.specs.declared.Record.{Record}
-use Rattle.records.specs.declared.Record.the-variants as kind
-use Rattle.decoded.specs.RecordWords.{rowAt}
-use Rattle.decoded.specs.DecodedTable.{widthIn, removalsIn, recordIn, testAt, statementAt, programAt}
+use Rattle.decoded.specs.DecodedTable.{widthIn, removalsIn, testAt, statementAt, programAt}
 use Rattle.step.specs.declared.Step.{Step}
 use Rattle.step.specs.declared.Step.the-variants as step
-use Rattle.step.specs.Steps.{stepOf, stepAt}
+use Rattle.step.specs.Steps.{stepAt}
 use Rattle.step.proofs.StatementAtARecord.{at-step}
 use Rattle.reach.specs.declared.Parts.{Parts}
 use Rattle.reach.specs.declared.Parts.the-variants as parts
@@ -42,30 +39,14 @@ width-told r prog d i K e = rw (e, known-width r prog d i K) (capped (width r (s
       (λ l. let c : 0 < min 2 n = omega arith in rw (lt-ltb 0 n l, lt-ltb 0 (min 2 n) c))
       (λ l. let c : min 2 n ≤ 0 = omega arith in rw (le-ltb 0 n l, le-ltb 0 (min 2 n) c))
 
--- the parts of a record do not depend on the list
-parts-any : (prog : List ℕ) (i : ℕ) (l : List ℕ) (r : Record) → partsOf (stepOf prog i l r) ≡ partsOf (stepOf prog i [] r)
-unfolding partsOf stepOf
-parts-any prog i l kind.Skip = refl
-parts-any prog i l (kind.Not at a) = refl
-parts-any prog i l kind.Sequence = refl
-parts-any prog i l kind.If = refl
-parts-any prog i l (kind.Qcase at a) = refl
-parts-any prog i l (kind.Call at f) = refl
-parts-any prog i l (kind.Greater a b) = refl
-parts-any prog i l (kind.AtLeast a b) = refl
-parts-any prog i l (kind.Equal a b) = refl
-parts-any prog i l kind.And = refl
-parts-any prog i l kind.Or = refl
-parts-any prog i l kind.Negation = refl
-
-module _ (prog l : List ℕ) (depth i f : ℕ) {found : Step} (nz : depth ≡ 0 → ⊥) (is : found ≡ stepAt prog i l) where
+module _ (prog l : List ℕ) (depth i f : ℕ) {found : Step} (nz : depth ≡ 0 → ⊥) (is : found ≡ stepAt prog i) where
   abbrev rec : ℕ → Bool
   rec = recursive (programAt prog) f
 
   -- what is known of the parts
   parts-known : (x : Step) → found ≡ x → KnownIn prog f depth i → OfParts (Known rec prog (depth - 1)) (partsOf x)
   unfolding Known
-  parts-known x e K = rw (← e, is, parts-any prog i l (recordIn prog (rowAt i))) (by depth nz (K nz))
+  parts-known x e K = rw (← e, is) (by depth nz (K nz))
     where
       by : (depth : ℕ) → (depth ≡ 0 → ⊥) → Known rec prog depth i → OfParts (Known rec prog (depth - 1)) (partsAt prog i)
       by zero f K = absurd (f refl)
@@ -75,9 +56,9 @@ module _ (prog l : List ℕ) (depth i f : ℕ) {found : Step} (nz : depth ≡ 0 
   unfolding partsOf
   known-sequence {a = a} {b = b} e K = parts-known (step.Sequence a b) e K
 
-  pub known-branches : {q a b : ℕ} → found ≡ step.Branches q a b → KnownIn prog f depth i → Known rec prog (depth - 1) a × Known rec prog (depth - 1) b
+  pub known-branches : {at a b : ℕ} → found ≡ step.Branches at a b → KnownIn prog f depth i → Known rec prog (depth - 1) a × Known rec prog (depth - 1) b
   unfolding partsOf
-  known-branches {q = q} {a = a} {b = b} e K = parts-known (step.Branches q a b) e K
+  known-branches {at = at} {a = a} {b = b} e K = parts-known (step.Branches at a b) e K
 
   pub known-chosen : {c a b x : ℕ} → found ≡ step.Chooses c a b → x ≡ cond (holds (testAt prog (depth - 1) c) l) a b → KnownIn prog f depth i →
       KnownIn prog f (depth - 1) x
@@ -91,7 +72,7 @@ module _ (prog l : List ℕ) (depth i f : ℕ) {found : Step} (nz : depth ≡ 0 
   unfolding width digit
   call-told {q = q} {at = at} e K h =
       let w : widthIn prog i ≡ min 2 (width rec (statementAt prog depth i)) = known-width rec prog depth i (K nz) in
-      let s : statementAt prog depth i ≡ call (removalsIn prog at) q = at-step prog depth i l nz is e in
+      let s : statementAt prog depth i ≡ call (removalsIn prog at) q = at-step prog depth i nz is e in
       let v : widthIn prog i ≡ min 2 (width rec (call (removalsIn prog at) q)) = rw s at w in
       rw (h, v) (told (rec q))
     where

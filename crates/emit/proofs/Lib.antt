@@ -1,6 +1,5 @@
 pub mod WalkPreconditions
 pub mod KnownParts
-pub mod CallCounts
 pub mod WholeStatement
 pub mod LeftPart
 pub mod RightPart

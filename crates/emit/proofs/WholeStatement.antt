@@ -1,52 +1,32 @@
 -- The ways out of the walkers over statements: one law for each, its premises what the calls on that way promise, in their order.
-use mathlib.Core.Path.{_≡_, refl, sym, ap, _∙_, subst}
+use mathlib.Core.Path.{_≡_, sym, ap, _∙_}
 use mathlib.Core.Bool.{Bool, true, false, cond}
 use mathlib.Core.List.{List, [], _∷_, _++_}
-use Prim.Native.Nat.{ℕ, suc, _+_, _-_, _<_}
+use Prim.Native.Nat.{ℕ, _+_, _-_, _≤_, _<_}
 use native.Mathlib.Omega.{arith}
 use borrow.Author.Needs.{needs}
 use lib.ListN.{length}
-use lib.Dec.{ltb}
+use Rattle.limits.specs.Sizes.{setLength}
 use Rattle.model.specs.Syntax.{Number, Statement, skip, NOT, sequence, qcase, call}
 use Rattle.model.specs.Lists.{remaining, touched, holds}
-use Rattle.model.specs.Gates.{Controls, withControl, insert, flip}
+use Rattle.model.specs.Gates.{Controls, withControl, flip}
 use Rattle.model.specs.Emission.{places, Chains, startChain, whole, invocations, left, right}
-use Rattle.model.proofs.BooleanLaws.{byBool}
 use Rattle.agreement.proofs.AncillaStack.{StackedChains, whole-stacked, left-stacked, right-stacked, chains-stacked}
 use Rattle.agreement.proofs.EmissionClauses.{whole-yes, whole-no}
-use Rattle.circuit.specs.GatesToWrite.{withControlWithin}
+use Rattle.controls.specs.ControlWords.{withQubit, controlsFrom, listFrom, At}
+use Rattle.controls.proofs.ControlSets.{qubit-asked}
 use Rattle.decoded.specs.DecodedTable.{removalsIn, testAt, statementAt, programAt}
 use Rattle.step.specs.declared.Step.{Step}
 use Rattle.step.specs.declared.Step.the-variants as step
-use Rattle.step.specs.Steps.{stepAt}
-use Rattle.step.proofs.StatementAtARecord.{Idle, at-step, idle-skip, spent-skip}
+use Rattle.step.specs.Steps.{touchedBy, stepAt}
+use Rattle.step.proofs.StatementAtARecord.{Idle, at-step, at-touches, at-branches, idle-skip, spent-skip}
 use Rattle.step.proofs.ChosenBranch.{chosen-means}
-use Rattle.events.specs.declared.Emit.{Emit}
-use Rattle.events.specs.Scan.{progress, scan}
+use Rattle.events.specs.Scan.{Emit, progress, scan}
 use Rattle.events.specs.FollowedEvents.{Follows}
-use Rattle.emit.specs.WalkPromises.{Ready, Roomy, chainsIn, Whole, walks-whole, Call, walks-call}
-use Rattle.circuit.proofs.ControlInsertion.{with-control-takes}
+use Rattle.emit.specs.WalkPromises.{Ready, chainsIn, Whole, walks-whole, Call, walks-call}
 use Rattle.events.proofs.ScanOfEvents.{nextAfter, stacked-after}
 use Rattle.events.proofs.ConsecutiveWalks.{follows-none, follows-stopped, follows-gates, follows-next, follows-if, follows-as, follows-append}
 use Rattle.emit.proofs.WalkPreconditions.{ready-then}
-
--- controls within their room
-insert-length : (w : ℕ) (l : List ℕ) → length (insert w l) ≡ suc (length l)
-unfolding insert
-insert-length w [] = refl
-insert-length w (x ∷ l) = byBool (ltb w x) (λ e. rw (e, insert)) (λ e. rw (e, insert) (ap suc (insert-length w l)))
-
-module _ {depth : ℕ} {cs : Controls} (nz : depth ≡ 0 → ⊥) (C : Roomy depth cs) where
-  pub within-is : (w : ℕ) (b : Bool) → withControlWithin w b cs ≡ withControl w b cs
-  within-is w b = with-control-takes w b cs (omega (arith, C .ones)) (omega (arith, C .zeros))
-
-  pub roomy-less : Roomy (depth - 1) cs
-  roomy-less = record { ones = omega (arith, C .ones); zeros = omega (arith, C .zeros) }
-
-  pub roomy-with-control : (w : ℕ) (b : Bool) → Roomy (depth - 1) (withControl w b cs)
-  unfolding withControl
-  roomy-with-control w true = record { ones = rw (insert-length w (cs .ones)) (omega (arith, C .ones)); zeros = omega (arith, C .zeros) }
-  roomy-with-control w false = record { ones = omega (arith, C .ones); zeros = rw (insert-length w (cs .zeros)) (omega (arith, C .zeros)) }
 
 -- the next wire behind a statement's events
 module _ (prog : List ℕ) (k : ℕ) where
@@ -90,7 +70,7 @@ module _ (ch : Chains) (l : List ℕ) (cs : Controls) (next : ℕ) (s : Statemen
 module _ {prog : List ℕ} {k : ℕ} {st : Emit} {room ws : List ℕ} {r : Emit} {room₁ ws₁ : List ℕ} where
   -- what a walk promises
   pub use-whole : {i depth : ℕ} {l : List ℕ} {cs : Controls} → Whole prog k st room ws r room₁ ws₁ i depth l cs →
-      Ready prog st ws → Roomy depth cs →
+      Ready prog st ws →
       Follows (whole (chainsIn prog k) (statementAt prog depth i) l cs (st .next)) st room ws r room₁ ws₁
   use-whole (walks-whole f) = f
 
@@ -111,33 +91,33 @@ module _ (prog : List ℕ) (k : ℕ) (l : List ℕ) (x y : Statement) (cs₁ cs�
 
 -- the ways out of `emit_whole`
 module _ {prog : List ℕ} {k : ℕ} {st : Emit} {room ws : List ℕ} {i depth : ℕ} {l : List ℕ} {cs : Controls} where
-  pub whole-stopped : (st .status ≡ 0 → ⊥) → Whole prog k st room ws st room ws i depth l cs
-  whole-stopped f = walks-whole (λ R C. follows-stopped _ st room ws f)
+  pub whole-stopped : {s : ℕ} → s ≡ st .status → (s ≡ 0 → ⊥) → Whole prog k st room ws st room ws i depth l cs
+  whole-stopped e f = walks-whole (λ R. follows-stopped _ st room ws (λ z. f (e ∙ z)))
 
   pub whole-spent : depth ≡ 0 → Whole prog k st room ws st room ws i depth l cs
-  whole-spent e = walks-whole (λ R C. follows-as
+  whole-spent e = walks-whole (λ R. follows-as
     (whole-skip (chainsIn prog k) l cs (st .next) (statementAt prog depth i) (spent-skip prog depth i e)) (follows-none st room ws))
 
-  module _ {found : Step} (nz : depth ≡ 0 → ⊥) (is : found ≡ stepAt prog i l) where
+  module _ {found : Step} (nz : depth ≡ 0 → ⊥) (is : found ≡ stepAt prog i) where
     whole-skipped : statementAt prog depth i ≡ skip → Whole prog k st room ws st room ws i depth l cs
-    whole-skipped e = walks-whole (λ R C. follows-as
+    whole-skipped e = walks-whole (λ R. follows-as
       (whole-skip (chainsIn prog k) l cs (st .next) (statementAt prog depth i) e) (follows-none st room ws))
 
     pub whole-idle : (x : Step) → found ≡ x → Idle x → Whole prog k st room ws st room ws i depth l cs
-    whole-idle x e o = whole-skipped (idle-skip prog depth i l nz is x e o)
+    whole-idle x e o = whole-skipped (idle-skip prog depth i nz is x e o)
 
     module _ {r : Emit} {room₁ : List ℕ} where
-      pub whole-touches : {q : ℕ} → found ≡ step.Touches q → progress r room₁ ≡ scan (places (flip cs q) ∷ []) (progress st room) →
-          Whole prog k st room ws r room₁ ws i depth l cs
-      whole-touches e g = let h = at-step prog depth i l nz is e in
-        walks-whole (λ R C. follows-as (whole-not (chainsIn prog k) l cs (st .next) (statementAt prog depth i) (h .2) (h .3))
+      pub whole-touches : {at q : ℕ} → found ≡ step.Touches at → q ≡ touchedBy prog at l →
+          progress r room₁ ≡ scan (places (flip cs q) ∷ []) (progress st room) → Whole prog k st room ws r room₁ ws i depth l cs
+      whole-touches e t g = let h = at-touches prog depth i l nz is t e in
+        walks-whole (λ R. follows-as (whole-not (chainsIn prog k) l cs (st .next) (statementAt prog depth i) (h .2) (h .3))
           (follows-gates _ st room ws r room₁ tt g))
 
       module _ {ws₁ : List ℕ} where
         pub whole-calls : {f at : ℕ} {rest : List ℕ} → found ≡ step.Calls f at → rest ≡ remaining (removalsIn prog at) l →
             Call prog k st room ws r room₁ ws₁ f rest cs → Whole prog k st room ws r room₁ ws₁ i depth l cs
-        whole-calls {f = f} {at = at} {rest = rest} e q A = let h = at-step prog depth i l nz is e in
-          walks-whole (λ R C. follows-as
+        whole-calls {f = f} {at = at} {rest = rest} e q A = let h = at-step prog depth i nz is e in
+          walks-whole (λ R. follows-as
             (ap (λ (v : List ℕ). startChain (chainsIn prog k) f v cs (st .next)) q ∙
               whole-call (chainsIn prog k) l cs (st .next) (statementAt prog depth i) h)
             (use-call A R))
@@ -146,31 +126,29 @@ module _ {prog : List ℕ} {k : ℕ} {st : Emit} {room ws : List ℕ} {i depth :
             Whole prog k st room ws r room₁ ws₁ x (depth - 1) l cs → Whole prog k st room ws r room₁ ws₁ i depth l cs
         whole-chosen e q A =
           let ch = chainsIn prog k in
-          walks-whole (λ R C. follows-as
+          walks-whole (λ R. follows-as
             (sym (chosen-means (λ s. whole ch s l cs (st .next)) l (whole-yes ch l cs (st .next)) (whole-no ch l cs (st .next)) prog depth i nz is e q))
-            (use-whole A R (roomy-less nz C)))
+            (use-whole A R))
 
         module _ {b : Emit} {room₂ ws₂ : List ℕ} where
           pub whole-sequence : {x y : ℕ} → found ≡ step.Sequence x y →
               Whole prog k st room ws r room₁ ws₁ x (depth - 1) l cs → Whole prog k r room₁ ws₁ b room₂ ws₂ y (depth - 1) l cs →
               Whole prog k st room ws b room₂ ws₂ i depth l cs
-          whole-sequence {x = x} {y = y} e A B = walks-whole (λ R C.
-            let F = use-whole A R (roomy-less nz C) in
-            follows-as (whole-pair (chainsIn prog k) l cs (st .next) (statementAt prog depth i) (at-step prog depth i l nz is e))
+          whole-sequence {x = x} {y = y} e A B = walks-whole (λ R.
+            let F = use-whole A R in
+            follows-as (whole-pair (chainsIn prog k) l cs (st .next) (statementAt prog depth i) (at-step prog depth i nz is e))
               (two-parts prog k l (statementAt prog (depth - 1) x) (statementAt prog (depth - 1) y) cs cs R F
-                (use-whole B (ready-then R F) (roomy-less nz C))))
+                (use-whole B (ready-then R F))))
 
-          pub whole-branches : {q x y : ℕ} {cs₁ cs₂ : Controls} → found ≡ step.Branches q x y → cs₁ ≡ withControlWithin q false cs →
-              Whole prog k st room ws r room₁ ws₁ x (depth - 1) l cs₁ → cs₂ ≡ withControlWithin q true cs →
-              Whole prog k r room₁ ws₁ b room₂ ws₂ y (depth - 1) l cs₂ →
+          pub whole-branches : {at q x y : ℕ} {s₁ s₂ : List ℕ} → found ≡ step.Branches at x y → q ≡ touchedBy prog at l → q ≤ setLength →
+              At s₁ l (withQubit q false cs) → Whole prog k st room ws r room₁ ws₁ x (depth - 1) (listFrom s₁) (controlsFrom s₁) →
+              At s₂ l (withQubit q true cs) → Whole prog k r room₁ ws₁ b room₂ ws₂ y (depth - 1) (listFrom s₂) (controlsFrom s₂) →
               Whole prog k st room ws b room₂ ws₂ i depth l cs
-          whole-branches {q = q} {x = x} {y = y} e c₁ A c₂ B = let h = at-step prog depth i l nz is e in walks-whole (λ R C.
-            let A′ = subst (λ (v : Controls). Whole prog k st room ws r room₁ ws₁ x (depth - 1) l v) (c₁ ∙ within-is nz C q false) A in
-            let B′ = subst (λ (v : Controls). Whole prog k r room₁ ws₁ b room₂ ws₂ y (depth - 1) l v) (c₂ ∙ within-is nz C q true) B in
-            let F = use-whole A′ R (roomy-with-control nz C q false) in
+          whole-branches {q = q} {x = x} {y = y} e t m c₁ A c₂ B = let h = at-branches prog depth i l nz is t e in walks-whole (λ R.
+            let F = use-whole (rw (c₁ .controls, c₁ .list, qubit-asked q false cs m) at A) R in
             follows-as (whole-case (chainsIn prog k) l cs (st .next) (statementAt prog depth i) (h .2) (h .3))
               (two-parts prog k l (statementAt prog (depth - 1) x) (statementAt prog (depth - 1) y) (withControl q false cs)
-                (withControl q true cs) R F (use-whole B′ (ready-then R F) (roomy-with-control nz C q true))))
+                (withControl q true cs) R F (use-whole (rw (c₂ .controls, c₂ .list, qubit-asked q true cs m) at B) (ready-then R F))))
 
 pub ruleset wholes = (
     needs, whole-stopped, whole-spent, whole-idle, whole-touches, whole-calls, whole-chosen,

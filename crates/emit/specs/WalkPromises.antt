@@ -1,11 +1,11 @@
 -- What the walkers promise: each follows the events that the definitions have for it.
-use Prim.Native.Nat.{ℕ, zero, suc, _+_, _-_, _≤_, _<_, min}
+use Prim.Native.Nat.{ℕ, zero, suc, _+_, _-_, _≤_, _<_}
 use mathlib.Core.Path.{_≡_}
 use mathlib.Core.Bool.{cond}
 use mathlib.Core.List.{List, [], _++_}
 use lib.ListN.{length}
 use lib.Dec.{ltb}
-use Rattle.limits.specs.Sizes.{mostControls, mostCalls, wireCount, slotsLength}
+use Rattle.limits.specs.Sizes.{wireCount, slotsLength}
 use Rattle.model.specs.Limits.{mostProcedures, mostQubits, mostDepth, mostWires}
 use Rattle.model.specs.Syntax.{Program, body}
 use Rattle.model.specs.Lists.{member}
@@ -17,27 +17,22 @@ use Rattle.model.specs.Emission.{
 }
 use Rattle.decoded.specs.DecodedTable.{procedureCount, statementAt, programAt}
 use Rattle.widths.specs.KeptWidths.{Known, WidthsKnown}
-use Rattle.events.specs.declared.Emit.{Emit}
-use Rattle.events.specs.Scan.{progress, scan, begun, slotOf, heldIn}
+use Rattle.events.specs.Scan.{Emit, progress, scan, begun, slotOf, Tallied, heldIn}
 use Rattle.events.specs.Slots.{appears}
 use Rattle.events.specs.FollowedEvents.{Follows, Opens}
 
--- a program of no more procedures than there may be with its widths, wires within their limit, and slots for all of them
+-- a program of no more procedures than there may be with its widths, wires within their limit, and slots for all of them, each with the length of its list
 pub record Ready (prog : List ℕ) (st : Emit) (ws : List ℕ) : Type 0 where
   pub few : procedureCount prog ≤ mostProcedures
   pub widths : WidthsKnown prog
   pub some : 0 < st .next
   pub low : st .next ≤ wireCount
   pub space : slotsLength ≤ length ws
+  pub tallied : Tallied ws
 
 -- how deep a body is: nothing where no procedure is f
 abbrev pub bodyDepth : ℕ → ℕ → ℕ
 bodyDepth p f = cond (ltb p f) 0 mostDepth
-
--- room for the controls of the qcases to come
-pub record Roomy (depth : ℕ) (cs : Controls) : Type 0 where
-  pub ones : length (cs .ones) + depth ≤ mostControls
-  pub zeros : length (cs .zeros) + depth ≤ mostControls
 
 module _ (prog : List ℕ) (k : ℕ) where
   abbrev pub programIn : Program
@@ -65,15 +60,15 @@ DoneIn ws base n from procedures = (f : ℕ) → member f procedures ≡ appears
 abbrev pub KnownIn : List ℕ → ℕ → ℕ → ℕ → Type 0
 KnownIn prog f depth i = (depth ≡ 0 → ⊥) → Known (recursive (programAt prog) f) prog depth i
 
--- how many recursive calls the left part of a statement has
-pub data Counts (prog : List ℕ) (i depth : ℕ) (l : List ℕ) (r : ℕ) : Type 0 where
-  counts : ((f : ℕ) → KnownIn prog f depth i →
-      r ≡ min mostCalls (length (invocations (recursive (programAt prog) f) (statementAt prog depth i) l 0))) → Counts prog i depth l r
+-- n ancillas from `first` on end before `behind`, and all are wires
+pub record Before (behind first n : ℕ) : Type 0 where
+  pub ends : behind ≡ first + n
+  pub wires : behind ≤ wireCount
 
 -- one for each walker
 pub data Whole (prog : List ℕ) (k : ℕ) (st : Emit) (room ws : List ℕ) (r : Emit) (room₁ ws₁ : List ℕ)
     (i depth : ℕ) (l : List ℕ) (cs : Controls) : Type 0 where
-  walks-whole : (Ready prog st ws → Roomy depth cs →
+  walks-whole : (Ready prog st ws →
       Follows (whole (chainsIn prog k) (statementAt prog depth i) l cs (st .next)) st room ws r room₁ ws₁) →
       Whole prog k st room ws r room₁ ws₁ i depth l cs
 
@@ -84,18 +79,19 @@ pub data Call (prog : List ℕ) (k : ℕ) (st : Emit) (room ws : List ℕ) (r : 
 
 pub data Left (prog : List ℕ) (k : ℕ) (st : Emit) (room ws : List ℕ) (r : Emit) (room₁ ws₁ : List ℕ)
     (i depth : ℕ) (l : List ℕ) (cs : Controls) : Type 0 where
-  walks-left : ((f : ℕ) → KnownIn prog f depth i → Ready prog st ws → Roomy depth cs →
+  walks-left : ((f : ℕ) → KnownIn prog f depth i → Ready prog st ws →
       Opens (left (chainsIn prog k) (recursive (programAt prog) f) (statementAt prog depth i) l cs (st .next))
         (invocations (recursive (programAt prog) f) (statementAt prog depth i) l (st .next)) st room ws r room₁ ws₁) →
       Left prog k st room ws r room₁ ws₁ i depth l cs
 
+-- the recursive calls of the right part have the ancillas before `behind`, from `first` on, which is given
 pub data Right (prog : List ℕ) (k : ℕ) (st : Emit) (room ws : List ℕ) (r : Emit) (room₁ ws₁ : List ℕ)
-    (i depth : ℕ) (l : List ℕ) (cs : Controls) (first : ℕ) : Type 0 where
-  walks-right : ((f : ℕ) → KnownIn prog f depth i → Ready prog st ws → Roomy depth cs →
-      (st .status ≡ 0 → first + length (invocations (recursive (programAt prog) f) (statementAt prog depth i) l first) ≤ wireCount) →
+    (i depth : ℕ) (l : List ℕ) (cs : Controls) (behind given : ℕ) : Type 0 where
+  walks-right : ((f : ℕ) → KnownIn prog f depth i → Ready prog st ws → (first : ℕ) →
+      (st .status ≡ 0 → Before behind first (length (invocations (recursive (programAt prog) f) (statementAt prog depth i) l first))) →
       Follows (right (chainsIn prog k) (recursive (programAt prog) f) (statementAt prog depth i) l cs first (st .next))
-        st room ws r room₁ ws₁) →
-      Right prog k st room ws r room₁ ws₁ i depth l cs first
+        st room ws r room₁ ws₁ × (r .status ≡ 0 → given ≡ first)) →
+      Right prog k st room ws r room₁ ws₁ i depth l cs behind given
 
 pub data BodyLeft (prog : List ℕ) (k : ℕ) (st : Emit) (room ws : List ℕ) (r : Emit) (room₁ ws₁ : List ℕ)
     (d : ℕ) : Type 0 where
@@ -105,11 +101,11 @@ pub data BodyLeft (prog : List ℕ) (k : ℕ) (st : Emit) (room ws : List ℕ) (
       BodyLeft prog k st room ws r room₁ ws₁ d
 
 pub data BodyRight (prog : List ℕ) (k : ℕ) (st : Emit) (room ws : List ℕ) (r : Emit) (room₁ ws₁ : List ℕ)
-    (d first : ℕ) : Type 0 where
-  walks-body-right : (Ready prog st ws → d ≤ mostWires →
-      (st .status ≡ 0 → first + length (bodyInvocations (programAt prog) (chainsIn prog k) (slotOf ws d) first) ≤ wireCount) →
+    (d behind : ℕ) : Type 0 where
+  walks-body-right : (Ready prog st ws → d ≤ mostWires → (first : ℕ) →
+      (st .status ≡ 0 → Before behind first (length (bodyInvocations (programAt prog) (chainsIn prog k) (slotOf ws d) first))) →
       Follows (rightOf prog k (slotOf ws d) first (st .next)) st room ws r room₁ ws₁) →
-      BodyRight prog k st room ws r room₁ ws₁ d first
+      BodyRight prog k st room ws r room₁ ws₁ d behind
 
 pub data Bodies (prog : List ℕ) (k : ℕ) (st : Emit) (room ws : List ℕ) (r : Emit) (room₁ ws₁ : List ℕ)
     (base n j upto : ℕ) : Type 0 where
@@ -119,14 +115,14 @@ pub data Bodies (prog : List ℕ) (k : ℕ) (st : Emit) (room ws : List ℕ) (r 
       Bodies prog k st room ws r room₁ ws₁ base n j upto
 
 pub data Rest (prog : List ℕ) (k : ℕ) (st : Emit) (room ws : List ℕ) (r : Emit) (room₁ ws₁ : List ℕ)
-    (base n d upto first : ℕ) : Type 0 where
-  walks-rest : (Ready prog st ws → base ≤ d → d < upto → upto ≤ first → first ≤ st .next →
-      (st .status ≡ 0 → first + length (bodyInvocations (programAt prog) (chainsIn prog k) (slotOf ws d) first) ≤ wireCount) →
+    (base n d upto : ℕ) : Type 0 where
+  walks-rest : (Ready prog st ws → base ≤ d → d < upto → (first : ℕ) → upto ≤ first → first ≤ st .next →
+      (st .status ≡ 0 → Before (st .next) first (length (bodyInvocations (programAt prog) (chainsIn prog k) (slotOf ws d) first))) →
       (procedures : List ℕ) → DoneIn ws base n (d + 1) procedures →
       Follows
         (let inner = bodiesUpTo prog k n procedures (heldIn ws (d + 1) (upto - (d + 1))) (heldIn ws base (st .next - base)) (st .next) in
           inner .events ++ rightOf prog k (slotOf ws d) first (inner .next)) st room ws r room₁ ws₁) →
-      Rest prog k st room ws r room₁ ws₁ base n d upto first
+      Rest prog k st room ws r room₁ ws₁ base n d upto
 
 pub data Inner (prog : List ℕ) (k : ℕ) (st : Emit) (room ws : List ℕ) (r : Emit) (room₁ ws₁ : List ℕ)
     (base n d upto : ℕ) : Type 0 where
@@ -152,6 +148,6 @@ pub data Body (prog : List ℕ) (k : ℕ) (st : Emit) (room ws : List ℕ) (r : 
 
 -- main emitted, from its start
 pub data Emits (prog : List ℕ) (n : ℕ) (room ws : List ℕ) (r : Emit) (room₁ ws₁ : List ℕ) : Type 0 where
-  walks-main : (procedureCount prog ≤ mostProcedures → WidthsKnown prog → n ≤ mostQubits → slotsLength ≤ length ws →
+  walks-main : (procedureCount prog ≤ mostProcedures → WidthsKnown prog → n ≤ mostQubits → slotsLength ≤ length ws → Tallied ws →
       (progress r room₁ ≡ scan (emission (programAt prog) n) (progress (begun n) room)) × (length ws₁ ≡ length ws)) →
       Emits prog n room ws r room₁ ws₁

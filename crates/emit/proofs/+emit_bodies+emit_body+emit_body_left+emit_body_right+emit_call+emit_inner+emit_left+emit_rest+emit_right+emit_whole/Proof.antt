@@ -1,9 +1,9 @@
 -- The walkers meet their contracts: each way out is one law; class rank, list length, slot and depth fall.
 use borrow.Author.Needs.{needs}
 use Prim.Native.Nat.{ℕ, _+_, _-_, _*_, _<_}
-use Rattle.emit.proofs.NextBody.{seek-le}
-use Rattle.emit.proofs.WholeStatement.{wholes, whole-branches}
-use Rattle.emit.proofs.LeftPart.{lefts, left-branches}
+use Rattle.emit.proofs.NextBody.{seek-le, longest-less}
+use Rattle.emit.proofs.WholeStatement.{wholes}
+use Rattle.emit.proofs.LeftPart.{lefts}
 use Rattle.emit.proofs.RightPart.{rights, right-branches}
 use Rattle.emit.proofs.ChainsAndBodies.{chaining}
 use borrow.Fn.Kinds.{In}
@@ -38,25 +38,28 @@ use Rattle.emit.proofs.+emit_bodies+emit_body+emit_body_left+emit_body_
 use Rattle.emit.proofs.emit_whole.Reads as emit-whole
 use Rattle.emit.proofs.emit_whole.Kinds as emit-whole-kinds
 use Rattle.emit.proofs.+emit_bodies+emit_body+emit_body_left+emit_body_right+emit_call+emit_inner+emit_left+emit_rest+emit_right+emit_whole.Lts-emit_whole as emit-whole-lts
-use Rattle.circuit.proofs.write.with_control.Reads as with-control-reads
+use Rattle.controls.proofs.under.Reads as under-reads
+use Rattle.controls.proofs.with_control.Reads as with-control-reads
 use Rattle.emit.proofs.body_depth.Reads as body-depth-reads
-use Rattle.emit.proofs.count_calls.Reads as count-calls-reads
-use Rattle.emit.proofs.sum.Reads as sum-reads
 use Rattle.events.proofs.emit_entries.Reads as emit-entries-reads
+use Rattle.events.proofs.emit_entries_back.Reads as emit-entries-back-reads
 use Rattle.events.proofs.emit_flip.Reads as emit-flip-reads
 use Rattle.events.proofs.finish.Reads as finish-reads
 use Rattle.events.proofs.flip_again.Reads as flip-again-reads
 use Rattle.events.proofs.invoke.Reads as invoke-reads
 use Rattle.events.proofs.load.Reads as load-reads
+use Rattle.events.proofs.longest_below.Reads as longest-below-reads
+use Rattle.events.proofs.next.Reads as next-reads
 use Rattle.events.proofs.procedure.Reads as procedure-reads
 use Rattle.events.proofs.seek.Reads as seek-reads
-use Rattle.events.proofs.under.Reads as under-reads
+use Rattle.events.proofs.status.Reads as status-reads
 use Rattle.events.proofs.wire.Reads as wire-reads
 use Rattle.sets.proofs.size.Reads as size-reads
 use Rattle.step.proofs.chosen.Reads as chosen-reads
 use Rattle.step.proofs.remaining.Reads as remaining-reads
 use Rattle.step.proofs.root.Reads as root-reads
 use Rattle.step.proofs.step_at.Reads as step-at-reads
+use Rattle.step.proofs.touched.Reads as touched-reads
 use Rattle.widths.proofs.is_wide.Reads as is-wide-reads
 use Rattle.emit.proofs.+emit_bodies+emit_body+emit_body_left+emit_body_right+emit_call+emit_inner+emit_left+emit_rest+emit_right+emit_whole.{
   statement,
@@ -65,115 +68,123 @@ use Rattle.emit.proofs.+emit_bodies+emit_body+emit_body_left+emit_body_
   close,
 }
 
-abbrev μ-emit-bodies : Measures 3 emit-bodies-kinds.ps ℕ
+abbrev μ-emit-bodies : Measures 4 emit-bodies-kinds.ps ℕ
 μ-emit-bodies κs a = 268435456 * a .1 .0 + (1048576 * a .1 .1 .1 .0 + (8 * (65536 - a .1 .1 .1 .1 .0) + 1005))
 
-abbrev μ-emit-body : Measures 3 emit-body-kinds.ps ℕ
+abbrev μ-emit-body : Measures 4 emit-body-kinds.ps ℕ
 μ-emit-body κs a = 268435456 * a .1 .0 + (1048576 * a .1 .1 .1 .0 + (8 * (65536 - a .1 .1 .1 .1 .0) + 1004))
 
-abbrev μ-emit-body-left : Measures 3 emit-body-left-kinds.ps ℕ
+abbrev μ-emit-body-left : Measures 4 emit-body-left-kinds.ps ℕ
 μ-emit-body-left κs a = 268435456 * a .1 .0 + 600
 
-abbrev μ-emit-body-right : Measures 3 emit-body-right-kinds.ps ℕ
+abbrev μ-emit-body-right : Measures 4 emit-body-right-kinds.ps ℕ
 μ-emit-body-right κs a = 268435456 * a .1 .0 + 600
 
-abbrev μ-emit-call : Measures 3 emit-call-kinds.ps ℕ
+abbrev μ-emit-call : Measures 5 emit-call-kinds.ps ℕ
 μ-emit-call κs a = 268435456 * a .1 .0
 
-abbrev μ-emit-inner : Measures 3 emit-inner-kinds.ps ℕ
+abbrev μ-emit-inner : Measures 4 emit-inner-kinds.ps ℕ
 μ-emit-inner κs a = 268435456 * a .1 .0 + (1048576 * a .1 .1 .1 .0 + (8 * (65536 - a .1 .1 .1 .1 .0) + 1003))
 
-abbrev μ-emit-left : Measures 3 emit-left-kinds.ps ℕ
+abbrev μ-emit-left : Measures 5 emit-left-kinds.ps ℕ
 μ-emit-left κs a = 268435456 * a .1 .0 + (a .1 .1 .1 .0 + 300)
 
-abbrev μ-emit-rest : Measures 3 emit-rest-kinds.ps ℕ
+abbrev μ-emit-rest : Measures 4 emit-rest-kinds.ps ℕ
 μ-emit-rest κs a = 268435456 * a .1 .0 + (1048576 * a .1 .1 .1 .0 + (8 * (65536 - a .1 .1 .1 .1 .0) + 1002))
 
-abbrev μ-emit-right : Measures 3 emit-right-kinds.ps ℕ
+abbrev μ-emit-right : Measures 5 emit-right-kinds.ps ℕ
 μ-emit-right κs a = 268435456 * a .1 .0 + (a .1 .1 .1 .0 + 300)
 
-abbrev μ-emit-whole : Measures 3 emit-whole-kinds.ps ℕ
+abbrev μ-emit-whole : Measures 5 emit-whole-kinds.ps ℕ
 μ-emit-whole κs a = 268435456 * a .1 .0 + (a .1 .1 .1 .0 + 1)
 
-abbrev emit-bodies-at : ℕ → In 3 emit-bodies-kinds.ps
-emit-bodies-at t = and 3 emit-bodies-kinds.ps (is 3 emit-bodies-kinds.ps μ-emit-bodies t) emit-bodies.Pre
+abbrev emit-bodies-at : ℕ → In 4 emit-bodies-kinds.ps
+emit-bodies-at t = and 4 emit-bodies-kinds.ps (is 4 emit-bodies-kinds.ps μ-emit-bodies t) emit-bodies.Pre
 
-abbrev emit-bodies-below : ℕ → In 3 emit-bodies-kinds.ps
-emit-bodies-below t = and 3 emit-bodies-kinds.ps (falls 3 emit-bodies-kinds.ps _<_ μ-emit-bodies t) emit-bodies.Pre
+abbrev emit-bodies-below : ℕ → In 4 emit-bodies-kinds.ps
+emit-bodies-below t = and 4 emit-bodies-kinds.ps (falls 4 emit-bodies-kinds.ps _<_ μ-emit-bodies t) emit-bodies.Pre
 
-abbrev emit-body-at : ℕ → In 3 emit-body-kinds.ps
-emit-body-at t = and 3 emit-body-kinds.ps (is 3 emit-body-kinds.ps μ-emit-body t) emit-body.Pre
+abbrev emit-body-at : ℕ → In 4 emit-body-kinds.ps
+emit-body-at t = and 4 emit-body-kinds.ps (is 4 emit-body-kinds.ps μ-emit-body t) emit-body.Pre
 
-abbrev emit-body-below : ℕ → In 3 emit-body-kinds.ps
-emit-body-below t = and 3 emit-body-kinds.ps (falls 3 emit-body-kinds.ps _<_ μ-emit-body t) emit-body.Pre
+abbrev emit-body-below : ℕ → In 4 emit-body-kinds.ps
+emit-body-below t = and 4 emit-body-kinds.ps (falls 4 emit-body-kinds.ps _<_ μ-emit-body t) emit-body.Pre
 
-abbrev emit-body-left-at : ℕ → In 3 emit-body-left-kinds.ps
-emit-body-left-at t = and 3 emit-body-left-kinds.ps (is 3 emit-body-left-kinds.ps μ-emit-body-left t) emit-body-left.Pre
+abbrev emit-body-left-at : ℕ → In 4 emit-body-left-kinds.ps
+emit-body-left-at t = and 4 emit-body-left-kinds.ps (is 4 emit-body-left-kinds.ps μ-emit-body-left t) emit-body-left.Pre
 
-abbrev emit-body-left-below : ℕ → In 3 emit-body-left-kinds.ps
-emit-body-left-below t = and 3 emit-body-left-kinds.ps (falls 3 emit-body-left-kinds.ps _<_ μ-emit-body-left t) emit-body-left.Pre
+abbrev emit-body-left-below : ℕ → In 4 emit-body-left-kinds.ps
+emit-body-left-below t = and 4 emit-body-left-kinds.ps (falls 4 emit-body-left-kinds.ps _<_ μ-emit-body-left t) emit-body-left.Pre
 
-abbrev emit-body-right-at : ℕ → In 3 emit-body-right-kinds.ps
-emit-body-right-at t = and 3 emit-body-right-kinds.ps (is 3 emit-body-right-kinds.ps μ-emit-body-right t) emit-body-right.Pre
+abbrev emit-body-right-at : ℕ → In 4 emit-body-right-kinds.ps
+emit-body-right-at t = and 4 emit-body-right-kinds.ps (is 4 emit-body-right-kinds.ps μ-emit-body-right t) emit-body-right.Pre
 
-abbrev emit-body-right-below : ℕ → In 3 emit-body-right-kinds.ps
-emit-body-right-below t = and 3 emit-body-right-kinds.ps (falls 3 emit-body-right-kinds.ps _<_ μ-emit-body-right t) emit-body-right.Pre
+abbrev emit-body-right-below : ℕ → In 4 emit-body-right-kinds.ps
+emit-body-right-below t = and 4 emit-body-right-kinds.ps (falls 4 emit-body-right-kinds.ps _<_ μ-emit-body-right t) emit-body-right.Pre
 
-abbrev emit-call-at : ℕ → In 3 emit-call-kinds.ps
-emit-call-at t = and 3 emit-call-kinds.ps (is 3 emit-call-kinds.ps μ-emit-call t) emit-call.Pre
+abbrev emit-call-at : ℕ → In 5 emit-call-kinds.ps
+emit-call-at t = and 5 emit-call-kinds.ps (is 5 emit-call-kinds.ps μ-emit-call t) emit-call.Pre
 
-abbrev emit-call-below : ℕ → In 3 emit-call-kinds.ps
-emit-call-below t = and 3 emit-call-kinds.ps (falls 3 emit-call-kinds.ps _<_ μ-emit-call t) emit-call.Pre
+abbrev emit-call-below : ℕ → In 5 emit-call-kinds.ps
+emit-call-below t = and 5 emit-call-kinds.ps (falls 5 emit-call-kinds.ps _<_ μ-emit-call t) emit-call.Pre
 
-abbrev emit-inner-at : ℕ → In 3 emit-inner-kinds.ps
-emit-inner-at t = and 3 emit-inner-kinds.ps (is 3 emit-inner-kinds.ps μ-emit-inner t) emit-inner.Pre
+abbrev emit-inner-at : ℕ → In 4 emit-inner-kinds.ps
+emit-inner-at t = and 4 emit-inner-kinds.ps (is 4 emit-inner-kinds.ps μ-emit-inner t) emit-inner.Pre
 
-abbrev emit-inner-below : ℕ → In 3 emit-inner-kinds.ps
-emit-inner-below t = and 3 emit-inner-kinds.ps (falls 3 emit-inner-kinds.ps _<_ μ-emit-inner t) emit-inner.Pre
+abbrev emit-inner-below : ℕ → In 4 emit-inner-kinds.ps
+emit-inner-below t = and 4 emit-inner-kinds.ps (falls 4 emit-inner-kinds.ps _<_ μ-emit-inner t) emit-inner.Pre
 
-abbrev emit-left-at : ℕ → In 3 emit-left-kinds.ps
-emit-left-at t = and 3 emit-left-kinds.ps (is 3 emit-left-kinds.ps μ-emit-left t) emit-left.Pre
+abbrev emit-left-at : ℕ → In 5 emit-left-kinds.ps
+emit-left-at t = and 5 emit-left-kinds.ps (is 5 emit-left-kinds.ps μ-emit-left t) emit-left.Pre
 
-abbrev emit-left-below : ℕ → In 3 emit-left-kinds.ps
-emit-left-below t = and 3 emit-left-kinds.ps (falls 3 emit-left-kinds.ps _<_ μ-emit-left t) emit-left.Pre
+abbrev emit-left-below : ℕ → In 5 emit-left-kinds.ps
+emit-left-below t = and 5 emit-left-kinds.ps (falls 5 emit-left-kinds.ps _<_ μ-emit-left t) emit-left.Pre
 
-abbrev emit-rest-at : ℕ → In 3 emit-rest-kinds.ps
-emit-rest-at t = and 3 emit-rest-kinds.ps (is 3 emit-rest-kinds.ps μ-emit-rest t) emit-rest.Pre
+abbrev emit-rest-at : ℕ → In 4 emit-rest-kinds.ps
+emit-rest-at t = and 4 emit-rest-kinds.ps (is 4 emit-rest-kinds.ps μ-emit-rest t) emit-rest.Pre
 
-abbrev emit-rest-below : ℕ → In 3 emit-rest-kinds.ps
-emit-rest-below t = and 3 emit-rest-kinds.ps (falls 3 emit-rest-kinds.ps _<_ μ-emit-rest t) emit-rest.Pre
+abbrev emit-rest-below : ℕ → In 4 emit-rest-kinds.ps
+emit-rest-below t = and 4 emit-rest-kinds.ps (falls 4 emit-rest-kinds.ps _<_ μ-emit-rest t) emit-rest.Pre
 
-abbrev emit-right-at : ℕ → In 3 emit-right-kinds.ps
-emit-right-at t = and 3 emit-right-kinds.ps (is 3 emit-right-kinds.ps μ-emit-right t) emit-right.Pre
+abbrev emit-right-at : ℕ → In 5 emit-right-kinds.ps
+emit-right-at t = and 5 emit-right-kinds.ps (is 5 emit-right-kinds.ps μ-emit-right t) emit-right.Pre
 
-abbrev emit-right-below : ℕ → In 3 emit-right-kinds.ps
-emit-right-below t = and 3 emit-right-kinds.ps (falls 3 emit-right-kinds.ps _<_ μ-emit-right t) emit-right.Pre
+abbrev emit-right-below : ℕ → In 5 emit-right-kinds.ps
+emit-right-below t = and 5 emit-right-kinds.ps (falls 5 emit-right-kinds.ps _<_ μ-emit-right t) emit-right.Pre
 
-abbrev emit-whole-at : ℕ → In 3 emit-whole-kinds.ps
-emit-whole-at t = and 3 emit-whole-kinds.ps (is 3 emit-whole-kinds.ps μ-emit-whole t) emit-whole.Pre
+abbrev emit-whole-at : ℕ → In 5 emit-whole-kinds.ps
+emit-whole-at t = and 5 emit-whole-kinds.ps (is 5 emit-whole-kinds.ps μ-emit-whole t) emit-whole.Pre
 
-abbrev emit-whole-below : ℕ → In 3 emit-whole-kinds.ps
-emit-whole-below t = and 3 emit-whole-kinds.ps (falls 3 emit-whole-kinds.ps _<_ μ-emit-whole t) emit-whole.Pre
+abbrev emit-whole-below : ℕ → In 5 emit-whole-kinds.ps
+emit-whole-below t = and 5 emit-whole-kinds.ps (falls 5 emit-whole-kinds.ps _<_ μ-emit-whole t) emit-whole.Pre
 
 emit-bodies-meets : {M : Type 1} (t : ℕ) → emit-bodies-lts.Closed (
-    seek-reads.Asked, seek-reads.Learnt, emit-body-below t, emit-body.Post, emit-bodies-below t, emit-bodies.Post) (emit-bodies-at t) emit-bodies.Post M
+    status-reads.Asked, status-reads.Learnt, seek-reads.Asked, seek-reads.Learnt, emit-body-below t, emit-body.Post, next-reads.Asked,
+    next-reads.Learnt, longest-below-reads.Asked, longest-below-reads.Learnt, emit-bodies-below t, emit-bodies.Post) (emit-bodies-at t) emit-bodies.Post M
 emit-bodies-meets t = emit-bodies-lts.spec (
-    seek-reads.Asked, seek-reads.Learnt, emit-body-below t, emit-body.Post, emit-bodies-below t, emit-bodies.Post) (emit-bodies-at t) emit-bodies.Post
+    status-reads.Asked, status-reads.Learnt, seek-reads.Asked, seek-reads.Learnt, emit-body-below t, emit-body.Post, next-reads.Asked,
+    next-reads.Learnt, longest-below-reads.Asked, longest-below-reads.Learnt, emit-bodies-below t, emit-bodies.Post) (emit-bodies-at t) emit-bodies.Post
+    (λ c κs. search needs)
     (λ c. search chaining)
     (λ c. search chaining)
     (λ c κs. search needs)
-    (λ c κs. search (needs, seek-le _ _ _ _ _ _ (c .before .before .before .seek .ensures)))
+    (λ c κs. search (needs, seek-le _ _ _ _ _ _ (c .before .before .before .before .seek .ensures)))
     (λ c. search needs)
     (λ c. search chaining)
-    (λ c. search needs)
     (λ c κs. search needs)
+    (λ c κs. search needs)
+    (λ c κs. let d = c .before .before .before in
+      let e = d .before .before .before .before .before .before .before in
+      search (needs, longest-less _ _ _ _ _ (d .longest-below .ensures) (e .if2 .left), e .before .before .before .before .before .pre .0))
     (λ c. search needs)
     (λ c. search chaining)
 
 emit-body-meets : {M : Type 1} (t : ℕ) → emit-body-lts.Closed (
-    emit-entries-reads.Asked, emit-entries-reads.Learnt, emit-inner-below t, emit-inner.Post) (emit-body-at t) emit-body.Post M
+    emit-entries-reads.Asked, emit-entries-reads.Learnt, emit-inner-below t, emit-inner.Post, emit-entries-back-reads.Asked,
+    emit-entries-back-reads.Learnt) (emit-body-at t) emit-body.Post M
 emit-body-meets t = emit-body-lts.spec (
-    emit-entries-reads.Asked, emit-entries-reads.Learnt, emit-inner-below t, emit-inner.Post) (emit-body-at t) emit-body.Post
+    emit-entries-reads.Asked, emit-entries-reads.Learnt, emit-inner-below t, emit-inner.Post, emit-entries-back-reads.Asked,
+    emit-entries-back-reads.Learnt) (emit-body-at t) emit-body.Post
     (λ c. search chaining)
     (λ c. search needs)
     (λ c κs. search needs)
@@ -184,13 +195,11 @@ emit-body-meets t = emit-body-lts.spec (
     (λ c. search chaining)
 
 emit-body-left-meets : {M : Type 1} (t : ℕ) → emit-body-left-lts.Closed (
-    procedure-reads.Asked, procedure-reads.Learnt, load-reads.Asked, load-reads.Learnt, root-reads.Asked, root-reads.Learnt,
-    body-depth-reads.Asked, body-depth-reads.Learnt, wire-reads.Asked, wire-reads.Learnt, under-reads.Asked, under-reads.Learnt, emit-left-below
-    t, emit-left.Post) (emit-body-left-at t) emit-body-left.Post M
+    procedure-reads.Asked, procedure-reads.Learnt, wire-reads.Asked, wire-reads.Learnt, load-reads.Asked, load-reads.Learnt, under-reads.Asked,
+    under-reads.Learnt, root-reads.Asked, root-reads.Learnt, body-depth-reads.Asked, body-depth-reads.Learnt, emit-left-below t, emit-left.Post) (emit-body-left-at t) emit-body-left.Post M
 emit-body-left-meets t = emit-body-left-lts.spec (
-    procedure-reads.Asked, procedure-reads.Learnt, load-reads.Asked, load-reads.Learnt, root-reads.Asked, root-reads.Learnt,
-    body-depth-reads.Asked, body-depth-reads.Learnt, wire-reads.Asked, wire-reads.Learnt, under-reads.Asked, under-reads.Learnt, emit-left-below
-    t, emit-left.Post) (emit-body-left-at t) emit-body-left.Post
+    procedure-reads.Asked, procedure-reads.Learnt, wire-reads.Asked, wire-reads.Learnt, load-reads.Asked, load-reads.Learnt, under-reads.Asked,
+    under-reads.Learnt, root-reads.Asked, root-reads.Learnt, body-depth-reads.Asked, body-depth-reads.Learnt, emit-left-below t, emit-left.Post) (emit-body-left-at t) emit-body-left.Post
     (λ c κs. search needs)
     (λ c κs. search needs)
     (λ c κs. search needs)
@@ -202,13 +211,11 @@ emit-body-left-meets t = emit-body-left-lts.spec (
     (λ c. search chaining)
 
 emit-body-right-meets : {M : Type 1} (t : ℕ) → emit-body-right-lts.Closed (
-    procedure-reads.Asked, procedure-reads.Learnt, load-reads.Asked, load-reads.Learnt, root-reads.Asked, root-reads.Learnt,
-    body-depth-reads.Asked, body-depth-reads.Learnt, wire-reads.Asked, wire-reads.Learnt, under-reads.Asked, under-reads.Learnt,
-    emit-right-below t, emit-right.Post) (emit-body-right-at t) emit-body-right.Post M
+    procedure-reads.Asked, procedure-reads.Learnt, wire-reads.Asked, wire-reads.Learnt, load-reads.Asked, load-reads.Learnt, under-reads.Asked,
+    under-reads.Learnt, root-reads.Asked, root-reads.Learnt, body-depth-reads.Asked, body-depth-reads.Learnt, emit-right-below t, emit-right.Post) (emit-body-right-at t) emit-body-right.Post M
 emit-body-right-meets t = emit-body-right-lts.spec (
-    procedure-reads.Asked, procedure-reads.Learnt, load-reads.Asked, load-reads.Learnt, root-reads.Asked, root-reads.Learnt,
-    body-depth-reads.Asked, body-depth-reads.Learnt, wire-reads.Asked, wire-reads.Learnt, under-reads.Asked, under-reads.Learnt,
-    emit-right-below t, emit-right.Post) (emit-body-right-at t) emit-body-right.Post
+    procedure-reads.Asked, procedure-reads.Learnt, wire-reads.Asked, wire-reads.Learnt, load-reads.Asked, load-reads.Learnt, under-reads.Asked,
+    under-reads.Learnt, root-reads.Asked, root-reads.Learnt, body-depth-reads.Asked, body-depth-reads.Learnt, emit-right-below t, emit-right.Post) (emit-body-right-at t) emit-body-right.Post
     (λ c κs. search needs)
     (λ c κs. search needs)
     (λ c κs. search needs)
@@ -220,23 +227,35 @@ emit-body-right-meets t = emit-body-right-lts.spec (
     (λ c. search chaining)
 
 emit-call-meets : {M : Type 1} (t : ℕ) → emit-call-lts.Closed (
-    size-reads.Asked, size-reads.Learnt, invoke-reads.Asked, invoke-reads.Learnt, finish-reads.Asked, finish-reads.Learnt, emit-bodies-below t,
-    emit-bodies.Post) (emit-call-at t) emit-call.Post M
+    status-reads.Asked, status-reads.Learnt, size-reads.Asked, size-reads.Learnt, next-reads.Asked, next-reads.Learnt, invoke-reads.Asked,
+    invoke-reads.Learnt, finish-reads.Asked, finish-reads.Learnt, emit-bodies-below t, emit-bodies.Post) (emit-call-at t) emit-call.Post M
 emit-call-meets t = emit-call-lts.spec (
-    size-reads.Asked, size-reads.Learnt, invoke-reads.Asked, invoke-reads.Learnt, finish-reads.Asked, finish-reads.Learnt, emit-bodies-below t,
-    emit-bodies.Post) (emit-call-at t) emit-call.Post
+    status-reads.Asked, status-reads.Learnt, size-reads.Asked, size-reads.Learnt, next-reads.Asked, next-reads.Learnt, invoke-reads.Asked,
+    invoke-reads.Learnt, finish-reads.Asked, finish-reads.Learnt, emit-bodies-below t, emit-bodies.Post) (emit-call-at t) emit-call.Post
+    (λ c κs. search needs)
     (λ c. search chaining)
     (λ c κs. search needs)
     (λ c. search chaining)
+    (λ c κs. search needs)
     (λ c κs. search needs)
     (λ c κs. search needs)
     (λ c. search needs)
     (λ c. search chaining)
+    (λ c κs. search needs)
     (λ c. search needs)
     (λ c κs. search needs)
     (λ c κs. search needs)
     (λ c. search needs)
-    (λ c. search chaining)
+    (λ c. search (chaining,
+      c .before .before .finish2 .ensures, c .before .before .before .before .before .before .before .emit-bodies .ensures,
+      c .before .before .before .before .before .before .before .before .before .before .before .next2 .ensures,
+      c .before .before .before .before .before .before .before .before .before .before .before .before .before .if3 .left,
+      c .before .before .before .before .before .before .before .before .before .before .before .before .before .before .before .before .invoke .ensures,
+      c .before .before .before .before .before .before .before .before .before .before .before .before .before .before .before .before .before .before .before .before .next .ensures,
+      c .before .before .before .before .before .before .before .before .before .before .before .before .before .before .before .before .before .before .before .before .before .before .if2 .left,
+      c .before .before .before .before .before .before .before .before .before .before .before .before .before .before .before .before .before .before .before .before .before .before .before .size .ensures,
+      c .before .before .before .before .before .before .before .before .before .before .before .before .before .before .before .before .before .before .before .before .before .before .before .before .if1 .left,
+      c .before .before .before .before .before .before .before .before .before .before .before .before .before .before .before .before .before .before .before .before .before .before .before .before .before .status .ensures))
 
 emit-inner-meets : {M : Type 1} (t : ℕ) → emit-inner-lts.Closed (
     emit-body-left-below t, emit-body-left.Post, emit-rest-below t, emit-rest.Post) (emit-inner-at t) emit-inner.Post M
@@ -248,21 +267,23 @@ emit-inner-meets t = emit-inner-lts.spec (
     (λ c. search chaining)
 
 emit-left-meets : {M : Type 1} (t : ℕ) → emit-left-lts.Closed (
-    step-at-reads.Asked, step-at-reads.Learnt, emit-flip-reads.Asked, emit-flip-reads.Learnt, is-wide-reads.Asked, is-wide-reads.Learnt,
-    emit-left-below t, emit-left.Post, emit-whole-below t, emit-whole.Post, chosen-reads.Asked, chosen-reads.Learnt, with-control-reads.Asked,
-    with-control-reads.Learnt, remaining-reads.Asked, remaining-reads.Learnt, invoke-reads.Asked, invoke-reads.Learnt, emit-call-below t,
-    emit-call.Post) (emit-left-at t) emit-left.Post M
+    status-reads.Asked, status-reads.Learnt, step-at-reads.Asked, step-at-reads.Learnt, touched-reads.Asked, touched-reads.Learnt,
+    emit-flip-reads.Asked, emit-flip-reads.Learnt, is-wide-reads.Asked, is-wide-reads.Learnt, emit-left-below t, emit-left.Post, emit-whole-below t,
+    emit-whole.Post, chosen-reads.Asked, chosen-reads.Learnt, with-control-reads.Asked, with-control-reads.Learnt, remaining-reads.Asked,
+    remaining-reads.Learnt, invoke-reads.Asked, invoke-reads.Learnt, emit-call-below t, emit-call.Post) (emit-left-at t) emit-left.Post M
 emit-left-meets t = emit-left-lts.spec (
-    step-at-reads.Asked, step-at-reads.Learnt, emit-flip-reads.Asked, emit-flip-reads.Learnt, is-wide-reads.Asked, is-wide-reads.Learnt,
-    emit-left-below t, emit-left.Post, emit-whole-below t, emit-whole.Post, chosen-reads.Asked, chosen-reads.Learnt, with-control-reads.Asked,
-    with-control-reads.Learnt, remaining-reads.Asked, remaining-reads.Learnt, invoke-reads.Asked, invoke-reads.Learnt, emit-call-below t,
-    emit-call.Post) (emit-left-at t) emit-left.Post
+    status-reads.Asked, status-reads.Learnt, step-at-reads.Asked, step-at-reads.Learnt, touched-reads.Asked, touched-reads.Learnt,
+    emit-flip-reads.Asked, emit-flip-reads.Learnt, is-wide-reads.Asked, is-wide-reads.Learnt, emit-left-below t, emit-left.Post, emit-whole-below t,
+    emit-whole.Post, chosen-reads.Asked, chosen-reads.Learnt, with-control-reads.Asked, with-control-reads.Learnt, remaining-reads.Asked,
+    remaining-reads.Learnt, invoke-reads.Asked, invoke-reads.Learnt, emit-call-below t, emit-call.Post) (emit-left-at t) emit-left.Post
+    (λ c κs. search needs)
     (λ c. search lefts)
     (λ c. search lefts)
     (λ c κs. search needs)
     (λ c. search needs)
     (λ c. search needs)
     (λ c κs. search needs)
+    (λ c κs. search needs)
     (λ c. search needs)
     (λ c κs. search needs)
     (λ c. search needs)
@@ -275,20 +296,31 @@ emit-left-meets t = emit-left-lts.spec (
     (λ c κs. search needs)
     (λ c. search needs)
     (λ c. search needs)
-    (λ c κs. search needs)
     (λ c. search needs)
     (λ c κs. search needs)
     (λ c. search needs)
     (λ c κs. search needs)
     (λ c. search needs)
+    (λ c. search needs)
     (λ c κs. search needs)
     (λ c. search needs)
     (λ c κs. search needs)
-    (λ c κs. let d = c .before .before .before .before .before .before .before .before .before .before in
-      search (needs,
-        d .before .before .before .before .before .before .before .pre .0,
-        d .before .before .before .if2 .left,
-        d .before .before .before .before .before .before .before .fits .depth))
+    (λ c κs. search needs)
+    (λ c. search needs)
+    (λ c κs. search needs)
+    (λ c κs. search (needs,
+      c .before .before .before .before .with-control2 .ensures, c .before .before .before .before .before .before .before .emit-left4 .ensures,
+      c .before .before .before .before .before .before .before .before .before .before .before .before .with-control .ensures,
+      c .before .before .before .before .before .before .before .before .before .before .before .before .before .touched2 .ensures .0,
+      c .before .before .before .before .before .before .before .before .before .before .before .before .before .touched2 .ensures .1,
+      c .before .before .before .before .before .before .before .before .before .before .before .before .before .before .before .before .found4 .given,
+      c .before .before .before .before .before .before .before .before .before .before .before .before .before .before .before .before .before .before .step-at .ensures,
+      c .before .before .before .before .before .before .before .before .before .before .before .before .before .before .before .before .before .before .before .if2 .left,
+      c .before .before .before .before .before .before .before .before .before .before .before .before .before .before .before .before .before .before .before .before .if1 .left,
+      c .before .before .before .before .before .before .before .before .before .before .before .before .before .before .before .before .before .before .before .before .before .status .ensures,
+      c .before .before .before .before .before .before .before .before .before .before .before .before .before .before .before .before .before .before .before .before .before .before .before .before .fits .depth,
+      c .before .before .before .before .before .before .before .before .before .before .before .before .before .before .before .before .before .before .before .before .before .before .before .before .pre .0))
+    (λ c. search needs)
     (λ c. search needs)
     (λ c κs. search needs)
     (λ c κs. search needs)
@@ -300,7 +332,9 @@ emit-left-meets t = emit-left-lts.spec (
     (λ c. search needs)
     (λ c. search needs)
     (λ c. search needs)
-    (λ c. search lefts)
+    (λ c. search needs)
+    (λ c. search needs)
+    (λ c. search needs)
     (λ c. search needs)
     (λ c. search lefts)
     (λ c. search needs)
@@ -308,16 +342,11 @@ emit-left-meets t = emit-left-lts.spec (
     (λ c. search needs)
     (λ c. search lefts)
     (λ c. search needs)
-    (λ c. let d = c .before .before .before .before .before .before .before .before .before .before in
-      search (left-branches,
-        d .before .before .before .before .before .before .if2 .left,
-        d .before .before .before .before .before .step-at .ensures,
-        d .before .before .before .found4 .given,
-        d .before .with-control .ensures,
-        c .before .before .before .before .before .before .before .before .emit-left4 .ensures,
-        c .before .before .before .before .before .with-control2 .ensures,
-        c .before .before .emit-left5 .ensures))
+    (λ c. search lefts)
     (λ c. search needs)
+    (λ c. search lefts)
+    (λ c. search lefts)
+    (λ c. search lefts)
     (λ c. search lefts)
     (λ c. search lefts)
     (λ c. search lefts)
@@ -325,10 +354,11 @@ emit-left-meets t = emit-left-lts.spec (
     (λ c. search lefts)
 
 emit-rest-meets : {M : Type 1} (t : ℕ) → emit-rest-lts.Closed (
-    emit-bodies-below t, emit-bodies.Post, emit-body-right-below t, emit-body-right.Post) (emit-rest-at t) emit-rest.Post M
+    next-reads.Asked, next-reads.Learnt, emit-bodies-below t, emit-bodies.Post, emit-body-right-below t, emit-body-right.Post) (emit-rest-at t) emit-rest.Post M
 emit-rest-meets t = emit-rest-lts.spec (
-    emit-bodies-below t, emit-bodies.Post, emit-body-right-below t, emit-body-right.Post) (emit-rest-at t) emit-rest.Post
+    next-reads.Asked, next-reads.Learnt, emit-bodies-below t, emit-bodies.Post, emit-body-right-below t, emit-body-right.Post) (emit-rest-at t) emit-rest.Post
     (λ c. search chaining)
+    (λ c κs. search needs)
     (λ c. search needs)
     (λ c κs. search needs)
     (λ c κs. search needs)
@@ -336,77 +366,85 @@ emit-rest-meets t = emit-rest-lts.spec (
     (λ c. search chaining)
 
 emit-right-meets : {M : Type 1} (t : ℕ) → emit-right-lts.Closed (
-    step-at-reads.Asked, step-at-reads.Learnt, is-wide-reads.Asked, is-wide-reads.Learnt, emit-right-below t, emit-right.Post, emit-whole-below
-    t, emit-whole.Post, chosen-reads.Asked, chosen-reads.Learnt, count-calls-reads.Asked, count-calls-reads.Learnt, sum-reads.Asked,
-    sum-reads.Learnt, with-control-reads.Asked, with-control-reads.Learnt, remaining-reads.Asked, remaining-reads.Learnt,
-    flip-again-reads.Asked, flip-again-reads.Learnt) (emit-right-at t) emit-right.Post M
+    status-reads.Asked, status-reads.Learnt, is-wide-reads.Asked, is-wide-reads.Learnt, step-at-reads.Asked, step-at-reads.Learnt,
+    emit-right-below t, emit-right.Post, emit-whole-below t, emit-whole.Post, chosen-reads.Asked, chosen-reads.Learnt, touched-reads.Asked,
+    touched-reads.Learnt, with-control-reads.Asked, with-control-reads.Learnt, remaining-reads.Asked, remaining-reads.Learnt, flip-again-reads.Asked,
+    flip-again-reads.Learnt) (emit-right-at t) emit-right.Post M
 emit-right-meets t = emit-right-lts.spec (
-    step-at-reads.Asked, step-at-reads.Learnt, is-wide-reads.Asked, is-wide-reads.Learnt, emit-right-below t, emit-right.Post, emit-whole-below
-    t, emit-whole.Post, chosen-reads.Asked, chosen-reads.Learnt, count-calls-reads.Asked, count-calls-reads.Learnt, sum-reads.Asked,
-    sum-reads.Learnt, with-control-reads.Asked, with-control-reads.Learnt, remaining-reads.Asked, remaining-reads.Learnt,
-    flip-again-reads.Asked, flip-again-reads.Learnt) (emit-right-at t) emit-right.Post
+    status-reads.Asked, status-reads.Learnt, is-wide-reads.Asked, is-wide-reads.Learnt, step-at-reads.Asked, step-at-reads.Learnt,
+    emit-right-below t, emit-right.Post, emit-whole-below t, emit-whole.Post, chosen-reads.Asked, chosen-reads.Learnt, touched-reads.Asked,
+    touched-reads.Learnt, with-control-reads.Asked, with-control-reads.Learnt, remaining-reads.Asked, remaining-reads.Learnt, flip-again-reads.Asked,
+    flip-again-reads.Learnt) (emit-right-at t) emit-right.Post
+    (λ c κs. search needs)
     (λ c. search rights)
     (λ c. search rights)
     (λ c κs. search needs)
-    (λ c. search needs)
-    (λ c. search needs)
-    (λ c. search needs)
-    (λ c κs. search needs)
-    (λ c. search needs)
-    (λ c κs. search needs)
-    (λ c. search needs)
-    (λ c κs. search needs)
-    (λ c. search needs)
     (λ c. search rights)
-    (λ c. search needs)
-    (λ c κs. search needs)
-    (λ c. search needs)
-    (λ c. search needs)
-    (λ c κs. search needs)
-    (λ c. search needs)
-    (λ c κs. search needs)
-    (λ c. search needs)
-    (λ c. search needs)
-    (λ c κs. search needs)
-    (λ c κs. search needs)
     (λ c κs. search needs)
     (λ c. search needs)
     (λ c κs. search needs)
     (λ c. search needs)
     (λ c κs. search needs)
-    (λ c κs. let d = c .before .before .before .before .before .before .before .before .before .before in
-      search (needs,
-        d .before .before .before .before .before .before .before .before .before .pre .0,
-        d .before .before .before .before .before .if2 .left,
-        d .before .before .before .before .before .before .before .before .before .fits .depth))
     (λ c. search needs)
-    (λ c κs. search needs)
-    (λ c κs. search needs)
     (λ c κs. search needs)
     (λ c. search needs)
     (λ c. search rights)
     (λ c. search needs)
+    (λ c κs. search needs)
+    (λ c. search needs)
+    (λ c. search needs)
+    (λ c. search needs)
+    (λ c κs. search needs)
+    (λ c. search needs)
+    (λ c κs. search needs)
+    (λ c. search needs)
+    (λ c. search needs)
+    (λ c κs. search needs)
+    (λ c. search needs)
+    (λ c κs. search needs)
+    (λ c κs. search needs)
+    (λ c. search needs)
+    (λ c κs. search needs)
+    (λ c κs. search (needs,
+      c .before .before .before .before .with-control2 .ensures, c .before .before .before .before .before .before .before .emit-right4 .ensures,
+      c .before .before .before .before .before .before .before .before .before .before .before .before .with-control .ensures,
+      c .before .before .before .before .before .before .before .before .before .before .before .before .before .touched .ensures .0,
+      c .before .before .before .before .before .before .before .before .before .before .before .before .before .touched .ensures .1,
+      c .before .before .before .before .before .before .before .before .before .before .before .before .before .before .before .before .found3 .given,
+      c .before .before .before .before .before .before .before .before .before .before .before .before .before .before .before .before .before .before .step-at .ensures,
+      c .before .before .before .before .before .before .before .before .before .before .before .before .before .before .before .before .before .before .before .if3 .left,
+      c .before .before .before .before .before .before .before .before .before .before .before .before .before .before .before .before .before .before .before .before .is-wide .ensures,
+      c .before .before .before .before .before .before .before .before .before .before .before .before .before .before .before .before .before .before .before .before .before .if2 .left,
+      c .before .before .before .before .before .before .before .before .before .before .before .before .before .before .before .before .before .before .before .before .before .before .if1 .left,
+      c .before .before .before .before .before .before .before .before .before .before .before .before .before .before .before .before .before .before .before .before .before .before .before .status .ensures,
+      c .before .before .before .before .before .before .before .before .before .before .before .before .before .before .before .before .before .before .before .before .before .before .before .before .before .before .fits .depth,
+      c .before .before .before .before .before .before .before .before .before .before .before .before .before .before .before .before .before .before .before .before .before .before .before .before .before .before .pre .0))
+    (λ c. search needs)
+    (λ c. search needs)
+    (λ c κs. search needs)
+    (λ c κs. search needs)
+    (λ c. search needs)
+    (λ c. search needs)
+    (λ c. search needs)
+    (λ c. search needs)
+    (λ c. search needs)
+    (λ c. search needs)
     (λ c. search needs)
     (λ c. search needs)
     (λ c. search needs)
     (λ c. search rights)
-    (λ c. search rights)
     (λ c. search needs)
     (λ c. search rights)
     (λ c. search needs)
-    (λ c. search rights)
+    (λ c. let e = c .before .before .before .before .before .before .before in
+      let d = e .before .before .before .before .before .before .before .before in
+      right-branches (d .before .before .before .before .before .before .before .before .before .if2 .left) (d .before .before .before .before .before .before .step-at .ensures) (search (needs, d .before .before .before .before .found3 .given)) (d .before .touched .ensures .0) (d .before .touched .ensures .1)
+        (d .with-control .ensures) (e .before .before .before .emit-right4 .ensures) (e .with-control2 .ensures) (c .before .before .emit-right5 .ensures))
     (λ c. search needs)
-    (λ c. let d = c .before .before .before .before .before .before .before .before .before .before in
-      search (right-branches,
-        d .before .before .before .before .before .before .before .before .if2 .left,
-        d .before .before .before .before .before .before .before .step-at .ensures,
-        d .before .before .before .before .before .found3 .given,
-        d .before .before .before .count-calls .ensures,
-        d .before .before .sum .ensures,
-        d .before .with-control .ensures,
-        c .before .before .before .before .before .before .before .before .emit-right4 .ensures,
-        c .before .before .before .before .before .with-control2 .ensures,
-        c .before .before .emit-right5 .ensures))
+    (λ c. search rights)
+    (λ c. search rights)
+    (λ c. search rights)
+    (λ c. search rights)
     (λ c. search rights)
     (λ c. search rights)
     (λ c. search rights)
@@ -414,19 +452,27 @@ emit-right-meets t = emit-right-lts.spec (
     (λ c. search rights)
 
 emit-whole-meets : {M : Type 1} (t : ℕ) → emit-whole-lts.Closed (
-    step-at-reads.Asked, step-at-reads.Learnt, emit-flip-reads.Asked, emit-flip-reads.Learnt, emit-whole-below t, emit-whole.Post,
-    chosen-reads.Asked, chosen-reads.Learnt, with-control-reads.Asked, with-control-reads.Learnt, remaining-reads.Asked, remaining-reads.Learnt,
-    emit-call-below t, emit-call.Post) (emit-whole-at t) emit-whole.Post M
+    status-reads.Asked, status-reads.Learnt, step-at-reads.Asked, step-at-reads.Learnt, touched-reads.Asked, touched-reads.Learnt,
+    emit-flip-reads.Asked, emit-flip-reads.Learnt, emit-whole-below t, emit-whole.Post, chosen-reads.Asked, chosen-reads.Learnt,
+    with-control-reads.Asked, with-control-reads.Learnt, remaining-reads.Asked, remaining-reads.Learnt, emit-call-below t, emit-call.Post) (emit-whole-at t) emit-whole.Post M
 emit-whole-meets t = emit-whole-lts.spec (
-    step-at-reads.Asked, step-at-reads.Learnt, emit-flip-reads.Asked, emit-flip-reads.Learnt, emit-whole-below t, emit-whole.Post,
-    chosen-reads.Asked, chosen-reads.Learnt, with-control-reads.Asked, with-control-reads.Learnt, remaining-reads.Asked, remaining-reads.Learnt,
-    emit-call-below t, emit-call.Post) (emit-whole-at t) emit-whole.Post
+    status-reads.Asked, status-reads.Learnt, step-at-reads.Asked, step-at-reads.Learnt, touched-reads.Asked, touched-reads.Learnt,
+    emit-flip-reads.Asked, emit-flip-reads.Learnt, emit-whole-below t, emit-whole.Post, chosen-reads.Asked, chosen-reads.Learnt,
+    with-control-reads.Asked, with-control-reads.Learnt, remaining-reads.Asked, remaining-reads.Learnt, emit-call-below t, emit-call.Post) (emit-whole-at t) emit-whole.Post
+    (λ c κs. search needs)
     (λ c. search wholes)
     (λ c. search wholes)
     (λ c κs. search needs)
     (λ c. search needs)
     (λ c. search needs)
     (λ c κs. search needs)
+    (λ c κs. search needs)
+    (λ c. search needs)
+    (λ c. search needs)
+    (λ c κs. search needs)
+    (λ c. search needs)
+    (λ c κs. search needs)
+    (λ c. search needs)
     (λ c. search needs)
     (λ c. search needs)
     (λ c κs. search needs)
@@ -437,20 +483,29 @@ emit-whole-meets t = emit-whole-lts.spec (
     (λ c κs. search needs)
     (λ c. search needs)
     (λ c κs. search needs)
-    (λ c. search needs)
     (λ c κs. search needs)
     (λ c. search needs)
     (λ c κs. search needs)
+    (λ c κs. search (needs,
+      c .before .before .before .before .with-control2 .ensures, c .before .before .before .before .before .before .before .emit-whole4 .ensures,
+      c .before .before .before .before .before .before .before .before .before .before .before .before .with-control .ensures,
+      c .before .before .before .before .before .before .before .before .before .before .before .before .before .touched2 .ensures .0,
+      c .before .before .before .before .before .before .before .before .before .before .before .before .before .touched2 .ensures .1,
+      c .before .before .before .before .before .before .before .before .before .before .before .before .before .before .before .before .found4 .given,
+      c .before .before .before .before .before .before .before .before .before .before .before .before .before .before .before .before .before .before .step-at .ensures,
+      c .before .before .before .before .before .before .before .before .before .before .before .before .before .before .before .before .before .before .before .if2 .left,
+      c .before .before .before .before .before .before .before .before .before .before .before .before .before .before .before .before .before .before .before .before .if1 .left,
+      c .before .before .before .before .before .before .before .before .before .before .before .before .before .before .before .before .before .before .before .before .before .status .ensures,
+      c .before .before .before .before .before .before .before .before .before .before .before .before .before .before .before .before .before .before .before .before .before .before .before .before .fits .depth,
+      c .before .before .before .before .before .before .before .before .before .before .before .before .before .before .before .before .before .before .before .before .before .before .before .before .pre .0))
+    (λ c. search needs)
     (λ c. search needs)
     (λ c κs. search needs)
-    (λ c κs. let d = c .before .before .before .before .before .before .before .before .before .before in
-      search (needs,
-        d .before .before .before .before .before .before .before .pre .0,
-        d .before .before .before .if2 .left,
-        d .before .before .before .before .before .before .before .fits .depth))
+    (λ c κs. search needs)
     (λ c. search needs)
-    (λ c κs. search needs)
-    (λ c κs. search needs)
+    (λ c. search needs)
+    (λ c. search needs)
+    (λ c. search needs)
     (λ c. search needs)
     (λ c. search needs)
     (λ c. search needs)
@@ -463,16 +518,9 @@ emit-whole-meets t = emit-whole-lts.spec (
     (λ c. search needs)
     (λ c. search wholes)
     (λ c. search needs)
-    (λ c. let d = c .before .before .before .before .before .before .before .before .before .before in
-      search (whole-branches,
-        d .before .before .before .before .before .before .if2 .left,
-        d .before .before .before .before .before .step-at .ensures,
-        d .before .before .before .found4 .given,
-        d .before .with-control .ensures,
-        c .before .before .before .before .before .before .before .before .emit-whole4 .ensures,
-        c .before .before .before .before .before .with-control2 .ensures,
-        c .before .before .emit-whole5 .ensures))
-    (λ c. search needs)
+    (λ c. search wholes)
+    (λ c. search wholes)
+    (λ c. search wholes)
     (λ c. search wholes)
     (λ c. search wholes)
     (λ c. search wholes)
