@@ -2,10 +2,11 @@
 use mathlib.Core.Path.{_≡_, refl, sym, ap, _∙_}
 use mathlib.Core.List.{List, [], _++_}
 use Prim.Native.Nat.{ℕ, zero, suc, _+_, _-_, _≤_, _<_, min}
+use native.Mathlib.Nat.{le-refl}
 use native.Mathlib.Omega.{arith}
 use borrow.Author.Needs.{needs}
 use borrow.Author.Tests.{le-leb, lt-leb, le-ltb}
-use lib.ListN.{length, getD, set, take, drop, length-append, length-take}
+use lib.ListN.{length, getD, set, take, drop, replicate, length-append, length-take, length-replicate, getD-replicate, List·getD-eq-default}
 use lib.Seq.{sets, sets-eq, length-sets, length-take-le, take-append-add, take-take, take-add, take-at, drop-at, getD-take}
 use Rattle.limits.specs.Sizes.{slotsLength}
 use Rattle.model.specs.Limits.{mostWires, mostQubits, mostProcedures, mostCircuit, headerLength, noRoom}
@@ -17,10 +18,10 @@ use Rattle.model.proofs.BooleanLaws.{byLt}
 use Rattle.model.proofs.RoundTrip.{write-length}
 use Rattle.agreement.proofs.FirstMisfit.{fits-wires}
 use Rattle.circuit.specs.GatesToWrite.{headerBytes}
+use Rattle.sets.proofs.Members.{members-empty}
 use Rattle.decoded.specs.DecodedTable.{procedureCount, programAt}
 use Rattle.widths.specs.KeptWidths.{WidthsKnown}
-use Rattle.events.specs.declared.Emit.{Emit}
-use Rattle.events.specs.Scan.{Progress, progress, emitOf, roomOf, emissionEnd, wireOf}
+use Rattle.events.specs.Scan.{Emit, Tallied, slotAt, Progress, progress, emitOf, roomOf, emissionEnd, wireOf}
 use Rattle.events.proofs.ScanOfEvents.{emission-status, emission-ends, emission-within}
 use Rattle.events.proofs.GatesAndSlots.{Storing, storing-starts, storing-next, stored-all, stored-full}
 use Rattle.emit.specs.WalkPromises.{Emits}
@@ -117,7 +118,7 @@ given-answer P n room header e = rw (le-leb headerLength (usable (length room)) 
 -- stands in the text
 module _ {prog : List ℕ} {n : ℕ} (room text : List ℕ) {slots : List ℕ} {a : Emit} (text₁ : List ℕ) {slots₁ : List ℕ} (long : length text ≡ mostCircuit)
     (A : Emits prog n (take (usable (length room)) text) slots a (take (usable (length room)) text₁) slots₁)
-    (few : procedureCount prog ≤ mostProcedures) (widths : WidthsKnown prog) (small : n ≤ mostQubits) (space : slotsLength ≤ length slots)
+    (few : procedureCount prog ≤ mostProcedures) (widths : WidthsKnown prog) (small : n ≤ mostQubits) (space : slotsLength ≤ length slots) (tallied : Tallied slots)
     (header : headerLength ≤ usable (length room)) where
   abbrev P : Program
   P = programAt prog
@@ -135,7 +136,7 @@ module _ {prog : List ℕ} {n : ℕ} (room text : List ℕ) {slots : List ℕ} {
   front-header = let e = same-room in omega arith
 
   emitted-status : a .status ≡ fit end headerLength (emission P n)
-  emitted-status = ap (λ (x : Progress). emitOf x .status) (use-main A few widths small space .0) ∙ emission-status P n (take end text) front-header
+  emitted-status = ap (λ (x : Progress). emitOf x .status) (use-main A few widths small space tallied .0) ∙ emission-status P n (take end text) front-header
     ∙ ap (λ (v : ℕ). fit v headerLength (emission P n)) same-room
 
   module _ (ok : a .status ≡ 0) where
@@ -146,7 +147,7 @@ module _ {prog : List ℕ} {n : ℕ} (room text : List ℕ) {slots : List ℕ} {
     front-fits = rw same-room emitted-fits
 
     emitted-all : progress a (take end text₁) ≡ progress (emissionEnd P n) (sets (take end text) headerLength (bytes P n))
-    emitted-all = use-main A few widths small space .0 ∙ emission-ends P n (take end text) front-header front-fits
+    emitted-all = use-main A few widths small space tallied .0 ∙ emission-ends P n (take end text) front-header front-fits
 
     emitted-end : a ≡ emissionEnd P n
     emitted-end = ap emitOf emitted-all
@@ -201,9 +202,9 @@ module _ (text : List ℕ) (used : ℕ) (room₀ room : List ℕ) (count i : ℕ
 pub ruleset copying = (needs, storing-starts, copy-next, copy-ends)
 
 -- the way out of `put_circuit`
-pub circuit-put : (n : ℕ) (st : Emit) (text room : List ℕ) (a : ℕ) (text₁ room₁ : List ℕ) → a ≡ wireOf (st .highest - n) →
-    text₁ ≡ sets text 0 (headerBytes n a (st .gates)) → room₁ ≡ sets room 0 (take (st .used) text₁) → room₁ ≡ delivered n st text room
-circuit-put n st text room a text₁ room₁ low put copied = rw (copied, put, low)
+pub circuit-put : (n : ℕ) (st : Emit) (text room : List ℕ) (h a g u : ℕ) (text₁ room₁ : List ℕ) → h ≡ st .highest → a ≡ wireOf (h - n) → g ≡ st .gates →
+    text₁ ≡ sets text 0 (headerBytes n a g) → u ≡ st .used → room₁ ≡ sets room 0 (take u text₁) → room₁ ≡ delivered n st text room
+circuit-put n st text room h a g u text₁ room₁ high low count put end copied = rw (copied, put, low, high, count, end)
 
 -- the way out of `emit_front`: what was lent comes back at its place
 pub front-emitted : {prog : List ℕ} {n : ℕ} (end : ℕ) (text : List ℕ) {slots : List ℕ} {a : Emit} (back rest : List ℕ) {slots₁ : List ℕ} →
@@ -214,11 +215,21 @@ front-emitted end text back rest h same A =
     let long : length back ≡ end = same ∙ ap (λ (v : ℕ). length (take v text)) none ∙ length-take-le end text h in
     rw (take-at back rest end long) (rw none at A)
 
+-- slots that are all zero have the lengths of their lists, which are empty
+none-tallied : (n : ℕ) → Tallied (replicate n 0)
+none-tallied n a = rw (zeros (slotAt a), zeros (slotAt a + 1), members-empty)
+  where
+    zeros : (i : ℕ) → _≡_ {A = ℕ} (getD (replicate n 0) i 0) 0
+    zeros i = byLt i n
+      (λ lt. getD-replicate {A = ℕ} n i 0 0 lt)
+      (λ ge. List·getD-eq-default (replicate n 0) 0 (rw (length-replicate {A = ℕ} n 0) ge))
+
 -- the way out of `emit_text`
-pub text-emitted : {prog : List ℕ} {n room end : ℕ} (text : List ℕ) {slots : List ℕ} {a : Emit} (text₁ : List ℕ) {slots₁ : List ℕ} →
-    length text ≡ mostCircuit → length slots ≡ slotsLength → end ≡ usable room → Emits prog n (take end text) slots a (take end text₁) slots₁ →
+pub text-emitted : {prog : List ℕ} {n room end : ℕ} (text : List ℕ) {a : Emit} (text₁ : List ℕ) {slots₁ : List ℕ} →
+    length text ≡ mostCircuit → end ≡ usable room → Emits prog n (take end text) (replicate slotsLength 0) a (take end text₁) slots₁ →
     EmitsText prog n room a text₁
-text-emitted text {slots = slots} text₁ {slots₁ = slots₁} long space e A = into-text text slots slots₁ long (omega arith) (rw e at A)
+text-emitted text text₁ {slots₁ = slots₁} long e A =
+    into-text text (replicate slotsLength 0) slots₁ long (rw (length-replicate {A = ℕ} slotsLength 0) (le-refl slotsLength)) (none-tallied slotsLength) (rw e at A)
 
 -- the ways out of `compile_emission`
 module _ {prog : List ℕ} {n : ℕ} {room : List ℕ} where
@@ -228,16 +239,16 @@ module _ {prog : List ℕ} {n : ℕ} {room : List ℕ} where
     let e = lt-leb headerLength (usable (length room)) (omega arith) in (rw e, rw e))
 
 module _ {prog : List ℕ} {n : ℕ} {room : List ℕ} {a : Emit} {text₁ : List ℕ} where
-  pub text-refused : headerLength ≤ length room → EmitsText prog n (length room) a text₁ → (a .status ≡ 0 → ⊥) →
-      Compiles prog n room (record { number = a .status; length = 0 }) room
-  text-refused h (into-text text slots slots₁ long space A) z = walks-once (λ few widths small.
+  pub text-refused : {s : ℕ} → headerLength ≤ length room → EmitsText prog n (length room) a text₁ → s ≡ a .status → (s ≡ 0 → ⊥) →
+      Compiles prog n room (record { number = s; length = 0 }) room
+  text-refused {s = s} h (into-text text slots slots₁ long space tallied A) is z = walks-once (λ few widths small.
     let header : headerLength ≤ usable (length room) = omega arith in
-    refused-answer (programAt prog) n (a .status) room header (emitted-status room text text₁ long A few widths small space header) z)
+    refused-answer (programAt prog) n s room header (is ∙ emitted-status room text text₁ long A few widths small space tallied header) z)
 
-  pub text-delivered : {room₁ : List ℕ} → headerLength ≤ length room → EmitsText prog n (length room) a text₁ → a .status ≡ 0 →
-      room₁ ≡ delivered n a text₁ room → Compiles prog n room (record { number = 0; length = a .used }) room₁
-  text-delivered {room₁ = room₁} h (into-text text slots slots₁ long space A) z e = walks-once (λ few widths small.
+  pub text-delivered : {room₁ : List ℕ} {s u : ℕ} → headerLength ≤ length room → EmitsText prog n (length room) a text₁ → s ≡ a .status → s ≡ 0 →
+      room₁ ≡ delivered n a text₁ room → u ≡ a .used → Compiles prog n room (record { number = 0; length = u }) room₁
+  text-delivered {room₁ = room₁} h (into-text text slots slots₁ long space tallied A) is z e end = walks-once (λ few widths small.
     let header : headerLength ≤ usable (length room) = omega arith in
-    emitted-answer room text text₁ long A few widths small space header z room₁ e)
+    rw end (emitted-answer room text text₁ long A few widths small space tallied header (sym is ∙ z) room₁ e))
 
 pub ruleset delivering = (needs, ancillas-none, no-header, text-refused, text-delivered, circuit-put, front-emitted, text-emitted)

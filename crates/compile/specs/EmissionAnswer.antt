@@ -13,8 +13,7 @@ use Rattle.model.specs.Answers.{Outcome, require, fitted, fit, circuit, usable,
 use Rattle.circuit.specs.GatesToWrite.{headerBytes}
 use Rattle.decoded.specs.DecodedTable.{procedureCount, programAt}
 use Rattle.widths.specs.KeptWidths.{WidthsKnown}
-use Rattle.events.specs.declared.Emit.{Emit}
-use Rattle.events.specs.Scan.{wireOf}
+use Rattle.events.specs.Scan.{Emit, Tallied, wireOf}
 use Rattle.emit.specs.WalkPromises.{Emits}
 use Rattle.compile.specs.declared.Compiled.{Compiled}
 
@@ -28,7 +27,7 @@ compiledOf o = record { number = number o; length = length (valueOr [] o) }
 
 -- main emitted into the front of a text, as much of it as a room of that length has of use, with slots for all wires
 pub data EmitsText (prog : List ℕ) (n room : ℕ) (r : Emit) (text₁ : List ℕ) : Type 0 where
-  into-text : (text slots slots₁ : List ℕ) → length text ≡ mostCircuit → slotsLength ≤ length slots →
+  into-text : (text slots slots₁ : List ℕ) → length text ≡ mostCircuit → slotsLength ≤ length slots → Tallied slots →
       Emits prog n (take (usable room) text) slots r (take (usable room) text₁) slots₁ → EmitsText prog n room r text₁
 
 -- the room behind a circuit that fits: the header is put into the text, and the used bytes of the text into the room

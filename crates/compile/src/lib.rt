@@ -5,12 +5,12 @@ ghost use lib.ListN.{length, take};
 ghost use lib.Seq.{sets};
 ghost use Rattle.model.specs.Answers as model;
 ghost use Rattle.model.specs.Answers.{workspaceAfter};
-ghost use Rattle.events.specs.Scan.{wireOf};
+ghost use Rattle.events.specs.Scan.{emitIn, wireOf};
 ghost use Rattle.emit.specs.WalkPromises.{Emits};
 ghost use Rattle.compile.specs.EmissionAnswer.{EmitsText, delivered, Compiles};
 ghost use Rattle.compile.specs.AnswerAndRoom.{answered, answeredOf};
 use circuit::write::put_header;
-use events::{Emit, usable, wire};
+use events::{Slots, State, gates, highest, status, usable, used, wire};
 use emit::emit_main;
 use limits::{HEADER_LENGTH, LEAST_WORKSPACE, MOST_CIRCUIT, MOST_N, NO_ROOM, PROGRAM_LENGTH, SHORT_WORKSPACE, SLOTS_LENGTH, WRONG_QUBITS};
 use verdict::check_table;
@@ -51,26 +51,26 @@ fn copy(text: &[u8], used: usize, room: &mut [u8])
 }
 
 // The header is put before the gates of an emission that fits, and all of it into the room.
-fn put_circuit(n: u8, emitted: Emit, text: &mut [u8; MOST_CIRCUIT], room: &mut [u8])
-    ensures { λ r. ⌜ now (room .exit) ≡ delivered n emitted (now (text .entry)) (now (room .entry)) ⌝ }
+fn put_circuit(n: u8, state: &State, text: &mut [u8; MOST_CIRCUIT], room: &mut [u8])
+    ensures { λ r. ⌜ now (room .exit) ≡ delivered n (emitIn (now (state .entry))) (now (text .entry)) (now (room .entry)) ⌝ }
 {
     let bytes = &mut text[..];
-    put_header(bytes, n, ancillas(n, emitted.highest), emitted.gates);
-    copy(bytes, emitted.used, room);
+    put_header(bytes, n, ancillas(n, highest(state)), gates(state));
+    copy(bytes, used(state), room);
 }
 
 // An emission into the front of a text.
-fn emit_front(program: &[u32; PROGRAM_LENGTH], n: u8, end: usize, text: &mut [u8], slots: &mut [u64; SLOTS_LENGTH]) -> Emit
+fn emit_front(program: &[u32; PROGRAM_LENGTH], n: u8, end: usize, text: &mut [u8], slots: &mut Slots) -> State
     requires { ⌜ end ≤ length (now text) ⌝ }
     ensures { λ r. ⌜ Emits (now (program .entry)) n (take end (now (text .entry))) (now (slots .entry))
-        r (take end (now (text .exit))) (now (slots .exit)) ⌝ }
+        (emitIn r) (take end (now (text .exit))) (now (slots .exit)) ⌝ }
 {
     emit_main(program, n, &mut text[0..end], slots)
 }
 
 // An emission into a text, of which as much is used as a room of that length has of use. Its slots are its own: nobody reads them afterwards.
-fn emit_text(program: &[u32; PROGRAM_LENGTH], n: u8, room: usize, text: &mut [u8; MOST_CIRCUIT]) -> Emit
-    ensures { λ r. ⌜ EmitsText (now (program .entry)) n room r (now (text .exit)) ⌝ }
+fn emit_text(program: &[u32; PROGRAM_LENGTH], n: u8, room: usize, text: &mut [u8; MOST_CIRCUIT]) -> State
+    ensures { λ r. ⌜ EmitsText (now (program .entry)) n room (emitIn r) (now (text .exit)) ⌝ }
 {
     let mut slots = [0u64; SLOTS_LENGTH];
     emit_front(program, n, usable(room), &mut text[..], &mut slots)
@@ -84,13 +84,13 @@ fn compile_emission(program: &[u32; PROGRAM_LENGTH], n: u8, room: &mut [u8]) -> 
         return Compiled { number: NO_ROOM, length: 0 };
     }
     let mut text = [0u8; MOST_CIRCUIT];
-    let emitted = emit_text(program, n, room.len(), &mut text);
-    let status = emitted.status;
-    if status != 0 {
-        return Compiled { number: status, length: 0 };
+    let state = emit_text(program, n, room.len(), &mut text);
+    let number = status(&state);
+    if number != 0 {
+        return Compiled { number, length: 0 };
     }
-    put_circuit(n, emitted, &mut text, room);
-    Compiled { number: 0, length: emitted.used }
+    put_circuit(n, &state, &mut text, room);
+    Compiled { number: 0, length: used(&state) }
 }
 
 // "9; header 1 .., 2, 3; each record ..; 8; 10 over the whole table, then 11, then 12; .. 21. Then 23 for the header, then 22 or 23 at the first ancilla

@@ -1,5 +1,4 @@
 -- `compile_emission` meets its contract: each way out is one law.
-use borrow.Author.Needs.{needs}
 use Rattle.compile.proofs.TextAndRoom.{delivering}
 use Rattle.compile.proofs.compile_emission.Statement.{statement}
 use Rattle.compile.proofs.compile_emission.Tie as tie
@@ -7,8 +6,10 @@ use Rattle.compile.proofs.compile_emission.Tie as tie
 pub compile-emission-spec : {M : Type 1} → statement M
 compile-emission-spec = tie.close (tie.spec
     (λ c. search delivering)
-    (λ c κs. search needs)
+    (λ c κs. search delivering)
+    (λ c κs. search delivering)
     (λ c. search delivering)
-    (λ c κs. search needs)
-    (λ c. search needs)
+    (λ c κs. search delivering)
+    (λ c κs. search delivering)
+    (λ c. search delivering)
     (λ c. search delivering))
