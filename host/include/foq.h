@@ -59,7 +59,7 @@
  *
  *     foq_verdict       45 KiB
  *     foq_run          101 KiB
- *     foq_compile      300 KiB
+ *     foq_compile      184 KiB
  *     foq_inverse       45 KiB
  *     foq_circuit_read   1 KiB
  *     foq_circuit_run    1 KiB
@@ -307,7 +307,7 @@ foq_answer foq_run(const uint8_t *table, size_t length, uint32_t n,
  *
  * The emission of a hostile table could be astronomical, but a call ends at the
  * first step that does not fit. Where it was measured, PAIRS on 32 qubits took a
- * fiftieth of a millisecond and the slowest table that is known an eighth of a
+ * hundredth of a millisecond and the slowest table that is known a fiftieth of a
  * second.
  */
 foq_answer foq_compile(const uint8_t *table, size_t length, uint32_t n,
