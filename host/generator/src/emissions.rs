@@ -167,11 +167,10 @@ pub fn slowest_compile() -> Vec<u8> {
     table(call(1, &[]), &bodies)
 }
 
-/// A body whose parts are slow to find, and which emits nothing. For its right
-/// part every qcase counts the calls of its zero branch, and for that follows
-/// the conditions of the ifs below it once more: the 205 records of three
-/// conditions that do not hold are asked 11 + 2 times a body. The self call
-/// empties its list.
+/// A body whose parts are slow to find, and which emits nothing: the 205 records
+/// of three conditions that do not hold are asked for its left part and again
+/// for its right one. An emission that counts the calls of a zero branch at each
+/// qcase asks them 11 times more. The self call empties its list.
 fn slow_body(own: u8) -> Statement {
     let unless = |rest, levels| choose(full_of_tests(levels), Statement::Skip, rest);
     let ifs = [4, 6, 7].into_iter().fold(call(own, &[0]), unless);
