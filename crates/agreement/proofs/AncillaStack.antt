@@ -2,7 +2,7 @@
 -- ancillas in use are always those from n + 1 to below the next wire, and the highest wire taken is n plus the most ancillas in use.
 use mathlib.Core.Path.{_≡_, refl, sym, ap, _∙_, subst}
 use mathlib.Core.Logic.{_⊎_, inl, inr}
-use mathlib.Core.Bool.{Bool, true, false, not, _&&_}
+use mathlib.Core.Bool.{Bool, true, false}
 use mathlib.Core.List.{List, [], _∷_, _++_, map, reverse, reverse-cons}
 use Prim.Native.Nat.{ℕ, zero, suc, _+_, _-_, _≤_, _<_, max}
 use native.Mathlib.Nat.{not-suc-le-zero}
@@ -11,16 +11,16 @@ use borrow.Author.Tests.{lt-ltb, le-ltb}
 use lib.ListN.{length, length-append}
 use lib.Dec.{eqb}
 use Rattle.model.specs.Syntax.{Statement, skip, NOT, sequence, if, qcase, call, Program, count, body}
-use Rattle.model.specs.Lists.{qubits, remaining, touched, holds, member}
+use Rattle.model.specs.Lists.{qubits, remaining, touched, holds}
 use Rattle.model.specs.Reach.{recursive}
 use Rattle.model.specs.Gates.{Controls, noControls, withControl, flip, exchange}
 use Rattle.model.specs.Emission.{
   Event, takes, places, frees, Chains, startChain, whole, Invocation, invocation, invoked, isWide, invocations, invokes, returns, left, right, under,
-  swaps, entryGates, samePair, allEntryGates, Emitted, bodyInvocations, around, bodies, bodiesFrom, chainsWithin, emission, below, inUse, peak,
+  swaps, entryGates, allEntryGates, Key, keys, callsTo, Emitted, bodyInvocations, around, shared, bodies, bodiesFrom, chainsWithin, emission, below, inUse, peak,
 }
 use Rattle.model.proofs.BooleanLaws.{byBool, byLt}
 use Rattle.agreement.proofs.EmissionClauses.{
-  bodies-here, bodies-past, whole-yes, whole-no, invocations-wide, invocations-thin, invocations-yes, invocations-no, invocations-recursive,
+  whole-yes, whole-no, invocations-wide, invocations-thin, invocations-yes, invocations-no, invocations-recursive,
   invocations-other, left-wide, left-thin, left-yes, left-no, left-recursive, left-other, right-wide, right-thin, right-yes, right-no,
   right-recursive, right-other,
 }
@@ -177,10 +177,8 @@ swaps-only e (k ∷ ks) (w ∷ ws) = byBool (eqb w k)
 pub entries-only : (d : Invocation) (later : List Invocation) → OnlyGates (allEntryGates d later)
 unfolding allEntryGates entryGates
 entries-only d [] = tt
-entries-only d (e ∷ later) = byBool (samePair d e)
-    (λ q. rw (q, allEntryGates)
-      (only-append (entryGates d e) (allEntryGates d later) (swaps-only (e .ancilla) (d .list) (e .list)) (entries-only d later)))
-    (λ q. rw (q, allEntryGates) (entries-only d later))
+entries-only d (e ∷ later) =
+    only-append (entryGates d e) (allEntryGates d later) (swaps-only (e .ancilla) (d .list) (e .list)) (entries-only d later)
 
 module _ (n : ℕ) (P : Program) (chains : Chains) (C : StackedChains n chains) where
   -- what is emitted rises from one next wire to the other
@@ -211,23 +209,28 @@ module _ (n : ℕ) (P : Program) (chains : Chains) (C : StackedChains n chains) 
             (only-stacked n t (reverse E) (only-reverse E only))))),
      omega arith)
 
+  -- a body that calls share, around those that follow
+  shared-stacked : (C : List Invocation) (following : List Invocation → ℕ → Emitted) → AllRise following → AllRise (shared P chains C following)
+  unfolding shared
+  shared-stacked [] following A all next h = A all next h
+  shared-stacked (d ∷ later) following A all next h =
+    let new = bodyInvocations P chains d next in
+    around-stacked d later next (following (all ++ new) (next + length new)) h (A (all ++ new) (next + length new) (omega arith))
+
   -- the bodies of one list length, around those of shorter lists
   pub bodies-stacked : (m : ℕ) (shorter : List Invocation → ℕ → Emitted) → AllRise shorter →
-      (seen : List ℕ) (calls all : List Invocation) (next : ℕ) → n < next → RisesTo next (bodies P chains m shorter seen calls all next)
+      (ks : List Key) (calls : List Invocation) → AllRise (bodies P chains m shorter ks calls)
   unfolding bodies
-  bodies-stacked m shorter A seen [] all next h = A all next h
-  bodies-stacked m shorter A seen (d ∷ calls) all next h = byBool (eqb (length (d .list)) m && not (member (d .procedure) seen))
-    (λ e. let new = bodyInvocations P chains d next in
-      rw (bodies-here P chains m shorter seen d calls all next e)
-        (around-stacked d calls next (bodies P chains m shorter (d .procedure ∷ seen) calls (all ++ new) (next + length new)) h
-          (bodies-stacked m shorter A (d .procedure ∷ seen) calls (all ++ new) (next + length new) (omega arith))))
-    (λ e. rw (bodies-past P chains m shorter seen d calls all next e) (bodies-stacked m shorter A seen calls all next h))
+  bodies-stacked m shorter A [] calls = A
+  bodies-stacked m shorter A (k ∷ ks) calls =
+    shared-stacked (callsTo m k calls) (bodies P chains m shorter ks calls) (bodies-stacked m shorter A ks calls)
 
   -- all bodies of a chain, the longest list first
   pub bodiesFrom-stacked : (m : ℕ) → AllRise (bodiesFrom P chains m)
   unfolding bodiesFrom
   bodiesFrom-stacked zero all next h = (refl, omega arith)
-  bodiesFrom-stacked (suc m) all next h = bodies-stacked (suc m) (bodiesFrom P chains m) (bodiesFrom-stacked m) [] all all next h
+  bodiesFrom-stacked (suc m) all next h =
+    bodies-stacked (suc m) (bodiesFrom P chains m) (bodiesFrom-stacked m) (keys (suc m) all) all all next h
 
 -- chains within chains
 pub chains-stacked : (n : ℕ) (P : Program) (k : ℕ) → StackedChains n (chainsWithin P k)

@@ -11,14 +11,16 @@ use Rattle.model.specs.Syntax.{Statement, skip, NOT, sequence, if, qcase, call,
 use Rattle.model.specs.Lists.{qubits, remaining, touched, holds}
 use Rattle.model.specs.Reach.{recursive, width, anyTooWide}
 use Rattle.model.specs.Gates.{Controls, noControls, withControl}
-use Rattle.model.specs.Emission.{Chains, startChain, whole, Invocation, invocation, invoked, isWide, invocations, left, right, under, isFirst}
-use Rattle.model.specs.Emission.{Emitted, bodyInvocations, around, bodies, bodiesFrom, chainsWithin, emission}
+use Rattle.model.specs.Emission.{Chains, startChain, whole, Invocation, invocation, invoked, isWide, invocations, left, right, under, Key, keys, callsTo}
+use Rattle.model.specs.Emission.{Emitted, bodyInvocations, around, shared, bodies, bodiesFrom, chainsWithin, emission}
 use Rattle.model.proofs.BooleanLaws.{byBool, not-zero}
 use Rattle.model.proofs.ReachAndRank.{Named, reach-call, rank, rank-positive, rank-most, rank-reach, rank-falls, all-narrow}
+use Rattle.agreement.proofs.InvocationsOfABody.{AllOf, all-append}
+use Rattle.agreement.proofs.KeysOfALength.{calls-keep}
 use Rattle.agreement.proofs.EmissionClauses.{whole-yes, whole-no, invocations-wide, invocations-thin, invocations-yes, invocations-no}
 use Rattle.agreement.proofs.EmissionClauses.{invocations-recursive, invocations-other, left-wide, left-thin, left-yes, left-no, left-recursive}
 use Rattle.agreement.proofs.EmissionClauses.{left-other, right-wide, right-thin, right-yes, right-no, width-sequence}
-use Rattle.agreement.proofs.EmissionClauses.{width-if, width-qcase, thin-width, wide-width, bodies-here, bodies-past}
+use Rattle.agreement.proofs.EmissionClauses.{width-if, width-qcase, thin-width, wide-width}
 use Rattle.agreement.proofs.ClassesOnALine.{Each, each-call}
 
 -- two accounts of chains agree on the procedures of which Q holds
@@ -104,13 +106,7 @@ module _ (Q : ℕ → Type 0) (chains chains′ : Chains) (A : Agree Q chains ch
 
 -- Q holds of the procedure of every invocation
 abbrev Members : (ℕ → Type 0) → List Invocation → Type 0
-Members Q [] = Unit {0}
-Members Q (d ∷ D) = Q (d .procedure) × Members Q D
-
--- it does of two lists together where it does of each
-members-append : (Q : ℕ → Type 0) (D E : List Invocation) → Members Q D → Members Q E → Members Q (D ++ E)
-members-append Q [] E m n = n
-members-append Q (d ∷ D) E m n = (m .0, members-append Q D E (m .1) n)
+Members Q = AllOf (λ (d : Invocation). Q (d .procedure))
 
 -- a call names its own procedure
 invoked-members : (Q : ℕ → Type 0) (f : ℕ) (l : List ℕ) (next : ℕ) → Q f → Members Q (invoked f l next)
@@ -131,7 +127,7 @@ invocations-members Q r (if c s t) l next q = byBool (holds c l)
     (λ e. rw (invocations-no r l next c s t e) (invocations-members Q r t l next (q .1)))
 invocations-members Q r (qcase rs a s t) l next q =
     let m = next + length (invocations r s l next) in
-    members-append Q (invocations r s l next) (invocations r t l m) (invocations-members Q r s l next (q .0)) (invocations-members Q r t l m (q .1))
+    all-append (λ (d : Invocation). Q (d .procedure)) (invocations r s l next) (invocations r t l m) (invocations-members Q r s l next (q .0)) (invocations-members Q r t l m (q .1))
 invocations-members Q r (call rs f) l next q = byBool (r f)
     (λ e. rw (invocations-recursive r l next rs f e) (invoked-members Q f (remaining rs l) next q))
     (λ e. rw (invocations-other r l next rs f e) tt)
@@ -155,28 +151,33 @@ module _ (P : Program) (narrow : (f : ℕ) → width (recursive P f) (body P f) 
   abbrev Alike : (List Invocation → ℕ → Emitted) → (List Invocation → ℕ → Emitted) → Type 0
   Alike shorter shorter′ = (all : List Invocation) (next : ℕ) → Members Own all → shorter all next ≡ shorter′ all next
 
+  -- a body that calls share, around those that follow
+  shared-agree : (C : List Invocation) (following following′ : List Invocation → ℕ → Emitted) → Members Own C → Alike following following′ →
+      Alike (shared P chains C following) (shared P chains′ C following′)
+  unfolding shared
+  shared-agree [] following following′ c F all next a = F all next a
+  shared-agree (d ∷ later) following following′ c F all next a =
+    let new = bodyInvocations P chains d next in
+    let more = all-append (λ (x : Invocation). Own (x .procedure)) all new a
+          (invocations-members Own (recursive P (d .procedure)) (body P (d .procedure)) (d .list) next (own (d .procedure) (c .0))) in
+    rw (F (all ++ new) (next + length new) more) (around-agree d later next (following′ (all ++ new) (next + length new)) (c .0))
+
   -- the bodies of one list length, around those of shorter lists
   bodies-agree : (m : ℕ) (shorter shorter′ : List Invocation → ℕ → Emitted) → Alike shorter shorter′ →
-      (seen : List ℕ) (calls all : List Invocation) (next : ℕ) → Members Own calls → Members Own all →
-      bodies P chains m shorter seen calls all next ≡ bodies P chains′ m shorter′ seen calls all next
+      (ks : List Key) (calls : List Invocation) → Members Own calls →
+      Alike (bodies P chains m shorter ks calls) (bodies P chains′ m shorter′ ks calls)
   unfolding bodies
-  bodies-agree m shorter shorter′ S seen [] all next c a = S all next a
-  bodies-agree m shorter shorter′ S seen (d ∷ calls) all next c a = byBool (isFirst m seen d)
-    (λ e.
-      let new = bodyInvocations P chains d next in
-      let more = members-append Own all new a (invocations-members Own (recursive P (d .procedure)) (body P (d .procedure)) (d .list) next
-            (own (d .procedure) (c .0))) in
-      rw (bodies-here P chains m shorter seen d calls all next e, bodies-here P chains′ m shorter′ seen d calls all next e,
-        bodies-agree m shorter shorter′ S (d .procedure ∷ seen) calls (all ++ new) (next + length new) (c .1) more)
-        (around-agree d calls next (bodies P chains′ m shorter′ (d .procedure ∷ seen) calls (all ++ new) (next + length new)) (c .0)))
-    (λ e. rw (bodies-past P chains m shorter seen d calls all next e, bodies-past P chains′ m shorter′ seen d calls all next e)
-      (bodies-agree m shorter shorter′ S seen calls all next (c .1) a))
+  bodies-agree m shorter shorter′ S [] calls c = S
+  bodies-agree m shorter shorter′ S (k ∷ ks) calls c =
+    shared-agree (callsTo m k calls) (bodies P chains m shorter ks calls) (bodies P chains′ m shorter′ ks calls)
+      (calls-keep m (λ (d : Invocation). Own (d .procedure)) k calls c) (bodies-agree m shorter shorter′ S ks calls c)
 
   -- all bodies of a chain
   bodiesFrom-agree : (m : ℕ) → Alike (bodiesFrom P chains m) (bodiesFrom P chains′ m)
   unfolding bodiesFrom
   bodiesFrom-agree zero all next a = refl
-  bodiesFrom-agree (suc m) all next a = bodies-agree (suc m) (bodiesFrom P chains m) (bodiesFrom P chains′ m) (bodiesFrom-agree m) [] all all next a a
+  bodiesFrom-agree (suc m) all next a =
+    bodies-agree (suc m) (bodiesFrom P chains m) (bodiesFrom P chains′ m) (bodiesFrom-agree m) (keys (suc m) all) all a all next a
 
 module _ (P : Program) (N : Named P) (passes11 : anyTooWide P ≡ false) where
   -- a procedure of rank at most k, and one of rank below k

@@ -1,17 +1,16 @@
 -- The clauses of the emission by the test that decides them, and what width at most 1 says of a statement's parts.
 use mathlib.Core.Path.{_≡_}
 use mathlib.Core.Bool.{Bool, true, false}
-use mathlib.Core.List.{List, [], _∷_, _++_}
+use mathlib.Core.List.{List, [], _++_}
 use Prim.Native.Nat.{ℕ, _+_, _≤_, _<_}
 use native.Mathlib.Omega.{arith}
 use borrow.Author.Tests.{ltb-true, ltb-false}
-use lib.ListN.{length}
-use Rattle.model.specs.Syntax.{Number, Condition, Statement, skip, NOT, sequence, if, qcase, call, Program}
+use Rattle.model.specs.Syntax.{Number, Condition, Statement, skip, NOT, sequence, if, qcase, call}
 use Rattle.model.specs.Lists.{remaining, holds}
 use Rattle.model.specs.Reach.{width}
 use Rattle.model.specs.Gates.{Controls}
 use Rattle.model.specs.Emission.{
-  Chains, startChain, whole, Invocation, invoked, isWide, invocations, invokes, returns, left, right, Emitted, bodyInvocations, around, bodies, isFirst,
+  Chains, startChain, whole, invoked, isWide, invocations, invokes, returns, left, right,
 }
 use Rattle.model.proofs.BooleanLaws.{byBool, not-zero}
 use Rattle.model.proofs.ReachAndRank.{Ranked}
@@ -139,18 +138,3 @@ thin-low rank r k (sequence s t) q h = (thin-low rank r k s (q .0) (omega arith)
 thin-low rank r k (if c s t) q h = (thin-low rank r k s (q .0) (omega arith), thin-low rank r k t (q .1) (omega arith))
 thin-low rank r k (qcase rs a s t) q h = (thin-low rank r k s (q .0) (omega arith), thin-low rank r k t (q .1) (omega arith))
 thin-low rank r k (call rs f) q h = byBool (r f) (λ e. absurd (not-zero 0 (rw (e, width) at h))) (λ e. q .1 e)
-
-module _ (P : Program) (chains : Chains) (m : ℕ) (shorter : List Invocation → ℕ → Emitted) (seen : List ℕ) (d : Invocation)
-         (calls all : List Invocation) (next : ℕ) where
-  -- the clause of `bodies` at an invocation whose body comes now
-  pub bodies-here : isFirst m seen d ≡ true → bodies P chains m shorter seen (d ∷ calls) all next ≡
-      around P chains d calls next
-        (bodies P chains m shorter (d .procedure ∷ seen) calls (all ++ bodyInvocations P chains d next)
-          (next + length (bodyInvocations P chains d next)))
-  unfolding bodies
-  bodies-here e = rw (e, bodies)
-
-  -- and at one whose body does not
-  pub bodies-past : isFirst m seen d ≡ false → bodies P chains m shorter seen (d ∷ calls) all next ≡ bodies P chains m shorter seen calls all next
-  unfolding bodies
-  bodies-past e = rw (e, bodies)

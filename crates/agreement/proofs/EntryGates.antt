@@ -6,14 +6,12 @@ use mathlib.Core.Bool.{true, false}
 use mathlib.Core.List.{List, [], _∷_, _++_, map, reverse}
 use Prim.Native.Nat.{ℕ, _<_}
 use native.Mathlib.Omega.{arith}
-use borrow.Author.Tests.{eqb-true}
 use lib.ListN.{length}
-use lib.Dec.{eqb}
 use Rattle.model.specs.Lists.{member}
 use Rattle.model.specs.Meaning.{State, flipped}
 use Rattle.model.specs.Gates.{renamed}
-use Rattle.model.specs.Emission.{Event, takes, places, frees, Invocation, under, entryGates, samePair, allEntryGates}
-use Rattle.model.proofs.BooleanLaws.{byBool, eqb-same, not-true-false, and-left, and-right}
+use Rattle.model.specs.Emission.{Event, takes, places, frees, Invocation, under, entryGates, allEntryGates}
+use Rattle.model.proofs.BooleanLaws.{not-true-false}
 use Rattle.model.proofs.ListLaws.{Data, Distinct, data-off, data-zero, not-tail}
 use Rattle.model.proofs.GateLaws.{flipped-other, renamed-at, flip-fires, flip-rests}
 use Rattle.agreement.proofs.EffectOfEvents.{effect, effect-nil, effect-places, effect-append, effect-reverse, AllClear}
@@ -21,33 +19,6 @@ use Rattle.agreement.proofs.ProgramFacts.{Renames}
 use Rattle.agreement.proofs.InvocationsOfABody.{Mem, DistinctAncillas}
 use Rattle.agreement.proofs.TrackedSwaps.{fires-under, asks-under, route, route-stays, route-one-to-one, route-list, swaps-rest, swaps-fire}
 use Rattle.agreement.proofs.TrackedSwaps.{swaps-clear}
-
--- two invocations of the same pair call the same procedure
-pub same-procedure : (d e : Invocation) → samePair d e ≡ true → e .procedure ≡ d .procedure
-unfolding samePair
-same-procedure d e h =
-    eqb-true (e .procedure) (d .procedure) (and-left (eqb (e .procedure) (d .procedure)) (eqb (length (e .list)) (length (d .list))) h)
-
--- with lists of the same length
-pub same-length : (d e : Invocation) → samePair d e ≡ true → length (e .list) ≡ length (d .list)
-unfolding samePair
-same-length d e h =
-    eqb-true (length (e .list)) (length (d .list)) (and-right (eqb (e .procedure) (d .procedure)) (eqb (length (e .list)) (length (d .list))) h)
-
--- and the other way round
-pub same-pair : (d e : Invocation) → e .procedure ≡ d .procedure → length (e .list) ≡ length (d .list) → samePair d e ≡ true
-unfolding samePair
-same-pair d e p q = rw (p, q, eqb-same (d .procedure)) (eqb-same (length (d .list)))
-
--- the clauses of the entry gates: a later invocation of the pair, and one of another
-entries-same : (d e : Invocation) (later : List Invocation) → samePair d e ≡ true →
-    allEntryGates d (e ∷ later) ≡ entryGates d e ++ allEntryGates d later
-unfolding allEntryGates
-entries-same d e later h = rw (h, allEntryGates)
-
-entries-other : (d e : Invocation) (later : List Invocation) → samePair d e ≡ false → allEntryGates d (e ∷ later) ≡ allEntryGates d later
-unfolding allEntryGates
-entries-other d e later h = rw (h, allEntryGates)
 
 -- events one after another ask none of their targets
 clear-append : (xs ys : List Event) → AllClear xs → AllClear ys → AllClear (xs ++ ys)
@@ -60,17 +31,18 @@ clear-append (frees w ∷ xs) ys a b = clear-append xs ys a b
 pub effect-back : (es : List Event) (s t : State) → AllClear es → effect es s ≡ t → effect (reverse es) t ≡ s
 effect-back es s t c h = subst (λ (u : State). effect (reverse es) u ≡ s) h (effect-reverse es s c)
 
--- a later invocation e of d's pair: another ancilla, above the data wires, and a list of data wires as long as d's
+-- a later invocation e of d's pair: of its procedure, with another ancilla, above the data wires, and a list of data wires as long as d's
 pub record Entrant (n : ℕ) (d e : Invocation) : Type 0 where
+  pub sameProcedure : e .procedure ≡ d .procedure
   pub above : n < e .ancilla
   pub apart : d .ancilla ≢ e .ancilla
   pub wires : Data n (e .list)
   pub distinct : Distinct (e .list)
   pub sameLength : length (d .list) ≡ length (e .list)
 
--- all of the pair among the later invocations
+-- all of the later invocations
 abbrev pub Entrants : ℕ → Invocation → List Invocation → Type 0
-Entrants n d later = (e : Invocation) → Mem e later → samePair d e ≡ true → Entrant n d e
+Entrants n d later = (e : Invocation) → Mem e later → Entrant n d e
 
 -- how the entry gates of e rename the wires
 abbrev pub moves : Invocation → Invocation → ℕ → ℕ
@@ -132,37 +104,30 @@ module _ (n : ℕ) (d : Invocation) (dat : Data n (d .list)) where
   pub entries-clear : (later : List Invocation) → Entrants n d later → AllClear (allEntryGates d later)
   unfolding allEntryGates
   entries-clear [] X = tt
-  entries-clear (e ∷ later) X = byBool (samePair d e)
-    (λ h. rw (entries-same d e later h)
-      (clear-append (entryGates d e) (allEntryGates d later) (entry-clear e (X e (inl refl) h)) (entries-clear later (λ y m. X y (inr m)))))
-    (λ h. rw (entries-other d e later h) (entries-clear later (λ y m. X y (inr m))))
+  entries-clear (e ∷ later) X =
+    clear-append (entryGates d e) (allEntryGates d later) (entry-clear e (X e (inl refl))) (entries-clear later (λ y m. X y (inr m)))
 
-  -- where no later invocation of the pair is active, the entry gates do nothing
+  -- where no later invocation is active, the entry gates do nothing
   pub entries-rest : (later : List Invocation) (s : State) → Entrants n d later →
-      ((e : Invocation) → Mem e later → samePair d e ≡ true → s (e .ancilla) ≡ false) → effect (allEntryGates d later) s ≡ s
+      ((e : Invocation) → Mem e later → s (e .ancilla) ≡ false) → effect (allEntryGates d later) s ≡ s
   unfolding allEntryGates
   entries-rest [] s X h = effect-nil s
-  entries-rest (e ∷ later) s X h = byBool (samePair d e)
-    (λ q. rw (entries-same d e later q, effect-append, entry-rests e s (X e (inl refl) q) (h e (inl refl) q))
-      (entries-rest later s (λ y m. X y (inr m)) (λ y m. h y (inr m))))
-    (λ q. rw (entries-other d e later q) (entries-rest later s (λ y m. X y (inr m)) (λ y m. h y (inr m))))
+  entries-rest (e ∷ later) s X h = rw (effect-append, entry-rests e s (X e (inl refl)) (h e (inl refl)))
+    (entries-rest later s (λ y m. X y (inr m)) (λ y m. h y (inr m)))
 
   -- where one is, alone, they enter with its list
   pub entries-fire : (later : List Invocation) (s : State) (e : Invocation) → Entrants n d later → DistinctAncillas later →
-      Mem e later → samePair d e ≡ true → s (e .ancilla) ≡ true →
-      ((y : Invocation) → Mem y later → samePair d y ≡ true → s (y .ancilla) ≡ true → y ≡ e) →
+      Mem e later → s (e .ancilla) ≡ true → ((y : Invocation) → Mem y later → s (y .ancilla) ≡ true → y ≡ e) →
       effect (allEntryGates d later) s ≡ entered d e s
-  entries-fire [] s e X D m q h sole = absurd m
-  entries-fire (x ∷ later) s e X D (inl m) q h sole =
-    let same : samePair d x ≡ true = subst (λ (y : Invocation). samePair d y ≡ true) m q in
-    rw (entries-same d x later same, effect-append, entry-fires x s (X x (inl refl) same) (subst (λ (y : Invocation). s (y .ancilla) ≡ true) m h), ← m)
-      (entries-rest later (entered d e s) (λ y my. X y (inr my)) (λ y my qy.
-        let Y : Entrant n d y = X y (inr my) qy in
-        entered-above e s (X e (inl m) q .wires) (y .ancilla) (Y .above) (λ z. Y .apart (sym z)) ∙
-          not-true-false (s (y .ancilla)) (λ on. D .0 y my (ap (λ (v : Invocation). v .ancilla) (sym m ∙ sym (sole y (inr my) qy on))))))
-  entries-fire (x ∷ later) s e X D (inr m) q h sole =
-    let rest = entries-fire later s e (λ y my. X y (inr my)) (D .1) m q h (λ y my. sole y (inr my)) in
-    byBool (samePair d x)
-      (λ same. rw (entries-same d x later same, effect-append, entry-rests x s (X x (inl refl) same)
-          (not-true-false (s (x .ancilla)) (λ on. D .0 e m (ap (λ (v : Invocation). v .ancilla) (sole x (inl refl) same on))))) rest)
-      (λ other. rw (entries-other d x later other) rest)
+  unfolding allEntryGates
+  entries-fire [] s e X D m h sole = absurd m
+  entries-fire (x ∷ later) s e X D (inl m) h sole =
+    rw (effect-append, entry-fires x s (X x (inl refl)) (subst (λ (y : Invocation). s (y .ancilla) ≡ true) m h), ← m)
+      (entries-rest later (entered d e s) (λ y my. X y (inr my)) (λ y my.
+        let Y : Entrant n d y = X y (inr my) in
+        entered-above e s (X e (inl m) .wires) (y .ancilla) (Y .above) (λ z. Y .apart (sym z)) ∙
+          not-true-false (s (y .ancilla)) (λ on. D .0 y my (ap (λ (v : Invocation). v .ancilla) (sym m ∙ sym (sole y (inr my) on))))))
+  entries-fire (x ∷ later) s e X D (inr m) h sole =
+    rw (effect-append, entry-rests x s (X x (inl refl))
+        (not-true-false (s (x .ancilla)) (λ on. D .0 e m (ap (λ (v : Invocation). v .ancilla) (sole x (inl refl) on)))))
+      (entries-fire later s e (λ y my. X y (inr my)) (D .1) m h (λ y my. sole y (inr my)))

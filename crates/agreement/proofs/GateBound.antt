@@ -4,13 +4,14 @@
 -- 3. A chain has one body per procedure and length, so the bodies of one length come to the charge of all records once, and there are n lengths.
 -- 4. A non-recursive call adds the chain that it starts, which has one class less: with c calls and n lengths that is at most a factor c × n.
 -- 5. There are r classes on a line from main, so the chains come to at most s × (4 + 2n) × r × (c × n)^r, and main's own records to s × (4 + 2n).
-use mathlib.Core.Path.{_≡_, refl, sym, ap, _∙_}
-use mathlib.Core.Bool.{Bool, true, false, not}
+use mathlib.Core.Path.{_≡_, refl, sym, ap, subst}
+use mathlib.Core.Logic.{inl}
+use mathlib.Core.Bool.{Bool, true, false, _&&_}
 use mathlib.Core.List.{List, [], _∷_, _++_, map, reverse, reverse-cons}
 use Prim.Native.Nat.{ℕ, zero, suc, _+_, _*_, _^_, _≤_, _<_, zero-le, suc-le-suc}
 use native.Mathlib.Nat.{not-suc-le-zero, mul-le-mul-right, mul-le-mul-left, pow-suc, pow-zero}
 use native.Mathlib.Omega.{arith}
-use borrow.Author.Tests.{eqb-true, ltb-true, lt-ltb, le-ltb, not-true}
+use borrow.Author.Tests.{eqb-true, ltb-true, lt-ltb, le-ltb}
 use lib.ListN.{length, length-append}
 use lib.Dec.{eqb, ltb}
 use Rattle.model.specs.Syntax.{Statement, skip, NOT, sequence, if, qcase, call, Program, count, body}
@@ -18,18 +19,19 @@ use Rattle.model.specs.Lists.{qubits, remaining, touched, holds, member}
 use Rattle.model.specs.Reach.{calls, recursive, width, anyLacksRemoval, anyTooWide}
 use Rattle.model.specs.Gates.{Controls, noControls, withControl, exchange}
 use Rattle.model.specs.Emission.{Event, takes, places, frees, Chains, startChain, whole, Invocation, invocation, invoked, isWide, invocations}
-use Rattle.model.specs.Emission.{invokes, returns, left, right, under, swaps, entryGates, samePair, allEntryGates, isFirst, Emitted, bodyInvocations, around}
-use Rattle.model.specs.Emission.{bodies, bodiesFrom, chainsWithin, emission, gates}
+use Rattle.model.specs.Emission.{invokes, returns, left, right, under, swaps, entryGates, allEntryGates, Key, keyOf, keys, isOf, callsTo, Emitted}
+use Rattle.model.specs.Emission.{bodyInvocations, around, shared, bodies, bodiesFrom, chainsWithin, emission, gates}
 use Rattle.model.specs.Bound.{notRecords, callRecords, sumBodies, sOf, cOf, rOf, gateBound}
-use Rattle.model.proofs.BooleanLaws.{byBool, byEq, eqb-same, not-true-false, and-left, and-right, and-both, and-false-right}
-use Rattle.model.proofs.ListLaws.{member-head, member-tail, member-skip, not-tail, remaining-no-longer, range-length}
+use Rattle.model.proofs.BooleanLaws.{byBool, byEq, not-true-false, and-left, and-right, and-both, and-false-right}
+use Rattle.model.proofs.ListLaws.{Distinct, member-head, member-tail, member-nil, member-skip, member-differs, not-tail, remaining-no-longer, range-length}
 use Rattle.model.proofs.ReachAndRank.{Named, Ranked, all-narrow}
 use Rattle.agreement.proofs.EmissionClauses.{whole-yes, whole-no, invocations-wide, invocations-thin, invocations-yes, invocations-no}
 use Rattle.agreement.proofs.EmissionClauses.{invocations-recursive, invocations-other, left-wide, left-thin, left-yes, left-no, left-recursive}
 use Rattle.agreement.proofs.EmissionClauses.{left-other, right-wide, right-thin, right-yes, right-no, right-recursive, right-other, width-sequence}
 use Rattle.agreement.proofs.EmissionClauses.{width-if, width-qcase, thin-width, wide-width, Low, thin-low}
 use Rattle.agreement.proofs.ProgramFacts.{ranked-up}
-use Rattle.agreement.proofs.EntryGates.{same-procedure, same-length}
+use Rattle.agreement.proofs.InvocationsOfABody.{Mem, AllOf, all-append}
+use Rattle.agreement.proofs.KeysOfALength.{CallTo, calls-here, calls-past, calls-are, calls-keep, keys-order}
 use Rattle.agreement.proofs.ClassesOnALine.{Each, each-call, classes, classes-positive, classes-ranked, main-low, r-none}
 
 -- how many gates events place
@@ -156,21 +158,20 @@ entryGates-size : (d e : Invocation) → size (entryGates d e) ≤ suc (length (
 unfolding entryGates gates
 entryGates-size d e = suc-le-suc (swaps-size (e .ancilla) (d .list) (e .list))
 
-allEntryGates-size : (d : Invocation) (ds : List Invocation) → size (allEntryGates d ds) ≤ suc (length (d .list)) * passing (samePair d) ds
+allEntryGates-size : (d : Invocation) (later : List Invocation) → size (allEntryGates d later) ≤ suc (length (d .list)) * length later
 unfolding allEntryGates gates
 allEntryGates-size d [] = zero-le
-allEntryGates-size d (e ∷ ds) = let ih = allEntryGates-size d ds in byBool (samePair d e)
-    (λ h. rw (passing-yes (samePair d) e ds h) (rw (h, allEntryGates)
-      (rw (size-append (entryGates d e) (allEntryGates d ds)) (let g = entryGates-size d e in omega arith))))
-    (λ h. rw (passing-no (samePair d) e ds h) (rw (h, allEntryGates) ih))
+allEntryGates-size d (e ∷ later) =
+    let ih = allEntryGates-size d later in
+    let g = entryGates-size d e in
+    rw (size-append (entryGates d e) (allEntryGates d later)) (omega arith)
 
 -- a procedure, 1 to p, of rank at most j, called with at most n qubits
 abbrev Callable : ℕ → (ℕ → ℕ) → ℕ → ℕ → Invocation → Type 0
 Callable p rank n j d = (0 < d .procedure) × (d .procedure ≤ p) × (rank (d .procedure) ≤ j) × (length (d .list) ≤ n)
 
 abbrev AllCallable : ℕ → (ℕ → ℕ) → ℕ → ℕ → List Invocation → Type 0
-AllCallable p rank n j [] = Unit {0}
-AllCallable p rank n j (d ∷ ds) = Callable p rank n j d × AllCallable p rank n j ds
+AllCallable p rank n j = AllOf (Callable p rank n j)
 
 -- the chains that calls of procedures of rank below j start place at most so many gates each
 abbrev ChainsBelow : ℕ → (ℕ → ℕ) → ℕ → ℕ → ℕ → Chains → Type 0
@@ -184,10 +185,6 @@ charge U T s = U * records s + T * callRecords s
 module _ (p : ℕ) (rank : ℕ → ℕ) (n j : ℕ) where
   abbrev All : List Invocation → Type 0
   All = AllCallable p rank n j
-
-  all-append : (ds es : List Invocation) → All ds → All es → All (ds ++ es)
-  all-append [] es a b = b
-  all-append (d ∷ ds) es a b = (a .0, all-append ds es (a .1) b)
 
   invoked-callable : (f : ℕ) (l : List ℕ) (a : ℕ) → (0 < f) × (f ≤ p) → rank f ≤ j → length l ≤ n → All (invoked f l a)
   unfolding invoked
@@ -206,7 +203,7 @@ module _ (p : ℕ) (rank : ℕ → ℕ) (n j : ℕ) where
     (λ e. rw (invocations-yes r l next c s t e) (invocations-callable r s l next (i .0) (q .0) h))
     (λ e. rw (invocations-no r l next c s t e) (invocations-callable r t l next (i .1) (q .1) h))
   invocations-callable r (qcase rs a s t) l next i q h =
-    all-append (invocations r s l next) (invocations r t l (next + length (invocations r s l next)))
+    all-append (Callable p rank n j) (invocations r s l next) (invocations r t l (next + length (invocations r s l next)))
       (invocations-callable r s l next (i .0) (q .0) h) (invocations-callable r t l (next + length (invocations r s l next)) (i .1) (q .1) h)
   invocations-callable r (call rs f) l next i q h = byBool (r f)
     (λ e. rw (invocations-recursive r l next rs f e)
@@ -289,6 +286,18 @@ module _ (p : ℕ) (rank : ℕ → ℕ) (n u j T : ℕ) (chains : Chains) (CB : 
 abbrev isShorter : ℕ → Invocation → Bool
 isShorter m d = ltb (length (d .list)) m
 
+-- an invocation of length m whose key is among those to come
+abbrev isToCome : ℕ → List Key → Invocation → Bool
+isToCome m ks d = eqb (length (d .list)) m && member (keyOf d) ks
+
+-- the calls to a pair, counted
+calls-count : (m : ℕ) (k : Key) (ds : List Invocation) → length (callsTo m k ds) ≡ passing (isOf m k) ds
+unfolding callsTo passing
+calls-count m k [] = refl
+calls-count m k (d ∷ ds) = let ih = calls-count m k ds in byBool (isOf m k d)
+    (λ h. rw (calls-here m k d ds h, passing-yes (isOf m k) d ds h) (omega arith))
+    (λ h. rw (calls-past m k d ds h, passing-no (isOf m k) d ds h) ih)
+
 -- what a chain comes to beside the call that starts it, where at most k classes lie on a line from its procedure on: n lengths, each procedure once
 unfoldable deep : Program → ℕ → ℕ → ℕ → ℕ
 deep P n U zero = 0
@@ -323,17 +332,17 @@ module _ (P : Program) (rank : ℕ → ℕ) (n u : ℕ) (enough : 2 + 2 * n ≤ 
     body-fit d next i = invocations-callable (count P) rank n j (recursive P (d .procedure)) (body P (d .procedure)) (d .list) next
       (named (d .procedure)) (body-ranked d i) (i .3)
 
-    -- the calls that enter d's body, and those whose bodies are still to come, were to come before
-    entering-split : (d : Invocation) (m : ℕ) (seen : List ℕ) (ds : List Invocation) → length (d .list) ≡ m → member (d .procedure) seen ≡ false →
-        passing (samePair d) ds + passing (isFirst m (d .procedure ∷ seen)) ds ≤ passing (isFirst m seen) ds
-    entering-split d m seen ds l new = passing-split (samePair d) (isFirst m (d .procedure ∷ seen)) (isFirst m seen)
-      (λ x h. let f = same-procedure d x h in
-        (and-both (eqb (length (x .list)) m) (not (member (x .procedure) seen)) (rw (same-length d x h ∙ l) (eqb-same m)) (rw (f, new)),
-         and-false-right (eqb (length (x .list)) m) (not (member (x .procedure) (d .procedure ∷ seen))) (rw (f, member-head (d .procedure) seen))))
-      (λ x h. and-both (eqb (length (x .list)) m) (not (member (x .procedure) seen))
-        (and-left (eqb (length (x .list)) m) (not (member (x .procedure) (d .procedure ∷ seen))) h)
-        (rw (not-tail (x .procedure) (d .procedure) seen (not-true (member (x .procedure) (d .procedure ∷ seen))
-          (and-right (eqb (length (x .list)) m) (not (member (x .procedure) (d .procedure ∷ seen))) h))))) ds
+    -- the calls to a pair, and those whose keys come behind, were to come before
+    pair-split : (m : ℕ) (κ : Key) (ks : List Key) (ds : List Invocation) → member κ ks ≡ false →
+        length (callsTo m κ ds) + passing (isToCome m ks) ds ≤ passing (isToCome m (κ ∷ ks)) ds
+    pair-split m κ ks ds new = rw (calls-count m κ ds) (passing-split (isOf m κ) (isToCome m ks) (isToCome m (κ ∷ ks))
+      (λ x h.
+        let l = and-left (eqb (length (x .list)) m) (eqb (keyOf x) κ) h in
+        let e : keyOf x ≡ κ = eqb-true (keyOf x) κ (and-right (eqb (length (x .list)) m) (eqb (keyOf x) κ) h) in
+        (and-both (eqb (length (x .list)) m) (member (keyOf x) (κ ∷ ks)) l (rw e (member-head κ ks)),
+         and-false-right (eqb (length (x .list)) m) (member (keyOf x) ks) (rw e new)))
+      (λ x h. and-both (eqb (length (x .list)) m) (member (keyOf x) (κ ∷ ks)) (and-left (eqb (length (x .list)) m) (member (keyOf x) ks) h)
+        (member-tail (keyOf x) κ ks (and-right (eqb (length (x .list)) m) (member (keyOf x) ks) h))) ds)
 
     -- a body around all that follow it
     around-size : (d : Invocation) (later : List Invocation) (next : ℕ) (inner : Emitted) → size (around P chains d later next inner .events) ≡
@@ -342,47 +351,72 @@ module _ (P : Program) (rank : ℕ → ℕ) (n u : ℕ) (enough : 2 + 2 * n ≤ 
     unfolding around
     around-size d later next inner = simp (size-append, size-reverse) refl
 
-    module _ (m R : ℕ) (shorter : List Invocation → ℕ → Emitted)
-             (SB : (ds : List Invocation) (next : ℕ) → Fit ds → size (shorter ds next .events) ≤ u * passing (isShorter m) ds + R) where
-      -- one body around the others: its entry gates twice, its two parts, and what the others come to
-      sums : (entry lefts rights inner same next next′ short short′ new v rest all : ℕ) → 2 * entry ≤ u * same → same + next′ ≤ next →
-          short′ ≤ short + new → lefts + rights + u * new ≤ v → v + rest ≤ all → inner ≤ u * (next′ + short′) + rest + R →
-          entry + (lefts + (inner + (rights + entry))) ≤ u * (suc next + short) + all + R
-      sums entry lefts rights inner same next next′ short short′ new v rest all a b c d e f =
-        let b′ = mul-le-mul-left u b in
-        let c′ = mul-le-mul-left u c in
+    -- one body around the others: its entry gates twice, its two parts, and what the others come to
+    sums : (entry lefts rights inner later now then short short′ new v rest all R : ℕ) → 2 * entry ≤ u * later → suc later + then ≤ now →
+        short′ ≤ short + new → lefts + rights + u * new ≤ v → v + rest ≤ all → inner ≤ u * (then + short′) + rest + R →
+        entry + (lefts + (inner + (rights + entry))) ≤ u * (now + short) + all + R
+    sums entry lefts rights inner later now then short short′ new v rest all R a b c d e f =
+      let b′ = mul-le-mul-left u b in
+      let c′ = mul-le-mul-left u c in
+      omega arith
+
+    -- u pays for an invocation's entry gates, twice
+    twice : (entry len later : ℕ) → entry ≤ suc len * later → len ≤ n → 2 * entry ≤ u * later
+    twice entry len later h k = let z : 2 * suc len ≤ u = omega arith in let y = mul-le-mul-right later z in omega arith
+
+    module _ (m R : ℕ) (level : List Invocation) (fit : Fit level) where
+      -- what emits bodies for the keys ks of length m, and shorter ones: u for each invocation that is still to come, and the charge of every
+      -- procedure whose body of this length has not come
+      abbrev Comes : List Key → List ℕ → (List Invocation → ℕ → Emitted) → Type 0
+      Comes ks come following = (all : List Invocation) (next : ℕ) → Fit all →
+        size (following all next .events) ≤ u * (passing (isToCome m ks) level + passing (isShorter m) all) + total B come (count P) + R
+
+      -- one key more, that of the calls C
+      shared-size : (κ : Key) (ks : List Key) (come : List ℕ) (following : List Invocation → ℕ → Emitted) → member κ ks ≡ false →
+          member κ come ≡ false → Comes ks come following → Comes ks (κ ∷ come) following → (C : List Invocation) → callsTo m κ level ≡ C →
+          Comes (κ ∷ ks) come (shared P chains C following)
+      unfolding shared
+      shared-size κ ks come following new first F G [] e all next fa =
+        let b = pair-split m κ ks level new in
+        let b′ : passing (isToCome m ks) level ≤ passing (isToCome m (κ ∷ ks)) level = omega arith in
+        let c = mul-le-mul-left u b′ in
+        let ih = F all next fa in
         omega arith
+      shared-size κ ks come following new first F G (d ∷ later) e all next fa =
+        let own = bodyInvocations P chains d next in
+        let inner = following (all ++ own) (next + length own) in
+        let of : CallTo m κ level d = calls-are m κ level d (subst (λ (l : List Invocation). Mem d l) (sym e) (inl refl)) in
+        let f : d .procedure ≡ κ = of .key in
+        let call : Callable (count P) rank n j d = subst (λ (l : List Invocation). Fit l) e (calls-keep m (Callable (count P) rank n j) κ level fit) .0 in
+        let b : suc (length later) + passing (isToCome m ks) level ≤ passing (isToCome m (κ ∷ ks)) level = rw e at (pair-split m κ ks level new) in
+        rw (around-size d later next inner)
+          (sums (size (allEntryGates d later)) (size (leftOf d next)) (size (rightOf d next (inner .next))) (size (inner .events)) (length later)
+            (passing (isToCome m (κ ∷ ks)) level) (passing (isToCome m ks) level) (passing (isShorter m) all) (passing (isShorter m) (all ++ own)) (length own)
+            (B (d .procedure)) (total B (κ ∷ come) (count P)) (total B come (count P)) R
+            (twice (size (allEntryGates d later)) (length (d .list)) (length later) (allEntryGates-size d later) (call .3)) b
+            (passing-append (isShorter m) all own) (body-size d next (inner .next) call)
+            (rw f (total-take B come κ (count P) (rw f at (call .0)) (rw f at (call .1)) first))
+            (G (all ++ own) (next + length own) (all-append (Callable (count P) rank n j) all own fa (body-fit d next call))))
 
-      -- u pays for an invocation's entry gates, twice
-      twice : (entry len same : ℕ) → entry ≤ suc len * same → len ≤ n → 2 * entry ≤ u * same
-      twice entry len same h k = let z : 2 * suc len ≤ u = omega arith in let y = mul-le-mul-right same z in omega arith
-
-      -- the bodies of length m: u for each invocation that is still to come, and the charge of every procedure not yet seen
-      bodies-size : (seen : List ℕ) (ds all : List Invocation) (next : ℕ) → Fit ds → Fit all →
-          size (bodies P chains m shorter seen ds all next .events)
-            ≤ u * (passing (isFirst m seen) ds + passing (isShorter m) all) + total B seen (count P) + R
-      unfolding bodies passing
-      bodies-size seen [] all next fd fa = let h = SB all next fa in omega arith
-      bodies-size seen (d ∷ ds) all next fd fa = byBool (isFirst m seen d)
-        (λ e.
-          let l : length (d .list) ≡ m =
-                eqb-true (length (d .list)) m (and-left (eqb (length (d .list)) m) (not (member (d .procedure) seen)) e) in
-          let new : member (d .procedure) seen ≡ false =
-                not-true (member (d .procedure) seen) (and-right (eqb (length (d .list)) m) (not (member (d .procedure) seen)) e) in
-          let own = bodyInvocations P chains d next in
-          let inner = bodies P chains m shorter (d .procedure ∷ seen) ds (all ++ own) (next + length own) in
-          let ih = bodies-size (d .procedure ∷ seen) ds (all ++ own) (next + length own) (fd .1)
-                (all-append (count P) rank n j all own fa (body-fit d next (fd .0))) in
-          let entries : 2 * size (allEntryGates d ds) ≤ u * passing (samePair d) ds =
-                twice (size (allEntryGates d ds)) (length (d .list)) (passing (samePair d) ds) (allEntryGates-size d ds) (fd .0 .3) in
-          rw (passing-yes (isFirst m seen) d ds e) (rw (e, bodies) (rw (around-size d ds next inner)
-            (sums (size (allEntryGates d ds)) (size (leftOf d next)) (size (rightOf d next (inner .next))) (size (inner .events))
-              (passing (samePair d) ds) (passing (isFirst m seen) ds) (passing (isFirst m (d .procedure ∷ seen)) ds)
-              (passing (isShorter m) all) (passing (isShorter m) (all ++ own)) (length own) (B (d .procedure))
-              (total B (d .procedure ∷ seen) (count P)) (total B seen (count P))
-              entries (entering-split d m seen ds l new) (passing-append (isShorter m) all own) (body-size d next (inner .next) (fd .0))
-              (total-take B seen (d .procedure) (count P) (fd .0 .0) (fd .0 .1) new) ih))))
-        (λ e. rw (passing-no (isFirst m seen) d ds e) (rw (e, bodies) (bodies-size seen ds all next (fd .1) fa)))
+      -- the bodies of length m, in whatever order their keys come, each once
+      bodies-size : (shorter : List Invocation → ℕ → Emitted) →
+          ((all : List Invocation) (next : ℕ) → Fit all → size (shorter all next .events) ≤ u * passing (isShorter m) all + R) →
+          (ks : List Key) → Distinct ks → (come : List ℕ) → ((k : Key) → member k ks ≡ true → member k come ≡ false) →
+          Comes ks come (bodies P chains m shorter ks level)
+      unfolding bodies
+      bodies-size shorter SB [] once come apart all next fa =
+        let h = SB all next fa in
+        let c = mul-le-mul-left u (le-add (passing (isToCome m []) level) (passing (isShorter m) all)) in
+        omega arith
+        where
+          le-add : (a b : ℕ) → b ≤ a + b
+          le-add a b = omega arith
+      bodies-size shorter SB (κ ∷ ks) once come apart all next fa =
+        shared-size κ ks come (bodies P chains m shorter ks level) (once .0) (apart κ (member-head κ ks))
+          (bodies-size shorter SB ks (once .1) come (λ k b. apart k (member-tail k κ ks b)))
+          (bodies-size shorter SB ks (once .1) (κ ∷ come)
+            (λ k b. member-skip k κ come (member-differs k κ ks b (once .0)) (apart k (member-tail k κ ks b))))
+          (callsTo m κ level) refl all next fa
 
     -- the bodies of lists of length m and less
     bodiesFrom-size : (m : ℕ) (all : List Invocation) (next : ℕ) → Fit all →
@@ -391,15 +425,17 @@ module _ (P : Program) (rank : ℕ → ℕ) (n u : ℕ) (enough : 2 + 2 * n ≤ 
     bodiesFrom-size zero all next f = zero-le
     bodiesFrom-size (suc m) all next f =
       let S = total B [] (count P) in
-      let a = bodies-size (suc m) (m * S) (bodiesFrom P chains m) (λ ds next′ fit. bodiesFrom-size m ds next′ fit) [] all all next f f in
-      let b = passing-split (isFirst (suc m) []) (isShorter (suc m)) (isShorter (suc (suc m))) longest shorter all in
+      let ks = keys (suc m) all in
+      let a = bodies-size (suc m) (m * S) all f (bodiesFrom P chains m) (λ ds next′ fit. bodiesFrom-size m ds next′ fit) ks
+            (keys-order (suc m) all .once) [] (λ k b. member-nil k) all next f in
+      let b = passing-split (isToCome (suc m) ks) (isShorter (suc m)) (isShorter (suc (suc m))) (longest ks) shorter all in
       let c = mul-le-mul-left u b in
       omega arith
       where
-        longest : (x : Invocation) → isFirst (suc m) [] x ≡ true → (isShorter (suc (suc m)) x ≡ true) × (isShorter (suc m) x ≡ false)
-        longest x h =
+        longest : (ks : List Key) (x : Invocation) → isToCome (suc m) ks x ≡ true → (isShorter (suc (suc m)) x ≡ true) × (isShorter (suc m) x ≡ false)
+        longest ks x h =
           let l : length (x .list) ≡ suc m =
-                eqb-true (length (x .list)) (suc m) (and-left (eqb (length (x .list)) (suc m)) (not (member (x .procedure) [])) h) in
+                eqb-true (length (x .list)) (suc m) (and-left (eqb (length (x .list)) (suc m)) (member (keyOf x) ks) h) in
           (lt-ltb (length (x .list)) (suc (suc m)) (omega arith), le-ltb (length (x .list)) (suc m) (omega arith))
         shorter : (x : Invocation) → isShorter (suc m) x ≡ true → isShorter (suc (suc m)) x ≡ true
         shorter x h = let l = ltb-true (length (x .list)) (suc m) h in lt-ltb (length (x .list)) (suc (suc m)) (omega arith)

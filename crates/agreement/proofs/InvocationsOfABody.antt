@@ -1,17 +1,18 @@
 -- The invocations of a body: their ancillas are the next wires, no two alike, and each invocation is fit for a body of its own.
 use mathlib.Core.Path.{_≡_, refl, sym, ap, subst}
 use mathlib.Core.Logic.{_≢_, _⊎_, inl, inr}
-use mathlib.Core.Bool.{Bool}
+use mathlib.Core.Bool.{Bool, false}
 use mathlib.Core.List.{List, [], _∷_, _++_}
 use Prim.Native.Nat.{ℕ, _+_, _≤_, _<_}
 use native.Mathlib.Omega.{arith}
 use lib.ListN.{length, length-append}
 use Rattle.model.specs.Syntax.{Statement, skip, NOT, sequence, if, qcase, call}
 use Rattle.model.specs.Lists.{remaining, touched, holds}
+use Rattle.model.specs.Reach.{lacksRemoval}
 use Rattle.model.specs.Emission.{Invocation, invoked, isWide, invocations}
-use Rattle.model.proofs.BooleanLaws.{byBool}
+use Rattle.model.proofs.BooleanLaws.{byBool, or-false-left, or-false-right}
 use Rattle.model.proofs.ListLaws.{Data, Distinct, data-remaining, remaining-distinct, remaining-shorter}
-use Rattle.model.proofs.ReachAndRank.{Ranked}
+use Rattle.model.proofs.ReachAndRank.{carries-of, Ranked}
 use Rattle.agreement.proofs.EmissionClauses.{
   invocations-wide, invocations-thin, invocations-yes, invocations-no, invocations-recursive, invocations-other,
 }
@@ -21,6 +22,15 @@ use Rattle.agreement.proofs.ProgramFacts.{Safely, SafeCall, Safe, Weake
 abbrev pub Mem : Invocation → List Invocation → Type 0
 Mem d [] = ⊥
 Mem d (x ∷ D) = (d ≡ x) ⊎ Mem d D
+
+-- what holds of each invocation of a list
+abbrev pub AllOf : (Invocation → Type 0) → List Invocation → Type 0
+AllOf Q [] = Unit {0}
+AllOf Q (x ∷ D) = Q x × AllOf Q D
+
+pub all-append : (Q : Invocation → Type 0) (a b : List Invocation) → AllOf Q a → AllOf Q b → AllOf Q (a ++ b)
+all-append Q [] b h i = i
+all-append Q (x ∷ a) b h i = (h .0, all-append Q a b (h .1) i)
 
 -- a member of the first list, or of the second, is one of both
 pub mem-left : (d : Invocation) (a b : List Invocation) → Mem d a → Mem d (a ++ b)
@@ -163,3 +173,31 @@ module _ (rank : ℕ → ℕ) (G : Safely) (n : ℕ) (K : Weakens G) (r : ℕ �
       (news-invoked f (remaining rs l) C (length l) next o (data-remaining n rs l d) (remaining-distinct rs l u) (q .0 e .0)
         (remaining-shorter rs l (q .0 e .1) z)))
     (λ e. rw (invocations-other r l next rs f e) (λ x m. absurd m))
+
+-- the recursive calls of a body all carry a removal, so their lists are shorter than the body's
+module _ (r : ℕ → Bool) (l : List ℕ) (some : 0 < length l) where
+  abbrev Short : Invocation → Type 0
+  Short d = length (d .list) < length l
+
+  invoked-shorter : (f : ℕ) (left : List ℕ) (next : ℕ) → length left < length l → AllOf Short (invoked f left next)
+  unfolding invoked
+  invoked-shorter f [] next h = tt
+  invoked-shorter f (q ∷ left) next h = (h, tt)
+
+  pub invocations-shorter : (s : Statement) (next : ℕ) → lacksRemoval r s ≡ false → AllOf Short (invocations r s l next)
+  unfolding lacksRemoval invocations
+  invocations-shorter skip next h = tt
+  invocations-shorter (NOT rs a) next h = tt
+  invocations-shorter (sequence s t) next h = byBool (isWide r s)
+    (λ e. rw (invocations-wide r l next s t e) (invocations-shorter s next (or-false-left (lacksRemoval r s) (lacksRemoval r t) h)))
+    (λ e. rw (invocations-thin r l next s t e) (invocations-shorter t next (or-false-right (lacksRemoval r s) (lacksRemoval r t) h)))
+  invocations-shorter (if c s t) next h = byBool (holds c l)
+    (λ e. rw (invocations-yes r l next c s t e) (invocations-shorter s next (or-false-left (lacksRemoval r s) (lacksRemoval r t) h)))
+    (λ e. rw (invocations-no r l next c s t e) (invocations-shorter t next (or-false-right (lacksRemoval r s) (lacksRemoval r t) h)))
+  invocations-shorter (qcase rs a s t) next h = all-append Short (invocations r s l next) (invocations r t l (next + length (invocations r s l next)))
+    (invocations-shorter s next (or-false-left (lacksRemoval r s) (lacksRemoval r t) h))
+    (invocations-shorter t (next + length (invocations r s l next)) (or-false-right (lacksRemoval r s) (lacksRemoval r t) h))
+  invocations-shorter (call rs f) next h = byBool (r f)
+    (λ e. rw (invocations-recursive r l next rs f e)
+      (invoked-shorter f (remaining rs l) next (remaining-shorter rs l (carries-of rs (rw e at h)) some)))
+    (λ e. rw (invocations-other r l next rs f e) tt)

@@ -2,6 +2,7 @@ pub mod EffectOfEvents
 pub mod EmissionClauses
 pub mod ProgramFacts
 pub mod InvocationsOfABody
+pub mod KeysOfALength
 pub mod FrameAndRenaming
 pub mod WholeStatement
 pub mod IdleParts

@@ -6,31 +6,29 @@ use mathlib.Core.Bool.{Bool, true, false, not}
 use mathlib.Core.List.{List, [], _∷_, _++_, reverse}
 use Prim.Native.Nat.{ℕ, zero, suc, _+_, _≤_, _<_}
 use native.Mathlib.Omega.{arith}
-use borrow.Author.Tests.{eqb-true}
 use lib.ListN.{length}
-use lib.Dec.{eqb}
 use Rattle.model.specs.Syntax.{Statement, Program, body}
 use Rattle.model.specs.Lists.{member}
 use Rattle.model.specs.Meaning.{State, flipped, CallDoes, does}
 use Rattle.model.specs.Reach.{recursive}
 use Rattle.model.specs.Gates.{renamed, fires}
-use Rattle.model.specs.Emission.{Event, Chains, Invocation, invocation, left, right, under, samePair, allEntryGates, Emitted, bodyInvocations, around, isFirst}
-use Rattle.model.specs.Emission.{bodies, bodiesFrom, chainsWithin}
-use Rattle.model.proofs.BooleanLaws.{byBool, byEq, eqb-same, clash, not-true-false, not-not, and-left, and-right, and-both}
-use Rattle.model.proofs.ListLaws.{Data, data-off, member-cases, member-skip, member-nil, not-head, not-tail}
+use Rattle.model.specs.Emission.{Event, Chains, Invocation, invocation, left, right, under, allEntryGates, Key, keyOf, keys, callsTo, Emitted, bodyInvocations}
+use Rattle.model.specs.Emission.{around, shared, bodies, bodiesFrom, chainsWithin}
+use Rattle.model.proofs.BooleanLaws.{byEq, clash, not-true-false}
+use Rattle.model.proofs.ListLaws.{Data, Distinct, data-off, member-cases, member-head, member-tail, not-in-nil, not-tail}
 use Rattle.model.proofs.GateLaws.{flipped-same, flipped-other, renamed-at}
 use Rattle.model.proofs.ReachAndRank.{Ranked}
 use Rattle.agreement.proofs.EffectOfEvents.{effect, effect-nil, effect-append}
 use Rattle.agreement.proofs.ProgramFacts.{Safely, Safe, World, Zero, zero-up, zero-flip, asked-in-under, below-under, Fine, Served, ranked-up}
 use Rattle.agreement.proofs.InvocationsOfABody.{Mem, mem-left, mem-right, onMem, invocations-range, DistinctAncillas, distinct-append}
 use Rattle.agreement.proofs.InvocationsOfABody.{invocations-distinct, New, invocations-new}
+use Rattle.agreement.proofs.KeysOfALength.{same-procedure, CallTo, calls-are, calls-all, calls-distinct, keys-order}
 use Rattle.agreement.proofs.FrameAndRenaming.{safe-weaken}
-use Rattle.agreement.proofs.EmissionClauses.{bodies-here, bodies-past}
 use Rattle.agreement.proofs.WholeStatement.{zero-call}
 use Rattle.agreement.proofs.IdleParts.{left-rests, right-rests}
 use Rattle.agreement.proofs.SplitAtTheCall.{Split, split}
 use Rattle.agreement.proofs.TrackedSwaps.{fires-under}
-use Rattle.agreement.proofs.EntryGates.{same-procedure, same-length, same-pair, effect-back, Entrant, Entrants, moves, entered, moves-above}
+use Rattle.agreement.proofs.EntryGates.{effect-back, Entrant, Entrants, moves, entered, moves-above}
 use Rattle.agreement.proofs.EntryGates.{moves-renames, moves-list, entered-above, entries-clear, entries-rest, entries-fire}
 
 -- an invocation that waits in a chain whose next wire is `next`, at a rank of at most k
@@ -72,13 +70,13 @@ ancilla-tells (z ∷ D) h x y (inr p) (inr q) e = ancilla-tells D (h .1) x y p q
 abbrev pub Shorter : ℕ → List Invocation → Invocation → Type 0
 Shorter m D x = Mem x D × (length (x .list) < m)
 
--- .. and those of length m still to be looked at, whose procedure has not been seen
-abbrev pub Waiting : ℕ → List ℕ → List Invocation → Invocation → Type 0
-Waiting m seen T x = Mem x T × (length (x .list) ≡ m) × (member (x .procedure) seen ≡ false)
+-- .. and those of length m whose key is still to come
+abbrev pub Waiting : ℕ → List Key → List Invocation → Invocation → Type 0
+Waiting m ks T x = Mem x T × (length (x .list) ≡ m) × (member (keyOf x) ks ≡ true)
 
 -- both together
-abbrev pub Unserved : ℕ → List ℕ → List Invocation → List Invocation → Invocation → Type 0
-Unserved m seen T D x = Shorter m D x ⊎ Waiting m seen T x
+abbrev pub Unserved : ℕ → List Key → List Invocation → List Invocation → Invocation → Type 0
+Unserved m ks T D x = Shorter m D x ⊎ Waiting m ks T x
 
 -- an invocation with a shorter list is none of length m
 shorter-differs : (m : ℕ) (D : List Invocation) (y z : Invocation) → Shorter m D y → y ≡ z → length (z .list) ≡ m → ⊥
@@ -228,9 +226,9 @@ module _ (P : Program) (rank : ℕ → ℕ) (E : CallDoes) (G : Safely) (n : ℕ
         unfolding shell
         shell-effect s = simp effect-append
 
-        -- no later invocation of d's pair is active
+        -- no later invocation is active
         abbrev Calm : State → Type 0
-        Calm s = (e : Invocation) → Mem e later → samePair d e ≡ true → s (e .ancilla) ≡ false
+        Calm s = (e : Invocation) → Mem e later → s (e .ancilla) ≡ false
 
         -- then the entry gates do nothing
         entry-still : (s : State) → Calm s → effect (allEntryGates d later) s ≡ s
@@ -242,7 +240,7 @@ module _ (P : Program) (rank : ℕ → ℕ) (E : CallDoes) (G : Safely) (n : ℕ
 
         -- a call wakes none
         call-calm : (x : Invocation) (s : State) → Data n (x .list) → Calm s → Calm (E (x .procedure) (x .list) s)
-        call-calm x s dt c e m q = call-stays x s (e .ancilla) dt (X e m q .above) ∙ c e m q
+        call-calm x s dt c e m = call-stays x s (e .ancilla) dt (X e m .above) ∙ c e m
 
         -- nothing is active
         shell-rests : (s : State) → Zero next s → s (d .ancilla) ≡ false → Calm s → Still Old s → effect shell s ≡ s
@@ -277,13 +275,13 @@ module _ (P : Program) (rank : ℕ → ℕ) (E : CallDoes) (G : Safely) (n : ℕ
             let u = E (d .procedure) (d .list) s in
             shell-effect s ∙ rw (entry-still s c, core-runs s z h st) (back u u (entry-still u (call-calm d s (gd .fine .wires) c)))
 
-        -- a later invocation of d's pair is active: its entry gates rename its list to d's, and back
-        shell-entry : (s : State) (e : Invocation) → Zero next s → s (d .ancilla) ≡ false → DistinctAncillas later → Mem e later → samePair d e ≡ true →
-            s (e .ancilla) ≡ true → ((y : Invocation) → Mem y later → samePair d y ≡ true → s (y .ancilla) ≡ true → y ≡ e) →
+        -- a later invocation is active: its entry gates rename its list to d's, and back
+        shell-entry : (s : State) (e : Invocation) → Zero next s → s (d .ancilla) ≡ false → DistinctAncillas later → Mem e later →
+            s (e .ancilla) ≡ true → ((y : Invocation) → Mem y later → s (y .ancilla) ≡ true → y ≡ e) →
             Still Old s → ((x : Invocation) → Old x → x .ancilla ≢ d .ancilla) → effect shell s ≡ E (e .procedure) (e .list) s
-        shell-entry s e z h dist m q on so st apart =
+        shell-entry s e z h dist m on so st apart =
             let B = gd .fine .wires in
-            let en : Entrant n d e = X e m q in
+            let en : Entrant n d e = X e m in
             let mv = moves d e in
             let a = d .ancilla in
             let s1 = entered d e s in
@@ -292,14 +290,14 @@ module _ (P : Program) (rank : ℕ → ℕ) (E : CallDoes) (G : Safely) (n : ℕ
             let on1 : s1 a ≡ true = renamed-at mv (flipped a s) a ∙
                   (ap (flipped a s) (moves-above n d B e (en .wires) a (gd .above)) ∙ (flipped-same s a ∙ ap not h)) in
             let st1 : Still Old s1 = λ x o. entered-above n d B e s (en .wires) (x .ancilla) (old x o .above) (apart x o) ∙ st x o in
-            let there : effect (allEntryGates d later) s ≡ s1 = entries-fire n d B later s e X dist m q on so in
-            let return : effect (allEntryGates d later) u ≡ entered d e u = entries-fire n d B later u e X dist m q
+            let there : effect (allEntryGates d later) s ≡ s1 = entries-fire n d B later s e X dist m on so in
+            let return : effect (allEntryGates d later) u ≡ entered d e u = entries-fire n d B later u e X dist m
                   (call-stays e s (e .ancilla) (en .wires) (en .above) ∙ on)
-                  (λ y my qy oy. so y my qy (sym (call-stays e s (y .ancilla) (en .wires) (X y my qy .above)) ∙ oy)) in
+                  (λ y my oy. so y my (sym (call-stays e s (y .ancilla) (en .wires) (X y my .above)) ∙ oy)) in
             let run : E (d .procedure) (d .list) s1 ≡ entered d e u =
                   W .renames mv (moves-renames n d B e (en .wires)) (d .procedure) (d .list) (flipped a s) ∙
                   (ap (λ (l : List ℕ). renamed mv (E (d .procedure) l (flipped a s))) (moves-list n d B e (gd .fine .distinct) en) ∙
-                  (ap (λ (f : ℕ). renamed mv (E f (e .list) (flipped a s))) (sym (same-procedure d e q)) ∙
+                  (ap (λ (f : ℕ). renamed mv (E f (e .list) (flipped a s))) (sym (en .sameProcedure)) ∙
                   ap (renamed mv) (W .outside (e .procedure) (e .list) s a (data-off n (e .list) (en .wires) a (gd .above))))) in
             shell-effect s ∙ rw (there, core-runs s1 z1 on1 st1, run) (back u (entered d e u) return)
           where
@@ -310,121 +308,128 @@ module _ (P : Program) (rank : ℕ → ℕ) (E : CallDoes) (G : Safely) (n : ℕ
   abbrev pub Goods : ℕ → List Invocation → Type 0
   Goods next D = (x : Invocation) → Mem x D → Good rank G n k next x
 
-  -- one body more: d is the first of length m among the invocations still to be looked at, and `inner` serves all that is behind
-  module _ (m : ℕ) (seen : List ℕ) (d : Invocation) (T D : List Invocation) (next : ℕ) (inner : Emitted)
-           (gs : Goods next D) (dd : DistinctAncillas D) (dt : DistinctAncillas (d ∷ T)) (sub : (x : Invocation) → Mem x (d ∷ T) → Mem x D)
-           (len : length (d .list) ≡ m) (not-done : member (d .procedure) seen ≡ false)
-           (ih : Serves E (Unserved m (d .procedure ∷ seen) T (D ++ own d next)) (behind d next) (inner .events))
+  -- one body more: d and the `later` invocations are those of key κ and length m, and `inner` serves all that is behind, keys ks among it
+  module _ (m : ℕ) (κ : Key) (ks : List Key) (d : Invocation) (later T D : List Invocation) (next : ℕ) (inner : Emitted)
+           (gs : Goods next D) (dd : DistinctAncillas D) (dl : DistinctAncillas (d ∷ later)) (sub : (x : Invocation) → Mem x T → Mem x D)
+           (of : (x : Invocation) → Mem x (d ∷ later) → CallTo m κ T x) (all-of : (x : Invocation) → CallTo m κ T x → Mem x (d ∷ later))
+           (new : member κ ks ≡ false)
+           (ih : Serves E (Unserved m ks T (D ++ own d next)) (behind d next) (inner .events))
            (room : behind d next ≤ inner .next) where
+    in-D : (x : Invocation) → Mem x (d ∷ later) → Mem x D
+    in-D x b = sub x (of x b .among)
+
+    len : length (d .list) ≡ m
+    len = of d (inl refl) .long
+
     gd : Good rank G n k next d
-    gd = gs d (sub d (inl refl))
+    gd = gs d (in-D d (inl refl))
 
     -- what is served further in, and all that is to be served
     abbrev Old : Invocation → Type 0
-    Old x = Unserved m (d .procedure ∷ seen) T D x
+    Old x = Unserved m ks T D x
 
     abbrev All : Invocation → Type 0
-    All x = Unserved m seen (d ∷ T) D x
+    All x = Unserved m (κ ∷ ks) T D x
 
     old : (x : Invocation) → Old x → Good rank G n k next x
     old x (inl h) = gs x (h .0)
-    old x (inr h) = gs x (sub x (inr (h .0)))
+    old x (inr h) = gs x (sub x (h .0))
 
     -- the inner events serve what is served further in and the recursive calls of d's body
-    apart-own : (x : Invocation) → Unserved m (d .procedure ∷ seen) T (D ++ own d next) x → Old x ⊎ Mem x (own d next)
+    apart-own : (x : Invocation) → Unserved m ks T (D ++ own d next) x → Old x ⊎ Mem x (own d next)
     apart-own x (inl h) = onMem x D (own d next) (h .0) (λ y. inl (inl (y, h .1))) (λ y. inr y)
     apart-own x (inr h) = inl (inr h)
 
-    with-own : (x : Invocation) → Old x ⊎ Mem x (own d next) → Unserved m (d .procedure ∷ seen) T (D ++ own d next) x
+    with-own : (x : Invocation) → Old x ⊎ Mem x (own d next) → Unserved m ks T (D ++ own d next) x
     with-own x (inl (inl h)) = inl (mem-left x D (own d next) (h .0), h .1)
     with-own x (inl (inr h)) = inr h
     with-own x (inr h) = inl (mem-right x D (own d next) h, subst (λ (v : ℕ). length (x .list) < v) len (own-new d next gd x h .short))
 
     S : Serves E (λ x. Old x ⊎ Mem x (own d next)) (behind d next) (inner .events)
-    S = serves-iff E (Unserved m (d .procedure ∷ seen) T (D ++ own d next)) (λ x. Old x ⊎ Mem x (own d next))
+    S = serves-iff E (Unserved m ks T (D ++ own d next)) (λ x. Old x ⊎ Mem x (own d next))
       (behind d next) (inner .events) apart-own with-own ih
 
-    -- the later invocations of d's pair may enter
-    X : Entrants n d T
-    X e me q = let g = gs e (sub e (inr me)) in
-      record { above = g .above; apart = dt .0 e me; wires = g .fine .wires; distinct = g .fine .distinct; sameLength = sym (same-length d e q) }
+    -- the later invocations may enter
+    X : Entrants n d later
+    X e me = let g = gs e (in-D e (inr me)) in
+      record {
+        sameProcedure = same-procedure d e (of e (inr me) .key ∙ sym (of d (inl refl) .key));
+        above = g .above; apart = dl .0 e me; wires = g .fine .wires; distinct = g .fine .distinct; sameLength = len ∙ sym (of e (inr me) .long) }
 
     events : List Event
-    events = shell d next gd (inner .next) (inner .events) Old old room S T X
+    events = shell d next gd (inner .next) (inner .events) Old old room S later X
 
-    -- d, the later ones of its pair and those served further in are all that is to be served
-    first-unserved : All d
-    first-unserved = inr (inl refl, len, not-done)
-
-    later-unserved : (e : Invocation) → Mem e T → samePair d e ≡ true → All e
-    later-unserved e me q =
-      inr (inr me, same-length d e q ∙ len, subst (λ (f : ℕ). member f seen ≡ false) (sym (same-procedure d e q)) not-done)
+    -- d, the later ones and those served further in are all that is to be served
+    here-unserved : (x : Invocation) → Mem x (d ∷ later) → All x
+    here-unserved x b = let c = of x b in inr (c .among, c .long, rw (c .key) (member-head κ ks))
 
     old-unserved : (x : Invocation) → Old x → All x
     old-unserved x (inl h) = inl h
-    old-unserved x (inr h) = inr (inr (h .0), h .1, not-tail (x .procedure) (d .procedure) seen (h .2))
+    old-unserved x (inr h) = inr (h .0, h .1, member-tail (keyOf x) κ ks (h .2))
 
     -- what is served further in is not of d's pair
-    old-differs : (x y : Invocation) → Old x → x ≡ y → y .procedure ≡ d .procedure → length (y .list) ≡ m → ⊥
-    old-differs x y (inl h) e p l = shorter-differs m D x y h e l
-    old-differs x y (inr h) e p l = not-head (x .procedure) (d .procedure) seen (h .2) (ap (λ (v : Invocation). v .procedure) e ∙ p)
+    old-differs : (x y : Invocation) → Old x → x ≡ y → Mem y (d ∷ later) → ⊥
+    old-differs x y (inl h) e b = shorter-differs m D x y h e (of y b .long)
+    old-differs x y (inr h) e b = clash (subst (λ (f : Key). member f ks ≡ true) (ap (λ (v : Invocation). keyOf v) e ∙ of y b .key) (h .2)) new
 
     -- none is active
     rests : (s : State) → Zero next s → Still All s → effect events s ≡ s
     unfolding events
-    rests s z st = shell-rests d next gd (inner .next) (inner .events) Old old room S T X s z
-      (st d first-unserved) (λ e me q. st e (later-unserved e me q)) (λ x o. st x (old-unserved x o))
+    rests s z st = shell-rests d next gd (inner .next) (inner .events) Old old room S later X s z
+      (st d (here-unserved d (inl refl))) (λ e me. st e (here-unserved e (inr me))) (λ x o. st x (old-unserved x o))
 
     -- the active invocation is served further in
-    runs-inner : (s : State) (x : Invocation) → Zero next s → Old x → s (x .ancilla) ≡ true → Sole All s x →
-        ((y : Invocation) → y ≡ x → y .procedure ≡ d .procedure → length (y .list) ≡ m → ⊥) → effect events s ≡ E (x .procedure) (x .list) s
+    runs-inner : (s : State) (x : Invocation) → Zero next s → Old x → s (x .ancilla) ≡ true → Sole All s x → effect events s ≡ E (x .procedure) (x .list) s
     unfolding events
-    runs-inner s x z o on so ne = shell-inner d next gd (inner .next) (inner .events) Old old room S T X s x z
-      (not-true-false (s (d .ancilla)) (λ q. ne d (so d first-unserved q) refl len))
-      (λ e me q. not-true-false (s (e .ancilla)) (λ h. ne e (so e (later-unserved e me q) h) (same-procedure d e q) (same-length d e q ∙ len)))
-      o on (λ y r q. so y (old-unserved y r) q)
+    runs-inner s x z o on so = shell-inner d next gd (inner .next) (inner .events) Old old room S later X s x z
+      (idle d (inl refl)) (λ e me. idle e (inr me)) o on (λ y r q. so y (old-unserved y r) q)
+      where
+        idle : (y : Invocation) → Mem y (d ∷ later) → s (y .ancilla) ≡ false
+        idle y b = not-true-false (s (y .ancilla)) (λ q. old-differs x y o (sym (so y (here-unserved y b) q)) b)
+
+    -- where it is d or a later one, nothing further in is active
+    calm-inside : (s : State) (x : Invocation) → Mem x (d ∷ later) → Sole All s x → Still Old s
+    calm-inside s x b so y o = not-true-false (s (y .ancilla)) (λ h. old-differs y x o (so y (old-unserved y o) h) b)
 
     -- it is d
     runs-first : (s : State) → Zero next s → s (d .ancilla) ≡ true → Sole All s d → effect events s ≡ E (d .procedure) (d .list) s
     unfolding events
-    runs-first s z on so = shell-first d next gd (inner .next) (inner .events) Old old room S T X s z on
-      (λ e me q. not-true-false (s (e .ancilla)) (λ h. dt .0 e me (ap (λ (v : Invocation). v .ancilla) (sym (so e (later-unserved e me q) h)))))
-      (λ x o. not-true-false (s (x .ancilla)) (λ h. old-differs x d o (so x (old-unserved x o) h) refl len))
+    runs-first s z on so = shell-first d next gd (inner .next) (inner .events) Old old room S later X s z on
+      (λ e me. not-true-false (s (e .ancilla))
+        (λ h. dl .0 e me (ap (λ (v : Invocation). v .ancilla) (sym (so e (here-unserved e (inr me)) h)))))
+      (calm-inside s d (inl refl) so)
 
     -- it is a later one of d's pair
-    runs-later : (s : State) (x : Invocation) → Zero next s → Mem x T → samePair d x ≡ true → s (x .ancilla) ≡ true → Sole All s x →
+    runs-later : (s : State) (x : Invocation) → Zero next s → Mem x later → s (x .ancilla) ≡ true → Sole All s x →
         effect events s ≡ E (x .procedure) (x .list) s
     unfolding events
-    runs-later s x z mx q on so =
-      let p = same-procedure d x q in
-      let l : length (x .list) ≡ m = same-length d x q ∙ len in
-      shell-entry d next gd (inner .next) (inner .events) Old old room S T X s x z
-        (not-true-false (s (d .ancilla)) (λ h. dt .0 x mx (ap (λ (v : Invocation). v .ancilla) (so d first-unserved h))))
-        (dt .1) mx q on (λ y my qy h. so y (later-unserved y my qy) h)
-        (λ y o. not-true-false (s (y .ancilla)) (λ h. old-differs y x o (so y (old-unserved y o) h) p l))
-        (λ y o e. old-differs y d o (ancilla-tells D dd y d (in-D y o) (sub d (inl refl)) e) refl len)
+    runs-later s x z mx on so =
+      shell-entry d next gd (inner .next) (inner .events) Old old room S later X s x z
+        (not-true-false (s (d .ancilla)) (λ h. dl .0 x mx (ap (λ (v : Invocation). v .ancilla) (so d (here-unserved d (inl refl)) h))))
+        (dl .1) mx on (λ y my h. so y (here-unserved y (inr my)) h)
+        (calm-inside s x (inr mx) so)
+        (λ y o e. old-differs y d o (ancilla-tells D dd y d (old-in-D y o) (in-D d (inl refl)) e) (inl refl))
       where
-        in-D : (y : Invocation) → Old y → Mem y D
-        in-D y (inl h) = h .0
-        in-D y (inr h) = sub y (inr (h .0))
+        old-in-D : (y : Invocation) → Old y → Mem y D
+        old-in-D y (inl h) = h .0
+        old-in-D y (inr h) = sub y (h .0)
 
-    -- it has a list of length m
-    runs-waiting : (s : State) (x : Invocation) → Zero next s → Mem x (d ∷ T) → length (x .list) ≡ m → member (x .procedure) seen ≡ false →
-        s (x .ancilla) ≡ true → Sole All s x → effect events s ≡ E (x .procedure) (x .list) s
-    runs-waiting s x z (inl e) l u on so = subst (λ (y : Invocation). effect events s ≡ E (y .procedure) (y .list) s) (sym e)
+    -- it is one of d's pair
+    runs-here : (s : State) (x : Invocation) → Zero next s → Mem x (d ∷ later) → s (x .ancilla) ≡ true → Sole All s x →
+        effect events s ≡ E (x .procedure) (x .list) s
+    runs-here s x z (inl e) on so = subst (λ (y : Invocation). effect events s ≡ E (y .procedure) (y .list) s) (sym e)
       (runs-first s z (subst (λ (y : Invocation). s (y .ancilla) ≡ true) e on) (λ y r h. so y r h ∙ e))
-    runs-waiting s x z (inr mx) l u on so = byEq (x .procedure) (d .procedure)
-      (λ p. runs-later s x z mx (same-pair d x p (l ∙ sym len)) on so)
-      (λ np. runs-inner s x z (inr (mx, l, member-skip (x .procedure) (d .procedure) seen np u)) on so
-        (λ y e p l′. np (sym (ap (λ (v : Invocation). v .procedure) e) ∙ p)))
+    runs-here s x z (inr mx) on so = runs-later s x z mx on so
 
     -- it is any
     runs : (s : State) (x : Invocation) → Zero next s → All x → s (x .ancilla) ≡ true → Sole All s x → effect events s ≡ E (x .procedure) (x .list) s
-    runs s x z (inl h) on so = runs-inner s x z (inl h) on so (λ y e p l. shorter-differs m D x y h (sym e) l)
-    runs s x z (inr h) on so = runs-waiting s x z (h .0) (h .1) (h .2) on so
+    runs s x z (inl h) on so = runs-inner s x z (inl h) on so
+    runs s x z (inr h) on so = member-cases (keyOf x) κ ks (h .2)
+      (λ e. runs-here s x z (all-of x (record { among = h .0; long = h .1; key = e })) on so)
+      (λ c. runs-inner s x z (inr (h .0, h .1, c)) on so)
 
     -- the body of d around all that is behind serves all that is to be served
-    around-serves : Serves E (Unserved m seen (d ∷ T) D) next (around P chains d T next inner .events)
+    around-serves : Serves E (Unserved m (κ ∷ ks) T D) next (around P chains d later next inner .events)
     unfolding around events shell leftPart rightPart
     around-serves = record { rests = rests; runs = runs }
 
@@ -450,49 +455,54 @@ module _ (P : Program) (rank : ℕ → ℕ) (E : CallDoes) (G : Safely) (n : ℕ
       apart : (u v : ℕ) → u ≡ v → u < next → next ≤ v → ⊥
       apart u v e h i = omega arith
 
-  module _ (m : ℕ) (shorter : List Invocation → ℕ → Emitted) where
-    -- the bodies of length m serve what is not yet served
-    pub bodies-serve : ServesShorter m shorter → (seen : List ℕ) (T D : List Invocation) (next : ℕ) →
-        Goods next D → DistinctAncillas D → DistinctAncillas T → ((x : Invocation) → Mem x T → Mem x D) →
-        Serves E (Unserved m seen T D) next (bodies P chains m shorter seen T D next .events) × (next ≤ bodies P chains m shorter seen T D next .next)
-    unfolding bodies around
-    bodies-serve RO seen [] D next g dd dt sub =
-      let r = RO D next g dd in
-      (serves-iff E (Shorter m D) (Unserved m seen [] D) next (shorter D next .events) (λ x h. inl h) (λ x h. only x h) (r .0), r .1)
+  -- what emits the bodies of length m with keys ks, and shorter ones, serves their invocations among T, and never goes back in wires
+  abbrev pub ServesFrom : ℕ → List Key → List Invocation → (List Invocation → ℕ → Emitted) → Type 0
+  ServesFrom m ks T following = (D : List Invocation) (next : ℕ) → Goods next D → DistinctAncillas D → ((x : Invocation) → Mem x T → Mem x D) →
+    Serves E (Unserved m ks T D) next (following D next .events) × (next ≤ following D next .next)
+
+  module _ (m : ℕ) (T : List Invocation) (dt : DistinctAncillas T) where
+    -- one key more, that of the calls C
+    shared-serves : (κ : Key) (ks : List Key) (following : List Invocation → ℕ → Emitted) → member κ ks ≡ false → ServesFrom m ks T following →
+        (C : List Invocation) → callsTo m κ T ≡ C → ServesFrom m (κ ∷ ks) T (shared P chains C following)
+    unfolding shared around
+    shared-serves κ ks following new F [] e D next g dd sub =
+      let ih = F D next g dd sub in
+      (serves-iff E (Unserved m ks T D) (Unserved m (κ ∷ ks) T D) next (following D next .events) widen shrink (ih .0), ih .1)
       where
-        only : (x : Invocation) → Unserved m seen [] D x → Shorter m D x
-        only x (inl h) = h
-        only x (inr h) = absurd (h .0)
-    bodies-serve RO seen (d ∷ T) D next g dd dt sub = byBool (isFirst m seen d)
-      (λ e.
-        let md = sub d (inl refl) in
-        let l : length (d .list) ≡ m = eqb-true (length (d .list)) m (and-left (eqb (length (d .list)) m) (not (member (d .procedure) seen)) e) in
-        let u : member (d .procedure) seen ≡ false =
-              sym (not-not (member (d .procedure) seen)) ∙ ap not (and-right (eqb (length (d .list)) m) (not (member (d .procedure) seen)) e) in
-        let ih = bodies-serve RO (d .procedure ∷ seen) T (D ++ own d next) (behind d next)
-              (goods-more d D next g md) (distinct-more d D next g md dd) (dt .1) (λ x mx. mem-left x D (own d next) (sub x (inr mx))) in
-        let inner = bodies P chains m shorter (d .procedure ∷ seen) T (D ++ own d next) (behind d next) in
-        let room : behind d next ≤ inner .next = ih .1 in
-        rw (bodies-here P chains m shorter seen d T D next e) (around-serves m seen d T D next inner g dd dt sub l u (ih .0) room, omega arith))
-      (λ e. rw (bodies-past P chains m shorter seen d T D next e)
-        (let ih = bodies-serve RO seen T D next g dd (dt .1) (λ x mx. sub x (inr mx)) in
-         (serves-iff E (Unserved m seen T D) (Unserved m seen (d ∷ T) D) next (bodies P chains m shorter seen T D next .events)
-           widen (λ x h. shrink e x h) (ih .0), ih .1)))
-      where
-        widen : (x : Invocation) → Unserved m seen T D x → Unserved m seen (d ∷ T) D x
+        widen : (x : Invocation) → Unserved m ks T D x → Unserved m (κ ∷ ks) T D x
         widen x (inl h) = inl h
-        widen x (inr h) = inr (inr (h .0), h .1, h .2)
-        passed : isFirst m seen d ≡ false → (x : Invocation) → x ≡ d → length (x .list) ≡ m → member (x .procedure) seen ≡ false → ⊥
-        passed e x q l u = clash (and-both (eqb (length (d .list)) m) (not (member (d .procedure) seen))
-          (subst (λ (y : Invocation). eqb (length (y .list)) m ≡ true) q (rw l (eqb-same m)))
-          (ap not (subst (λ (y : Invocation). member (y .procedure) seen ≡ false) q u))) e
-        drop : isFirst m seen d ≡ false → (x : Invocation) → Mem x (d ∷ T) → length (x .list) ≡ m → member (x .procedure) seen ≡ false →
-            Unserved m seen T D x
-        drop e x (inl q) l u = absurd (passed e x q l u)
-        drop e x (inr mx) l u = inr (mx, l, u)
-        shrink : isFirst m seen d ≡ false → (x : Invocation) → Unserved m seen (d ∷ T) D x → Unserved m seen T D x
-        shrink e x (inl h) = inl h
-        shrink e x (inr h) = drop e x (h .0) (h .1) (h .2)
+        widen x (inr h) = inr (h .0, h .1, member-tail (keyOf x) κ ks (h .2))
+        shrink : (x : Invocation) → Unserved m (κ ∷ ks) T D x → Unserved m ks T D x
+        shrink x (inl h) = inl h
+        shrink x (inr h) = member-cases (keyOf x) κ ks (h .2)
+          (λ q. absurd (subst (λ (l : List Invocation). Mem x l) e (calls-all m κ T x (record { among = h .0; long = h .1; key = q }))))
+          (λ c. inr (h .0, h .1, c))
+    shared-serves κ ks following new F (d ∷ later) e D next g dd sub =
+      let of : (x : Invocation) → Mem x (d ∷ later) → CallTo m κ T x =
+            λ x b. calls-are m κ T x (subst (λ (l : List Invocation). Mem x l) (sym e) b) in
+      let all-of : (x : Invocation) → CallTo m κ T x → Mem x (d ∷ later) =
+            λ x c. subst (λ (l : List Invocation). Mem x l) e (calls-all m κ T x c) in
+      let md = sub d (of d (inl refl) .among) in
+      let inner = following (D ++ own d next) (behind d next) in
+      let ih = F (D ++ own d next) (behind d next) (goods-more d D next g md) (distinct-more d D next g md dd)
+            (λ x mx. mem-left x D (own d next) (sub x mx)) in
+      let room : behind d next ≤ inner .next = ih .1 in
+      (around-serves m κ ks d later T D next inner g dd
+        (subst (λ (l : List Invocation). DistinctAncillas l) e (calls-distinct m κ T dt)) sub of all-of new (ih .0) room, omega arith)
+
+    -- the bodies of length m serve what is not yet served, in whatever order their keys come
+    pub bodies-serve : (shorter : List Invocation → ℕ → Emitted) → ServesShorter m shorter → (ks : List Key) → Distinct ks →
+        ServesFrom m ks T (bodies P chains m shorter ks T)
+    unfolding bodies
+    bodies-serve shorter RO [] u D next g dd sub =
+      let r = RO D next g dd in
+      (serves-iff E (Shorter m D) (Unserved m [] T D) next (shorter D next .events) (λ x h. inl h) (λ x h. only x h) (r .0), r .1)
+      where
+        only : (x : Invocation) → Unserved m [] T D x → Shorter m D x
+        only x (inl h) = h
+        only x (inr h) = not-in-nil (keyOf x) (h .2)
+    bodies-serve shorter RO (κ ∷ ks) u D next g dd sub =
+      shared-serves κ ks (bodies P chains m shorter ks T) (u .0) (bodies-serve shorter RO ks (u .1)) (callsTo m κ T) refl D next g dd sub
 
   -- the bodies from length m down serve all invocations with lists of at most m
   pub bodiesFrom-serves : (m : ℕ) → ServesShorter (suc m) (bodiesFrom P chains m)
@@ -502,16 +512,19 @@ module _ (P : Program) (rank : ℕ → ℕ) (E : CallDoes) (G : Safely) (n : ℕ
       empty : (d : Invocation) → Shorter 1 D d → ⊥
       empty d h = let a : 0 < length (d .list) = g d (h .0) .fine .some in let b : length (d .list) < 1 = h .1 in omega arith
   bodiesFrom-serves (suc m) D next g dd =
-    let r = bodies-serve (suc m) (bodiesFrom P chains m) (bodiesFrom-serves m) [] D D next g dd dd (λ x mx. mx) in
-    (serves-iff E (Unserved (suc m) [] D D) (Shorter (suc (suc m)) D) next (bodiesFrom P chains (suc m) D next .events) to-short from-short (r .0),
+    let order = keys-order (suc m) D in
+    let r = bodies-serve (suc m) D dd (bodiesFrom P chains m) (bodiesFrom-serves m) (keys (suc m) D) (order .once) D next g dd (λ x mx. mx) in
+    (serves-iff E (Unserved (suc m) (keys (suc m) D) D D) (Shorter (suc (suc m)) D) next (bodiesFrom P chains (suc m) D next .events)
+       to-short (from-short (order .every)) (r .0),
      r .1)
     where
-      to-short : (x : Invocation) → Unserved (suc m) [] D D x → Shorter (suc (suc m)) D x
+      to-short : (x : Invocation) → Unserved (suc m) (keys (suc m) D) D D x → Shorter (suc (suc m)) D x
       to-short x (inl h) = let a : length (x .list) < suc m = h .1 in (h .0, omega arith)
       to-short x (inr h) = let a : length (x .list) ≡ suc m = h .1 in (h .0, omega arith)
-      from-short : (x : Invocation) → Shorter (suc (suc m)) D x → Unserved (suc m) [] D D x
-      from-short x h = let a : length (x .list) < suc (suc m) = h .1 in byEq (length (x .list)) (suc m)
-        (λ e. inr (h .0, e, member-nil (x .procedure)))
+      from-short : ((x : Invocation) → Mem x D → length (x .list) ≡ suc m → member (keyOf x) (keys (suc m) D) ≡ true) →
+          (x : Invocation) → Shorter (suc (suc m)) D x → Unserved (suc m) (keys (suc m) D) D D x
+      from-short every x h = let a : length (x .list) < suc (suc m) = h .1 in byEq (length (x .list)) (suc m)
+        (λ e. inr (h .0, e, every x (h .0) e))
         (λ ne. inl (h .0, omega arith))
 
   -- the invocation that starts a chain is good

@@ -1,7 +1,7 @@
 -- Every gate of the emission is well formed: its controls ascend, no wire stands twice in it, and its wires are 1 to n plus the ancillas.
 use mathlib.Core.Path.{_≡_, refl, sym, _∙_, subst}
 use mathlib.Core.Logic.{_≢_, inl, inr}
-use mathlib.Core.Bool.{Bool, true, false, not, _&&_}
+use mathlib.Core.Bool.{Bool, true, false, not}
 use mathlib.Core.List.{List, [], _∷_, _++_, map, reverse, reverse-cons}
 use Prim.Native.Nat.{ℕ, zero, suc, _+_, _≤_, _<_, min, max, suc-le-suc}
 use native.Mathlib.Omega.{arith}
@@ -17,7 +17,7 @@ use Rattle.model.specs.Reach.{recursive, width, anyLacksRemoval, anyTooWide}
 use Rattle.model.specs.Gates.{Controls, noControls, insert, asked, withControl, flip, swap, swapOf, exchange}
 use Rattle.model.specs.Emission.{
   Event, takes, places, frees, Chains, startChain, whole, Invocation, invocation, invoked, isWide, invocations, invokes, returns, left, right, under,
-  swaps, entryGates, samePair, allEntryGates, Emitted, bodyInvocations, around, bodies, bodiesFrom, chainsWithin, emission, gates, peak,
+  swaps, entryGates, allEntryGates, Key, keys, callsTo, Emitted, bodyInvocations, around, shared, bodies, bodiesFrom, chainsWithin, emission, gates, peak,
 }
 use Rattle.model.specs.Answers.{fit, circuit, usable}
 use Rattle.model.specs.Circuit.{write, wires, controlsOf, ascends, distinct, within, lowerFirst, gateIsWellFormed}
@@ -35,8 +35,9 @@ use Rattle.model.proofs.GateLaws.{
 }
 use Rattle.model.proofs.ReachAndRank.{Named, Ranked, rank}
 use Rattle.model.proofs.RoundTrip.{AllWellFormed, write-length, WellFormed}
+use Rattle.agreement.proofs.KeysOfALength.{calls-are, calls-distinct}
 use Rattle.agreement.proofs.EmissionClauses.{
-  bodies-here, bodies-past, whole-yes, whole-no, invocations-wide, invocations-thin, invocations-yes, invocations-no, invocations-recursive,
+  whole-yes, whole-no, invocations-wide, invocations-thin, invocations-yes, invocations-no, invocations-recursive,
   left-wide, left-thin, left-yes, left-no, left-recursive, left-other, right-wide, right-thin, right-yes, right-no, right-recursive, right-other,
   width-sequence, width-if, width-qcase, thin-width, wide-width, Low, thin-low,
 }
@@ -240,13 +241,11 @@ entries-placed n most d [] a h dt f = tt
 entries-placed n most d (e ∷ later) a h dt f =
     let F = f e (inl refl) in
     let above : n < e .ancilla = F .0 in
-    let rest = entries-placed n most d later a h dt (λ y m. f y (inr m)) in
-    byBool (samePair d e)
-      (λ q. rw (q, allEntryGates) (placed-append most (entryGates d e) (allEntryGates d later)
-        (flip-well-formed most (under (e .ancilla)) (neat-under (e .ancilla) (omega arith)) (below-under (suc most) (e .ancilla) (suc-le-suc (F .1)))
-           (d .ancilla) (omega arith) h (asks-under (e .ancilla) (d .ancilla) (F .3)),
-         swaps-placed n most (e .ancilla) (d .list) (e .list) above (F .1) dt (F .2)) rest))
-      (λ q. rw (q, allEntryGates) rest)
+    placed-append most (entryGates d e) (allEntryGates d later)
+      (flip-well-formed most (under (e .ancilla)) (neat-under (e .ancilla) (omega arith)) (below-under (suc most) (e .ancilla) (suc-le-suc (F .1)))
+         (d .ancilla) (omega arith) h (asks-under (e .ancilla) (d .ancilla) (F .3)),
+       swaps-placed n most (e .ancilla) (d .list) (e .list) above (F .1) dt (F .2))
+      (entries-placed n most d later a h dt (λ y m. f y (inr m)))
 
 -- controls in force: in order, below the next wire, and on closed wires
 record InForce (next : ℕ) (C : List ℕ) (cs : Controls) : Type 0 where
@@ -419,68 +418,72 @@ module _ (P : Program) (rank : ℕ → ℕ) (E : CallDoes) (G : Safely) (n most 
     abbrev AllGood : ℕ → List Invocation → Type 0
     AllGood next D = Goods P rank E G n W chains k served next D
 
-    -- what emits the bodies of shorter lists
-    abbrev Placed : (List Invocation → ℕ → Emitted) → Type 0
-    Placed shorter = (D : List Invocation) (next : ℕ) → AllGood next D → DistinctAncillas D → next ≤ suc most →
-      TakenTo most (shorter D next .events) → WellPlaced most (shorter D next .events)
+    -- what emits bodies of a chain, the calls T among its invocations
+    abbrev Placed : List Invocation → (List Invocation → ℕ → Emitted) → Type 0
+    Placed T following = (D : List Invocation) (next : ℕ) → AllGood next D → DistinctAncillas D → ((x : Invocation) → Mem x T → Mem x D) →
+      next ≤ suc most → TakenTo most (following D next .events) → WellPlaced most (following D next .events)
 
-    module _ (m : ℕ) (shorter : List Invocation → ℕ → Emitted) (rises : AllRise n P chains S shorter) (RP : Placed shorter) where
-      bodies-placed : (seen : List ℕ) (T D : List Invocation) (next : ℕ) → AllGood next D → DistinctAncillas D → DistinctAncillas T →
-          ((x : Invocation) → Mem x T → Mem x D) → next ≤ suc most → TakenTo most (bodies P chains m shorter seen T D next .events) →
-          WellPlaced most (bodies P chains m shorter seen T D next .events)
-      unfolding bodies around
-      bodies-placed seen [] D next g dd dt sub h t = RP D next g dd h t
-      bodies-placed seen (d ∷ T) D next g dd dt sub h t = byBool (eqb (length (d .list)) m && not (member (d .procedure) seen))
-        (λ e.
-          let md = sub d (inl refl) in
-          let gd = g d md in
-          let r = recursive P (d .procedure) in
-          let s = body P (d .procedure) in
-          let own = bodyInvocations P chains d next in
-          let inner = bodies P chains m shorter (d .procedure ∷ seen) T (D ++ own) (next + length own) in
-          let here = bodies-here P chains m shorter seen d T D next e in
-          let N = allEntryGates d T in
-          let L = left chains r s (d .list) (under (d .ancilla)) next in
-          let I = inner .events in
-          let R = right chains r s (d .list) (under (d .ancilla)) next (inner .next) in
-          let t₀ : TakenTo most (N ++ (L ++ (I ++ (R ++ reverse N)))) = rw here at t in
-          let above : n < d .ancilla = gd .above in
-          let taken : d .ancilla < next = gd .taken in
-          let start = next-above P rank E G n W chains k served d next gd in
-          let F : InForce next (d .ancilla ∷ []) (under (d .ancilla)) = record {
-                neat = neat-under (d .ancilla) (omega arith); below = below-under next (d .ancilla) taken; closed = asked-in-under (d .ancilla) } in
-          let safe = safe-body P rank E G n W chains k served d next gd in
-          let ranked = ranked-body P rank E G n W chains k served d next gd in
-          let up = bodies-stacked n P chains S m shorter rises (d .procedure ∷ seen) T (D ++ own) (next + length own) (omega arith) in
-          let tL : TakenTo most L = λ w i. t₀ w (taken-right w N (L ++ (I ++ (R ++ reverse N))) (taken-left w L (I ++ (R ++ reverse N)) i)) in
-          let tI : TakenTo most I = λ w i. t₀ w (taken-right w N (L ++ (I ++ (R ++ reverse N)))
-                (taken-right w L (I ++ (R ++ reverse N)) (taken-left w I (R ++ reverse N) i))) in
-          let h₁ : next + length own ≤ suc most =
-                stacked-to n most next (next + length own) L (left-stacked n chains S r s (d .list) (under (d .ancilla)) next start) h tL in
-          let h₂ : inner .next ≤ suc most = stacked-to n most (next + length own) (inner .next) I (up .0) h₁ tI in
-          let entries = entries-placed n most d T above (omega arith) (gd .fine .wires)
-                (λ y my. let gy = g y (sub y (inr my)) in let b : y .ancilla < next = gy .taken in
-                  (gy .above, omega arith, gy .fine .wires, dt .0 y my)) in
-          rw here (placed-append most N (L ++ (I ++ (R ++ reverse N))) entries
-            (placed-append most L (I ++ (R ++ reverse N))
-              (left-placed r s (d .list) (d .ancilla ∷ []) (under (d .ancilla)) next ranked safe (gd .fine .wires) (gd .fine .distinct) start F h tL)
-              (placed-append most I (R ++ reverse N)
-                (bodies-placed (d .procedure ∷ seen) T (D ++ own) (next + length own) (goods-more P rank E G n W chains k served d D next g md)
-                  (distinct-more P rank E G n W chains k served d D next g md dd) (dt .1) (λ x mx. mem-left x D own (sub x (inr mx))) h₁ tI)
-                (placed-append most R (reverse N)
-                  (right-placed r s (d .list) (d .ancilla ∷ []) (under (d .ancilla)) next (inner .next) ranked (W .narrow (d .procedure)) safe
-                    (gd .fine .wires) (gd .fine .distinct) start F (up .1) h₂
-                    (λ w i. t₀ w (taken-right w N (L ++ (I ++ (R ++ reverse N))) (taken-right w L (I ++ (R ++ reverse N))
-                      (taken-right w I (R ++ reverse N) (taken-left w R (reverse N) i))))))
-                  (placed-reverse most N entries))))))
-        (λ e. rw (bodies-past P chains m shorter seen d T D next e)
-          (bodies-placed seen T D next g dd (dt .1) (λ x mx. sub x (inr mx)) h (rw (bodies-past P chains m shorter seen d T D next e) at t)))
+    -- a body that calls C among T share, around those that follow
+    shared-placed : (T C : List Invocation) (following : List Invocation → ℕ → Emitted) → DistinctAncillas C → ((x : Invocation) → Mem x C → Mem x T) →
+        AllRise n P chains S following → Placed T following → Placed T (shared P chains C following)
+    unfolding shared around
+    shared-placed T [] following dc of rises F D next g dd sub h t = F D next g dd sub h t
+    shared-placed T (d ∷ later) following dc of rises F D next g dd sub h t =
+      let md = sub d (of d (inl refl)) in
+      let gd = g d md in
+      let r = recursive P (d .procedure) in
+      let s = body P (d .procedure) in
+      let own = bodyInvocations P chains d next in
+      let inner = following (D ++ own) (next + length own) in
+      let N = allEntryGates d later in
+      let L = left chains r s (d .list) (under (d .ancilla)) next in
+      let I = inner .events in
+      let R = right chains r s (d .list) (under (d .ancilla)) next (inner .next) in
+      let above : n < d .ancilla = gd .above in
+      let taken : d .ancilla < next = gd .taken in
+      let start = next-above P rank E G n W chains k served d next gd in
+      let F′ : InForce next (d .ancilla ∷ []) (under (d .ancilla)) = record {
+            neat = neat-under (d .ancilla) (omega arith); below = below-under next (d .ancilla) taken; closed = asked-in-under (d .ancilla) } in
+      let safe = safe-body P rank E G n W chains k served d next gd in
+      let ranked = ranked-body P rank E G n W chains k served d next gd in
+      let up = rises (D ++ own) (next + length own) (omega arith) in
+      let tL : TakenTo most L = λ w i. t w (taken-right w N (L ++ (I ++ (R ++ reverse N))) (taken-left w L (I ++ (R ++ reverse N)) i)) in
+      let tI : TakenTo most I = λ w i. t w (taken-right w N (L ++ (I ++ (R ++ reverse N)))
+            (taken-right w L (I ++ (R ++ reverse N)) (taken-left w I (R ++ reverse N) i))) in
+      let h₁ : next + length own ≤ suc most =
+            stacked-to n most next (next + length own) L (left-stacked n chains S r s (d .list) (under (d .ancilla)) next start) h tL in
+      let h₂ : inner .next ≤ suc most = stacked-to n most (next + length own) (inner .next) I (up .0) h₁ tI in
+      let entries = entries-placed n most d later above (omega arith) (gd .fine .wires)
+            (λ y my. let gy = g y (sub y (of y (inr my))) in let b : y .ancilla < next = gy .taken in
+              (gy .above, omega arith, gy .fine .wires, dc .0 y my)) in
+      placed-append most N (L ++ (I ++ (R ++ reverse N))) entries
+        (placed-append most L (I ++ (R ++ reverse N))
+          (left-placed r s (d .list) (d .ancilla ∷ []) (under (d .ancilla)) next ranked safe (gd .fine .wires) (gd .fine .distinct) start F′ h tL)
+          (placed-append most I (R ++ reverse N)
+            (F (D ++ own) (next + length own) (goods-more P rank E G n W chains k served d D next g md)
+              (distinct-more P rank E G n W chains k served d D next g md dd) (λ x mx. mem-left x D own (sub x mx)) h₁ tI)
+            (placed-append most R (reverse N)
+              (right-placed r s (d .list) (d .ancilla ∷ []) (under (d .ancilla)) next (inner .next) ranked (W .narrow (d .procedure)) safe
+                (gd .fine .wires) (gd .fine .distinct) start F′ (up .1) h₂
+                (λ w i. t w (taken-right w N (L ++ (I ++ (R ++ reverse N))) (taken-right w L (I ++ (R ++ reverse N))
+                  (taken-right w I (R ++ reverse N) (taken-left w R (reverse N) i))))))
+              (placed-reverse most N entries))))
 
-    bodiesFrom-placed : (m : ℕ) → Placed (bodiesFrom P chains m)
+    -- the bodies of length m, in whatever order their keys come
+    bodies-placed : (m : ℕ) (shorter : List Invocation → ℕ → Emitted) → AllRise n P chains S shorter → Placed [] shorter →
+        (ks : List Key) (T : List Invocation) → DistinctAncillas T → Placed T (bodies P chains m shorter ks T)
+    unfolding bodies
+    bodies-placed m shorter rises F [] T dt D next g dd sub h t = F D next g dd (λ x b. absurd b) h t
+    bodies-placed m shorter rises F (κ ∷ ks) T dt D next g dd sub h t =
+      shared-placed T (callsTo m κ T) (bodies P chains m shorter ks T) (calls-distinct m κ T dt) (λ x b. calls-are m κ T x b .among)
+        (bodies-stacked n P chains S m shorter rises ks T) (bodies-placed m shorter rises F ks T dt) D next g dd sub h t
+
+    bodiesFrom-placed : (m : ℕ) → Placed [] (bodiesFrom P chains m)
     unfolding bodiesFrom
-    bodiesFrom-placed zero D next g dd h t = tt
-    bodiesFrom-placed (suc m) D next g dd h t =
-      bodies-placed (suc m) (bodiesFrom P chains m) (bodiesFrom-stacked n P chains S m) (bodiesFrom-placed m) [] D D next g dd dd (λ x mx. mx) h t
+    bodiesFrom-placed zero D next g dd sub h t = tt
+    bodiesFrom-placed (suc m) D next g dd sub h t =
+      bodies-placed (suc m) (bodiesFrom P chains m) (bodiesFrom-stacked n P chains S m) (bodiesFrom-placed m) (keys (suc m) D) D dd
+        D next g dd (λ x b. b) h t
 
 -- chains within chains
 chains-placed : (P : Program) (rank : ℕ → ℕ) (E : CallDoes) (G : Safely) (n most : ℕ) (W : World P rank E G) (k : ℕ) →
@@ -492,7 +495,7 @@ chains-placed P rank E G n most W (suc k) f l a r fine above h t =
     let served = chains-served P rank E G n W k in
     bodiesFrom-placed P rank E G n most W chains (chains-stacked n P k) (suc k) (chains-placed P rank E G n most W k) served (length l)
       (invocation f l a ∷ []) (suc a) (start-good P rank E G n W chains (suc k) served f l a (omega arith) fine above) ((λ y m. absurd m), tt)
-      (omega arith) t
+      (λ x b. absurd b) (omega arith) t
 
 -- an accepted program: every gate that its emission places is well formed over the n data wires and the most ancillas in use
 pub emission-placed : (P : Program) → Named P → anyLacksRemoval P ≡ false → anyTooWide P ≡ false → (n : ℕ) → 0 < n → programFaults P n ≡ false →

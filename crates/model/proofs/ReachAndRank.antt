@@ -208,7 +208,7 @@ Ranked rank r k (if c s t) = Ranked rank r k s × Ranked rank r k t
 Ranked rank r k (qcase rs a s t) = Ranked rank r k s × Ranked rank r k t
 Ranked rank r k (call rs f) = (r f ≡ true → (rank f ≤ k) × Carries rs) × (r f ≡ false → rank f < k)
 
-carries-of : (rs : List Number) → isEmpty rs ≡ false → Carries rs
+pub carries-of : (rs : List Number) → isEmpty rs ≡ false → Carries rs
 unfolding isEmpty
 carries-of [] e = true≢false e
 carries-of (a ∷ rs) e = tt
@@ -243,12 +243,17 @@ module _ (P : Program) (N : Named P) (f : ℕ) (lf : f ≤ count P) where
       removal-there : recursive P f g ≡ true → isEmpty rs ≡ false
       removal-there e = not-true-false (isEmpty rs) (λ m. clash (and-both (recursive P f g) (isEmpty rs) e m) c)
 
--- refusal 10 passed: every body's calls are ranked
+-- refusal 10 passed: every recursive call carries a removal
+pub all-removing : (P : Program) → anyLacksRemoval P ≡ false → (f : ℕ) → lacksRemoval (recursive P f) (body P f) ≡ false
+unfolding anyLacksRemoval lacksRemoval
+all-removing P h f = byLt f (suc (count P))
+    (λ lt. any-false (suc (count P)) (λ x. lacksRemoval (recursive P x) (body P x)) h f lt)
+    (λ ge. rw (body-out P f ge))
+
+-- and every body's calls are ranked
 pub all-ranked : (P : Program) → Named P → anyLacksRemoval P ≡ false → (f : ℕ) → Ranked (rank P) (recursive P f) (rank P f) (body P f)
-unfolding anyLacksRemoval
 all-ranked P N h f = byLt f (suc (count P))
-    (λ lt. ranked-part P N f (omega arith) (body P f) (λ g e. e)
-      (any-false (suc (count P)) (λ x. lacksRemoval (recursive P x) (body P x)) h f lt))
+    (λ lt. ranked-part P N f (omega arith) (body P f) (λ g e. e) (all-removing P h f))
     (λ ge. subst (λ (s : Statement). Ranked (rank P) (recursive P f) (rank P f) s) (sym (body-out P f ge)) tt)
 
 -- refusal 11 passed: every body has width at most 1

@@ -19,8 +19,8 @@ use Rattle.model.specs.Meaning.{update, flipped, stateOf, digit, wordFro
 use Rattle.model.specs.Reach.{calls, reachesBelow, isEmpty, lacksRemoval, width, anyBelow, anyLacksRemoval, anyTooWide}
 use Rattle.model.specs.Gates.{insert, asked, withControl, swapOf, exchange, renamed, allOne, allZero, fires, act, acts}
 use Rattle.model.specs.Emission.{
-  startChain, whole, invoked, invocations, invokes, returns, left, right, swaps, entryGates, samePair, allEntryGates, around, bodies, bodiesFrom,
-  chainsWithin, emission, gates, below, inUse, peak,
+  startChain, whole, invoked, invocations, invokes, returns, left, right, swaps, entryGates, allEntryGates, insertKey, keys, callsTo, around, shared, bodies,
+  bodiesFrom, chainsWithin, emission, gates, below, inUse, peak,
 }
 use Rattle.model.specs.Circuit.{
   listBit, listBytes, encode, encodeAll, fourBytes, write, wires, controlsOf, ascends, distinct, within, lowerFirst, gateIsWellFormed, bytes,
@@ -76,7 +76,7 @@ unfolding andThen provided byteOf signed16 numberOf reading.number numbers remov
     opening contents two conditionOf condition statementOf statement statements trees readTable range delete remove removeAll holds member callFaults
     faults callFaultsWithin programFaults update flipped stateOf digit wordFrom callDoes does callDoesWithin endState endWord calls reachesBelow
     isEmpty lacksRemoval width anyBelow anyLacksRemoval anyTooWide after require outcome number valueOr accepted run insert asked withControl swapOf exchange
-    startChain whole invoked invocations invokes returns left right swaps entryGates samePair allEntryGates around bodies bodiesFrom chainsWithin
+    startChain whole invoked invocations invokes returns left right swaps entryGates allEntryGates insertKey keys callsTo around shared bodies bodiesFrom chainsWithin
     emission gates below inUse peak listBit listBytes encode encodeAll fourBytes write fit fitted circuit compile renamed allOne allZero fires act
     acts ascends distinct within lowerFirst gateIsWellFormed bytes wireList gateOf readGate readGates fourByteNumber circuitOf readCircuit blockFrom
     circuitBlock wires controlsOf wellFormed circuitRun digitsWithin hyphens placed controlText actionText gateLines listed listing

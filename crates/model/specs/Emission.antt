@@ -1,11 +1,11 @@
 -- "Emission": the gates of a program, and the ancillas that it takes, in order.
 use Prim.Native.Nat.{ℕ, zero, suc, _+_, max}
-use mathlib.Core.Bool.{Bool, true, false, not, _&&_}
+use mathlib.Core.Bool.{Bool, true, false, _&&_}
 use mathlib.Core.List.{List, [], _∷_, _++_, map, reverse}
 use lib.ListN.{length}
 use lib.Dec.{eqb, ltb}
 use Rattle.model.specs.Syntax.{Statement, skip, NOT, sequence, if, qcase, call, Program, count, body}
-use Rattle.model.specs.Lists.{qubits, remaining, touched, holds, member}
+use Rattle.model.specs.Lists.{qubits, remaining, touched, holds}
 use Rattle.model.specs.Reach.{recursive, width}
 use Rattle.model.specs.Gates.{Controls, noControls, withControl, Gate, flip, swapOf, exchange}
 
@@ -119,18 +119,40 @@ swaps e (k ∷ ks) (w ∷ ws) =
 unfoldable pub entryGates : Invocation → Invocation → List Event
 entryGates first later = places (flip (under (later .ancilla)) (first .ancilla)) ∷ swaps (later .ancilla) (first .list) (later .list)
 
--- "A chain has one body per pair (procedure, list length)."
-unfoldable pub samePair : Invocation → Invocation → Bool
-samePair d e = eqb (e .procedure) (d .procedure) && eqb (length (e .list)) (length (d .list))
-
--- "Before the shared body's left part, for each such call in order": the entry gates of the calls to d's pair among the later calls
+-- "Before the shared body's left part, for each such call in order": the entry gates of the later calls to d's pair
 unfoldable pub allEntryGates : Invocation → List Invocation → List Event
 allEntryGates d [] = []
-allEntryGates d (e ∷ later) = elim (samePair d e) [ true ↦ entryGates d e ++ allEntryGates d later | false ↦ allEntryGates d later ]
+allEntryGates d (e ∷ later) = entryGates d e ++ allEntryGates d later
 
--- is d the first of its pair, with a list of length m? `seen` are the procedures whose body of this length has come
-abbrev pub isFirst : ℕ → List ℕ → Invocation → Bool
-isFirst m seen d = eqb (length (d .list)) m && not (member (d .procedure) seen)
+-- "A chain has one body per pair (procedure, list length).": bodies of one list length are told apart by their key
+abbrev pub Key : Type 0
+Key = ℕ
+
+abbrev pub keyOf : Invocation → Key
+keyOf d = d .procedure
+
+-- "Bodies of equal list length are now emitted in order of procedure number, lowest first." The order of keys
+abbrev pub comesBefore : Key → Key → Bool
+comesBefore = ltb
+
+-- a key put into its place in that order, once only
+unfoldable pub insertKey : Key → List Key → List Key
+insertKey k [] = k ∷ []
+insertKey k (x ∷ ks) = elim (comesBefore k x) [ true ↦ k ∷ x ∷ ks | false ↦ elim (comesBefore x k) [ true ↦ x ∷ insertKey k ks | false ↦ x ∷ ks ] ]
+
+-- the keys of the calls with a list of length m, in order
+unfoldable pub keys : ℕ → List Invocation → List Key
+keys m [] = []
+keys m (d ∷ calls) = elim (eqb (length (d .list)) m) [ true ↦ insertKey (keyOf d) (keys m calls) | false ↦ keys m calls ]
+
+-- is d a call to the pair of key k and length m?
+abbrev pub isOf : ℕ → Key → Invocation → Bool
+isOf m k d = eqb (length (d .list)) m && eqb (keyOf d) k
+
+-- the calls to that pair, the first one first
+unfoldable pub callsTo : ℕ → Key → List Invocation → List Invocation
+callsTo m k [] = []
+callsTo m k (d ∷ calls) = elim (isOf m k d) [ true ↦ d ∷ callsTo m k calls | false ↦ callsTo m k calls ]
 
 -- what is emitted, and the next wire behind it
 pub record Emitted : Type 0 where
@@ -152,19 +174,21 @@ module _ (P : Program) (chains : Chains) where
       ++ reverse (allEntryGates d later))));
     next = inner .next }
 
-  -- the bodies of list length m: `calls` are the invocations not yet looked at, `seen` the procedures whose body of this length has come,
-  -- `all` the chain's invocations so far, and `shorter` emits the bodies of shorter lists
-  unfoldable pub bodies : ℕ → (List Invocation → ℕ → Emitted) → List ℕ → List Invocation → List Invocation → ℕ → Emitted
-  bodies m shorter seen [] all next = shorter all next
-  bodies m shorter seen (d ∷ calls) all next = elim (isFirst m seen d) [
-      true ↦ around d calls next
-        (bodies m shorter (d .procedure ∷ seen) calls (all ++ bodyInvocations d next) (next + length (bodyInvocations d next)))
-    | false ↦ bodies m shorter seen calls all next ]
+  -- the body that calls to one pair share, the first one's, around all bodies that follow it: `all` are the chain's invocations so far
+  unfoldable pub shared : List Invocation → (List Invocation → ℕ → Emitted) → List Invocation → ℕ → Emitted
+  shared [] following all next = following all next
+  shared (d ∷ later) following all next =
+      around d later next (following (all ++ bodyInvocations d next) (next + length (bodyInvocations d next)))
 
-  -- "The longest list goes first, and of equal lengths the one called first."
+  -- the bodies of list length m for the keys `ks`, in order, around those of `shorter` lists: `calls` are the chain's invocations before the first of these
+  unfoldable pub bodies : ℕ → (List Invocation → ℕ → Emitted) → List Key → List Invocation → List Invocation → ℕ → Emitted
+  bodies m shorter [] calls = shorter
+  bodies m shorter (k ∷ ks) calls = shared (callsTo m k calls) (bodies m shorter ks calls)
+
+  -- "The longest list goes first", and of equal lengths the lowest key
   unfoldable pub bodiesFrom : ℕ → List Invocation → ℕ → Emitted
   bodiesFrom zero all next = record { events = []; next = next }
-  bodiesFrom (suc m) all next = bodies (suc m) (bodiesFrom m) [] all all next
+  bodiesFrom (suc m) all next = bodies (suc m) (bodiesFrom m) (keys (suc m) all) all all next
 
 -- a chain within a chain calls procedures of lower rank: `rank` chains within one another, at most. A table that passes refusal 11 never comes to more,
 -- and more changes nothing (`ChainDepth` in crate agreement).
