@@ -14,6 +14,7 @@ use Rattle.decoded.specs.DecodedTable.{procedureCount, programAt}
 use Rattle.reach.proofs.MatrixOfAProgram.{count-at}
 use Rattle.verdict.specs.VerdictAnswers.{checkedOutcome, KnownChecked}
 use Rattle.verdict.proofs.AcceptanceAndRefusal.{refused-checked, accepted-checked}
+use Rattle.emit.specs.WalkPromises.{Checked}
 use Rattle.compile.specs.declared.Compiled.{Compiled}
 use Rattle.compile.specs.EmissionAnswer.{Compiles, walks-once, emissionAnswer, compiledOf}
 use Rattle.compile.specs.AnswerAndRoom.{Answered, answered, answeredOf}
@@ -59,7 +60,8 @@ module _ (bs g : List ℕ) (n : ℕ) (room : List ℕ) (space j : ℕ) (is : che
     unfolding emissionAnswer KnownChecked
     compile-emits known h low r room₁ (walks-once c) =
       let few : procedureCount g ≤ mostProcedures = rw (count-at g) at (accepted-few bs n P checked) in
-      let both = c few (known none) low in
+      let program : Checked g = record { few = few; widths = known none; removes = accepted-is bs n P checked .passes10 } in
+      let both = c program low in
       let same = compiles bs n (length room) space P checked h in
       rw (both .0, both .1, same)
 

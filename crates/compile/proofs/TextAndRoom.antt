@@ -9,7 +9,7 @@ use borrow.Author.Tests.{le-leb, lt-leb, le-ltb}
 use lib.ListN.{length, getD, set, take, drop, replicate, length-append, length-take, length-replicate, getD-replicate, List·getD-eq-default}
 use lib.Seq.{sets, sets-eq, length-sets, length-take-le, take-append-add, take-take, take-add, take-at, drop-at, getD-take}
 use Rattle.limits.specs.Sizes.{slotsLength}
-use Rattle.model.specs.Limits.{mostWires, mostQubits, mostProcedures, mostCircuit, headerLength, noRoom}
+use Rattle.model.specs.Limits.{mostWires, mostQubits, mostCircuit, headerLength, noRoom}
 use Rattle.model.specs.Syntax.{Program}
 use Rattle.model.specs.Emission.{emission, gates, peak}
 use Rattle.model.specs.Circuit.{Circuit, encodeAll, fourBytes, write}
@@ -19,12 +19,11 @@ use Rattle.model.proofs.RoundTrip.{write-length}
 use Rattle.agreement.proofs.FirstMisfit.{fits-wires}
 use Rattle.circuit.specs.GatesToWrite.{headerBytes}
 use Rattle.sets.proofs.Members.{members-empty}
-use Rattle.decoded.specs.DecodedTable.{procedureCount, programAt}
-use Rattle.widths.specs.KeptWidths.{WidthsKnown}
+use Rattle.decoded.specs.DecodedTable.{programAt}
 use Rattle.events.specs.Scan.{Emit, Tallied, slotAt, Progress, progress, emitOf, roomOf, emissionEnd, wireOf}
 use Rattle.events.proofs.ScanOfEvents.{emission-status, emission-ends, emission-within}
 use Rattle.events.proofs.GatesAndSlots.{Storing, storing-starts, storing-next, stored-all, stored-full}
-use Rattle.emit.specs.WalkPromises.{Emits}
+use Rattle.emit.specs.WalkPromises.{Checked, Emits}
 use Rattle.emit.proofs.EmissionOfMain.{use-main}
 use Rattle.compile.specs.EmissionAnswer.{EmitsText, into-text, delivered, Compiles, walks-once, emissionAnswer, compiledOf}
 
@@ -118,7 +117,7 @@ given-answer P n room header e = rw (le-leb headerLength (usable (length room)) 
 -- stands in the text
 module _ {prog : List ℕ} {n : ℕ} (room text : List ℕ) {slots : List ℕ} {a : Emit} (text₁ : List ℕ) {slots₁ : List ℕ} (long : length text ≡ mostCircuit)
     (A : Emits prog n (take (usable (length room)) text) slots a (take (usable (length room)) text₁) slots₁)
-    (few : procedureCount prog ≤ mostProcedures) (widths : WidthsKnown prog) (small : n ≤ mostQubits) (space : slotsLength ≤ length slots) (tallied : Tallied slots)
+    (checked : Checked prog) (small : n ≤ mostQubits) (space : slotsLength ≤ length slots) (tallied : Tallied slots)
     (header : headerLength ≤ usable (length room)) where
   abbrev P : Program
   P = programAt prog
@@ -136,7 +135,7 @@ module _ {prog : List ℕ} {n : ℕ} (room text : List ℕ) {slots : List ℕ} {
   front-header = let e = same-room in omega arith
 
   emitted-status : a .status ≡ fit end headerLength (emission P n)
-  emitted-status = ap (λ (x : Progress). emitOf x .status) (use-main A few widths small space tallied .0) ∙ emission-status P n (take end text) front-header
+  emitted-status = ap (λ (x : Progress). emitOf x .status) (use-main A checked small space tallied .0) ∙ emission-status P n (take end text) front-header
     ∙ ap (λ (v : ℕ). fit v headerLength (emission P n)) same-room
 
   module _ (ok : a .status ≡ 0) where
@@ -147,7 +146,7 @@ module _ {prog : List ℕ} {n : ℕ} (room text : List ℕ) {slots : List ℕ} {
     front-fits = rw same-room emitted-fits
 
     emitted-all : progress a (take end text₁) ≡ progress (emissionEnd P n) (sets (take end text) headerLength (bytes P n))
-    emitted-all = use-main A few widths small space tallied .0 ∙ emission-ends P n (take end text) front-header front-fits
+    emitted-all = use-main A checked small space tallied .0 ∙ emission-ends P n (take end text) front-header front-fits
 
     emitted-end : a ≡ emissionEnd P n
     emitted-end = ap emitOf emitted-all
@@ -235,20 +234,20 @@ text-emitted text text₁ {slots₁ = slots₁} long e A =
 module _ {prog : List ℕ} {n : ℕ} {room : List ℕ} where
   pub no-header : length room < headerLength → Compiles prog n room (record { number = noRoom; length = 0 }) room
   unfolding emissionAnswer require number valueOr roomAfter
-  no-header h = walks-once (λ few widths small.
+  no-header h = walks-once (λ checked small.
     let e = lt-leb headerLength (usable (length room)) (omega arith) in (rw e, rw e))
 
 module _ {prog : List ℕ} {n : ℕ} {room : List ℕ} {a : Emit} {text₁ : List ℕ} where
   pub text-refused : {s : ℕ} → headerLength ≤ length room → EmitsText prog n (length room) a text₁ → s ≡ a .status → (s ≡ 0 → ⊥) →
       Compiles prog n room (record { number = s; length = 0 }) room
-  text-refused {s = s} h (into-text text slots slots₁ long space tallied A) is z = walks-once (λ few widths small.
+  text-refused {s = s} h (into-text text slots slots₁ long space tallied A) is z = walks-once (λ checked small.
     let header : headerLength ≤ usable (length room) = omega arith in
-    refused-answer (programAt prog) n s room header (is ∙ emitted-status room text text₁ long A few widths small space tallied header) z)
+    refused-answer (programAt prog) n s room header (is ∙ emitted-status room text text₁ long A checked small space tallied header) z)
 
   pub text-delivered : {room₁ : List ℕ} {s u : ℕ} → headerLength ≤ length room → EmitsText prog n (length room) a text₁ → s ≡ a .status → s ≡ 0 →
       room₁ ≡ delivered n a text₁ room → u ≡ a .used → Compiles prog n room (record { number = 0; length = u }) room₁
-  text-delivered {room₁ = room₁} h (into-text text slots slots₁ long space tallied A) is z e end = walks-once (λ few widths small.
+  text-delivered {room₁ = room₁} h (into-text text slots slots₁ long space tallied A) is z e end = walks-once (λ checked small.
     let header : headerLength ≤ usable (length room) = omega arith in
-    rw end (emitted-answer room text text₁ long A few widths small space tallied header (sym is ∙ z) room₁ e))
+    rw end (emitted-answer room text text₁ long A checked small space tallied header (sym is ∙ z) room₁ e))
 
 pub ruleset delivering = (needs, ancillas-none, no-header, text-refused, text-delivered, circuit-put, front-emitted, text-emitted)

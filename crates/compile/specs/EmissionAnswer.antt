@@ -6,15 +6,14 @@ use lib.ListN.{length, take}
 use lib.Seq.{sets}
 use lib.Dec.{leb}
 use Rattle.limits.specs.Sizes.{slotsLength}
-use Rattle.model.specs.Limits.{mostProcedures, mostQubits, mostCircuit, headerLength, noRoom}
+use Rattle.model.specs.Limits.{mostQubits, mostCircuit, headerLength, noRoom}
 use Rattle.model.specs.Syntax.{Program}
 use Rattle.model.specs.Emission.{emission}
 use Rattle.model.specs.Answers.{Outcome, require, fitted, fit, circuit, usable, number, valueOr, roomAfter}
 use Rattle.circuit.specs.GatesToWrite.{headerBytes}
-use Rattle.decoded.specs.DecodedTable.{procedureCount, programAt}
-use Rattle.widths.specs.KeptWidths.{WidthsKnown}
+use Rattle.decoded.specs.DecodedTable.{programAt}
 use Rattle.events.specs.Scan.{Emit, Tallied, wireOf}
-use Rattle.emit.specs.WalkPromises.{Emits}
+use Rattle.emit.specs.WalkPromises.{Checked, Emits}
 use Rattle.compile.specs.declared.Compiled.{Compiled}
 
 -- what compile answers where the table is accepted and the workspace long enough
@@ -36,7 +35,7 @@ delivered n st text room = sets room 0 (take (st .used) (sets text 0 (headerByte
 
 -- the number, the length and the room of the answer
 pub data Compiles (prog : List ℕ) (n : ℕ) (room : List ℕ) (r : Compiled) (room₁ : List ℕ) : Type 0 where
-  walks-once : (procedureCount prog ≤ mostProcedures → WidthsKnown prog → n ≤ mostQubits →
+  walks-once : (Checked prog → n ≤ mostQubits →
       (r ≡ compiledOf (emissionAnswer (programAt prog) n (length room)))
       × (room₁ ≡ roomAfter (emissionAnswer (programAt prog) n (length room)) room)) →
       Compiles prog n room r room₁

@@ -1,78 +1,75 @@
 -- The ways out of the walkers over chains: a call, the bodies of a chain, one body around those that follow it.
 use mathlib.Core.Path.{_≡_, refl, sym, ap, _∙_}
+use mathlib.Core.Bool.{false}
 use mathlib.Core.List.{List, [], _∷_, _++_, reverse, append-assoc}
-use Prim.Native.Nat.{ℕ, zero, suc, _+_, _-_, _≤_, _<_}
+use Prim.Native.Nat.{ℕ, zero, suc, _+_, _-_, _*_, _≤_, _<_}
 use native.Mathlib.Nat.{le-refl}
 use native.Mathlib.Omega.{arith}
 use borrow.Author.Needs.{needs}
 use borrow.Author.Tests.{lt-ltb, le-ltb, eqb-true, ne-eqb}
-use lib.ListN.{length}
+use lib.ListN.{length, getD}
 use lib.Seq.{sets}
 use lib.Dec.{eqb}
 use Rattle.limits.specs.Sizes.{wireCount, slotsLength}
 use Rattle.model.specs.Limits.{mostWires, mostDepth, mostCircuit}
 use Rattle.model.specs.Syntax.{Program, body}
-use Rattle.model.specs.Lists.{member}
-use Rattle.model.specs.Reach.{recursive}
+use Rattle.model.specs.Reach.{recursive, anyLacksRemoval}
 use Rattle.model.specs.Gates.{Controls, Gate, flip}
 use Rattle.model.specs.Emission.{
-  Event, places, frees, Chains, startChain, Invocation, invocation, invoked, invokes, left, right, under, allEntryGates, Emitted, bodyInvocations,
-  around, bodies, bodiesFrom, chainsWithin,
+  Event, places, frees, Chains, startChain, Invocation, invocation, invoked, invokes, left, right, under, allEntryGates, Key, keys, callsTo, Emitted,
+  bodyInvocations, around, shared, bodies, bodiesFrom, chainsWithin,
 }
 use Rattle.model.specs.Circuit.{encode}
 use Rattle.model.specs.Answers.{usable}
 use Rattle.model.proofs.BooleanLaws.{byBool, byLt, byEq, not-zero, not-below}
-use Rattle.model.proofs.ReachAndRank.{body-out}
+use Rattle.model.proofs.ReachAndRank.{body-out, all-removing}
+use Rattle.agreement.proofs.InvocationsOfABody.{AllOf, invocations-shorter}
+use Rattle.agreement.proofs.KeysOfALength.{keys-shorter, calls-shorter}
 use Rattle.agreement.proofs.AncillaStack.{only-reverse, entries-only, bodies-stacked, bodiesFrom-stacked, chains-stacked}
 use Rattle.decoded.specs.DecodedTable.{procedureCount, rootOf, statementAt, programAt}
 use Rattle.reach.proofs.MatrixOfAProgram.{count-at, body-at}
 use Rattle.step.proofs.StatementAtARecord.{spent-skip}
 use Rattle.controls.specs.ControlWords.{controlsFrom, listFrom, At}
 use Rattle.widths.specs.KeptWidths.{WidthsKnown}
-use Rattle.events.specs.Scan.{Emit, Progress, progress, emitOf, freed, placed, scan, slotListLength, slotProcedure, slotList, wireOf, slotOf, Tallied, heldIn}
-use Rattle.events.specs.Slots.{appears, seekOf, entriesTo, longestBelow}
+use Rattle.events.specs.Scan.{Emit, Progress, progress, emitOf, freed, placed, scan, slotAt, slotListLength, slotProcedure, slotList, wireOf, slotOf, Tallied, heldIn}
+use Rattle.events.specs.Slots.{precedenceIn, NextSlot, entriesTo}
 use Rattle.events.specs.FollowedEvents.{Follows, Opens, Invokes}
 use Rattle.emit.specs.WalkPromises.{
-  Ready, bodyDepth, KnownIn, Before, chainsIn, bodiesUpTo, leftOf, rightOf, DoneIn, Call, walks-call, Left, Right, BodyLeft, walks-body-left, BodyRight,
+  Ready, bodyDepth, KnownIn, Before, chainsIn, bodiesUpTo, leftOf, rightOf, keysFrom, bodiesLeft, callsIn, laterCalls, Precedes, Call, walks-call, Left, Right, BodyLeft, walks-body-left, BodyRight,
   walks-body-right, Bodies,
   walks-bodies, Rest, walks-rest, Inner, walks-inner, Body, walks-body,
 }
 use Rattle.events.proofs.ScanOfEvents.{scan-append, scan-stopped, scan-places, scan-no-gate, scan-many, scan-frees, nextAfter, stacked-after}
 use Rattle.events.proofs.EntryGates.{scan-nothing, entries-are}
 use Rattle.events.proofs.ConsecutiveWalks.{
-  gates-next, follows-none, follows-stopped, follows-gates, follows-next, follows-if, follows-as, follows-append, slot-kept, held-kept, appears-kept,
+  gates-next, follows-none, follows-stopped, follows-gates, follows-next, follows-if, follows-as, follows-append, slot-kept, held-kept,
   held-append,
 }
 use Rattle.emit.proofs.WalkPreconditions.{ready-then}
 use Rattle.emit.proofs.WholeStatement.{left-next}
 use Rattle.emit.proofs.LeftPart.{was-ok, use-left, use-invokes}
 use Rattle.emit.proofs.RightPart.{use-right}
-use Rattle.emit.proofs.NextBody.{seek-low, seek-none, seek-found, longest-less, longest-most, skip-lengths}
+use Rattle.emit.proofs.NextBody.{keys-all, seek-none, seek-some, seek-key, seek-calls, seek-below}
 
 -- the bodies of a chain: where they end, and the whole of them
 module _ (prog : List ℕ) (k : ℕ) where
-  bodies-next : (n : ℕ) (known : List ℕ) (calls all : List Invocation) (next : ℕ) → 0 < next →
-      nextAfter next (bodiesUpTo prog k n known calls all next .events) ≡ bodiesUpTo prog k n known calls all next .next
+  bodies-next : (n : ℕ) (ks : List Key) (calls all : List Invocation) (next : ℕ) → 0 < next →
+      nextAfter next (bodiesUpTo prog k n ks calls all next .events) ≡ bodiesUpTo prog k n ks calls all next .next
   unfolding bodiesUpTo nextAfter
-  bodies-next zero known calls all next h = refl
-  bodies-next (suc n) known calls all next h =
+  bodies-next zero ks calls all next h = refl
+  bodies-next (suc n) ks calls all next h =
     let P = programAt prog in
     let ch = chainsIn prog k in
     let C = chains-stacked 0 P k in
-    let out = bodies P ch (suc n) (bodiesFrom P ch n) known calls all next in
+    let out = bodies P ch (suc n) (bodiesFrom P ch n) ks calls all next in
     stacked-after 0 next (out .next) (out .events)
-      (bodies-stacked 0 P ch C (suc n) (bodiesFrom P ch n) (bodiesFrom-stacked 0 P ch C n) known calls all next h .0)
+      (bodies-stacked 0 P ch C (suc n) (bodiesFrom P ch n) (bodiesFrom-stacked 0 P ch C n) ks calls all next h .0)
 
   bodies-all : (n : ℕ) (all : List Invocation) (next : ℕ) →
-      bodiesUpTo prog k n [] all all next ≡ bodiesFrom (programAt prog) (chainsIn prog k) n all next
+      bodiesUpTo prog k n (keysFrom 0 (keys n all)) all all next ≡ bodiesFrom (programAt prog) (chainsIn prog k) n all next
   unfolding bodiesUpTo bodiesFrom
   bodies-all zero all next = refl
-  bodies-all (suc n) all next = refl
-
--- no slot, no procedure
-none-done : (ws : List ℕ) (base n : ℕ) → DoneIn ws base n base []
-unfolding appears member
-none-done ws base n f = let e : base - base ≡ 0 = omega arith in rw e
+  bodies-all (suc n) all next = rw (keys-all (keys (suc n) all))
 
 module _ {prog : List ℕ} {k : ℕ} {st : Emit} {room ws : List ℕ} {r : Emit} {room₁ ws₁ : List ℕ} where
   use-body-left : {d : ℕ} → BodyLeft prog k st room ws r room₁ ws₁ d → Ready prog st ws → d ≤ mostWires →
@@ -85,161 +82,156 @@ module _ {prog : List ℕ} {k : ℕ} {st : Emit} {room ws : List ℕ} {r : Emit}
       Follows (rightOf prog k (slotOf ws d) first (st .next)) st room ws r room₁ ws₁
   use-body-right (walks-body-right g) = g
 
-  use-bodies : {base n j upto : ℕ} → Bodies prog k st room ws r room₁ ws₁ base n j upto → Ready prog st ws → base ≤ j →
-      upto ≤ st .next → base ≤ st .next → (known : List ℕ) → DoneIn ws base n j known →
-      Follows (bodiesUpTo prog k n known (heldIn ws j (upto - j)) (heldIn ws base (st .next - base)) (st .next) .events) st room ws r room₁ ws₁
+  use-bodies : {base last : ℕ} → Bodies prog k st room ws r room₁ ws₁ base last → Ready prog st ws → base ≤ st .next →
+      (m from : ℕ) → Precedes last m from →
+      Follows (bodiesLeft prog k m from (callsIn ws base (st .next)) (st .next) .events) st room ws r room₁ ws₁
   use-bodies (walks-bodies g) = g
 
-  use-body : {base n d upto : ℕ} → Body prog k st room ws r room₁ ws₁ base n d upto → Ready prog st ws → base ≤ d → d < upto →
-      upto ≤ st .next → (known : List ℕ) → DoneIn ws base n (d + 1) known →
+  use-body : {base last d : ℕ} → Body prog k st room ws r room₁ ws₁ base last d → Ready prog st ws → base ≤ d → d < st .next →
+      (m from : ℕ) → Precedes last m from →
       Follows
         (let news = bodyInvocations (programAt prog) (chainsIn prog k) (slotOf ws d) (st .next) in
-          around (programAt prog) (chainsIn prog k) (slotOf ws d) (heldIn ws (d + 1) (upto - (d + 1))) (st .next)
-            (bodiesUpTo prog k n known (heldIn ws (d + 1) (upto - (d + 1))) (heldIn ws base (st .next - base) ++ news)
-              (st .next + length news)) .events)
+          around (programAt prog) (chainsIn prog k) (slotOf ws d) (laterCalls ws (st .next) d) (st .next)
+            (bodiesLeft prog k m from (callsIn ws base (st .next) ++ news) (st .next + length news)) .events)
         st room ws r room₁ ws₁
   use-body (walks-body g) = g
 
--- the bodies of length n by the slot that is found
-module _ (prog : List ℕ) (k : ℕ) (ws : List ℕ) (T : Tallied ws) (base n j upto : ℕ) where
-  no-bodies : (known : List ℕ) (calls all : List Invocation) (next : ℕ) → n ≡ 0 → [] ≡ bodiesUpTo prog k n known calls all next .events
-  unfolding bodiesUpTo
-  no-bodies known calls all next e = rw e
+-- a body's calls have shorter lists, so that the calls of its own length are still those that were there
+module _ (prog : List ℕ) (k : ℕ) (passes10 : anyLacksRemoval (programAt prog) ≡ false) (d : Invocation) (next : ℕ) (some : 0 < length (d .list)) where
+  abbrev news : List Invocation
+  news = bodyInvocations (programAt prog) (chainsIn prog k) d next
 
-  up-found : (v d : ℕ) → v ≡ n → (n ≡ 0 → ⊥) → base ≤ j → (known : List ℕ) → DoneIn ws base n j known → (all : List Invocation) (next : ℕ) →
-      d ≡ seekOf ws base n j (upto - j) → d < upto →
-      (bodiesUpTo prog k v known (heldIn ws j (upto - j)) all next ≡
-        around (programAt prog) (chainsIn prog k) (slotOf ws d) (heldIn ws (d + 1) (upto - (d + 1))) next
-          (bodiesUpTo prog k v (slotProcedure ws d ∷ known) (heldIn ws (d + 1) (upto - (d + 1)))
-            (all ++ bodyInvocations (programAt prog) (chainsIn prog k) (slotOf ws d) next)
-            (next + length (bodyInvocations (programAt prog) (chainsIn prog k) (slotOf ws d) next))))
-      × DoneIn ws base n (d + 1) (slotProcedure ws d ∷ known)
-  unfolding bodiesUpTo
-  up-found zero d q nz le known S all next e h = absurd (nz (sym q))
-  up-found (suc v) d q nz le known S all next e h =
-    let low = seek-low ws base n j (upto - j) in
-    let end : j + (upto - j) - (d + 1) ≡ upto - (d + 1) = omega arith in
-    let t = seek-found (programAt prog) (chainsIn prog k) ws T base n (bodiesFrom (programAt prog) (chainsIn prog k) v) known all next j (upto - j) d
-          le S e (omega arith) in
-    (rw (q, ← end) (t .0), t .1)
+  news-shorter : AllOf (λ (x : Invocation). length (x .list) < length (d .list)) news
+  news-shorter =
+    let P = programAt prog in
+    invocations-shorter (recursive P (d .procedure)) (d .list) some (body P (d .procedure)) next (all-removing P passes10 (d .procedure))
 
-  up-none : (v d : ℕ) → v ≡ n → (n ≡ 0 → ⊥) → base ≤ j → (known : List ℕ) → DoneIn ws base n j known → (all : List Invocation) (next : ℕ) →
-      d ≡ seekOf ws base n j (upto - j) → upto ≤ d →
-      bodiesUpTo prog k v known (heldIn ws j (upto - j)) all next ≡ bodiesFrom (programAt prog) (chainsIn prog k) (v - 1) all next
+  bodies-calls : (m : ℕ) (shorter : List Invocation → ℕ → Emitted) (calls calls′ : List Invocation) →
+      ((κ : Key) → callsTo m κ calls ≡ callsTo m κ calls′) → (ks : List Key) →
+      bodies (programAt prog) (chainsIn prog k) m shorter ks calls ≡ bodies (programAt prog) (chainsIn prog k) m shorter ks calls′
+  unfolding bodies
+  bodies-calls m shorter calls calls′ same [] = refl
+  bodies-calls m shorter calls calls′ same (κ ∷ ks) = rw (same κ, bodies-calls m shorter calls calls′ same ks)
+
+  following-same : (m from : ℕ) (all : List Invocation) (next′ : ℕ) → m ≡ length (d .list) →
+      bodiesUpTo prog k m (keysFrom from (keys m all)) all (all ++ news) next′ ≡ bodiesLeft prog k m from (all ++ news) next′
   unfolding bodiesUpTo
-  up-none zero d q nz le known S all next e h = absurd (nz (sym q))
-  up-none (suc v) d q nz le known S all next e h =
-    let low = seek-low ws base n j (upto - j) in
-    let less : suc v - 1 ≡ v = omega arith in
-    rw (less, q) (seek-none (programAt prog) (chainsIn prog k) ws T base n
-      (bodiesFrom (programAt prog) (chainsIn prog k) v) known all next j (upto - j)
-      le S (omega arith))
+  following-same zero from all next′ e = refl
+  following-same (suc m) from all next′ e =
+    let short : AllOf (λ (x : Invocation). length (x .list) < suc m) news = rw e news-shorter in
+    rw (keys-shorter (suc m) news short all,
+      bodies-calls (suc m) (bodiesFrom (programAt prog) (chainsIn prog k) m) all (all ++ news)
+        (λ κ. sym (calls-shorter (suc m) news short κ all)) (keysFrom from (keys (suc m) all)))
+
+-- the bodies that are left, by the slot that is found
+module _ (prog : List ℕ) (k : ℕ) (ws : List ℕ) (T : Tallied ws) (base upto last m from d : ℕ) (O : Precedes last m from)
+    (N : NextSlot ws base last upto d) (lt : d < upto) (passes10 : anyLacksRemoval (programAt prog) ≡ false) (next : ℕ) where
+  abbrev all : List Invocation
+  all = callsIn ws base upto
+
+  abbrev own : List Invocation
+  own = bodyInvocations (programAt prog) (chainsIn prog k) (slotOf ws d) next
+
+  shared-first : (v : ℕ) → 0 < v → v ≡ slotListLength ws d →
+      bodiesUpTo prog k v (slotProcedure ws d ∷ keysFrom (slotProcedure ws d + 1) (keys v all)) all all next ≡
+        around (programAt prog) (chainsIn prog k) (slotOf ws d) (laterCalls ws upto d) next
+          (bodiesUpTo prog k v (keysFrom (slotProcedure ws d + 1) (keys v all)) all (all ++ own) (next + length own))
+  unfolding bodiesUpTo bodies shared
+  shared-first zero h e = absurd (omega arith)
+  shared-first (suc v) h e = rw (e, seek-calls ws T base upto last m from d O N lt)
+
+  pub up-found : bodiesLeft prog k m from all next ≡
+      around (programAt prog) (chainsIn prog k) (slotOf ws d) (laterCalls ws upto d) next
+        (bodiesLeft prog k (slotListLength ws d) (slotProcedure ws d + 1) (all ++ own) (next + length own))
+  unfolding slotOf
+  up-found =
+    let some = seek-some ws T base upto last m from d O N lt in
+    seek-key ws T base upto last m from d O N lt prog k next
+      ∙ shared-first (slotListLength ws d) some refl
+      ∙ ap (around (programAt prog) (chainsIn prog k) (slotOf ws d) (laterCalls ws upto d) next)
+          (following-same prog k passes10 (slotOf ws d) next (rw (← T d) some) (slotListLength ws d) (slotProcedure ws d + 1) all (next + length own) (T d))
 
 -- the ways out of `emit_bodies`
-module _ {prog : List ℕ} {k : ℕ} {st : Emit} {room ws : List ℕ} {base n j upto : ℕ} where
-  pub bodies-stopped : {s : ℕ} → s ≡ st .status → (s ≡ 0 → ⊥) → Bodies prog k st room ws st room ws base n j upto
-  bodies-stopped e h = walks-bodies (λ R a b c known S. follows-stopped _ st room ws (λ z. h (e ∙ z)))
+module _ {prog : List ℕ} {k : ℕ} {st : Emit} {room ws : List ℕ} {base last : ℕ} where
+  pub bodies-stopped : {s : ℕ} → s ≡ st .status → (s ≡ 0 → ⊥) → Bodies prog k st room ws st room ws base last
+  bodies-stopped e h = walks-bodies (λ R le m from O. follows-stopped _ st room ws (λ z. h (e ∙ z)))
 
-  pub bodies-empty : n ≡ 0 → Bodies prog k st room ws st room ws base n j upto
-  bodies-empty e = walks-bodies (λ R a b c known S. follows-as
-    (no-bodies prog k ws (R .tallied) base n j upto known _ _ (st .next) e) (follows-none st room ws))
+  module _ {upto d : ℕ} (is : upto ≡ st .next) (N : NextSlot ws base last upto d) where
+    pub bodies-none : upto ≤ d → Bodies prog k st room ws st room ws base last
+    bodies-none h = walks-bodies (λ R le m from O. follows-as
+      (sym (seek-none ws (R .tallied) base (st .next) last m from d O (rw is at N) (rw is at h) prog k (st .next))) (follows-none st room ws))
 
-  module _ {r : Emit} {room₁ ws₁ : List ℕ} where
-    pub bodies-found : {d : ℕ} → (n ≡ 0 → ⊥) → d ≡ seekOf ws base n j (upto - j) → d < upto →
-        Body prog k st room ws r room₁ ws₁ base n d upto → Bodies prog k st room ws r room₁ ws₁ base n j upto
-    bodies-found {d = d} nz e h A = walks-bodies (λ R le top over known S.
-      let low = seek-low ws base n j (upto - j) in
-      let t = up-found prog k ws (R .tallied) base n j upto n d refl nz le known S (heldIn ws base (st .next - base)) (st .next) e h in
-      follows-as (sym (ap (λ (o : Emitted). o .events) (t .0))) (use-body A R (omega arith) h top (slotProcedure ws d ∷ known) (t .1)))
-
-    pub bodies-on : {d next m : ℕ} → (n ≡ 0 → ⊥) → d ≡ seekOf ws base n j (upto - j) → upto ≤ d → next ≡ st .next → m ≡ longestBelow ws base (next - base) n →
-        Bodies prog k st room ws r room₁ ws₁ base m base next → Bodies prog k st room ws r room₁ ws₁ base n j upto
-    bodies-on {d = d} {m = m} nz e h is longest B = walks-bodies (λ R le top over known S.
-      let P = programAt prog in
-      let ch = chainsIn prog k in
-      let A = rw is at B in
-      let is-m : m ≡ longestBelow ws base (st .next - base) n = rw is at longest in
-      let less = longest-less ws base (st .next - base) n m is-m nz in
-      let all = heldIn ws base (st .next - base) in
-      let skipped = skip-lengths P ch ws (R .tallied) base (st .next - base) (st .next) m (n - 1) (omega arith)
-            (λ i l g x y. let z = longest-most ws base (st .next - base) n i l g (omega arith) in clash-lengths (slotListLength ws i) m _ is-m x z) in
+    pub bodies-found : {r : Emit} {room₁ ws₁ : List ℕ} {p : ℕ} → d < upto → p ≡ precedenceIn ws d →
+        Body prog k st room ws r room₁ ws₁ base p d → Bodies prog k st room ws r room₁ ws₁ base last
+    bodies-found h same A = walks-bodies (λ R le m from O.
+      let M = rw is at N in
+      let lt = rw is at h in
       follows-as
-        (ap (λ (o : Emitted). o .events) (bodies-all prog k m all (st .next) ∙ sym skipped ∙
-          sym (up-none prog k ws (R .tallied) base n j upto n d refl nz le known S all (st .next) e h)))
-        (use-bodies A R (le-refl base) (le-refl (st .next)) over [] (none-done ws base m)))
-      where
-        clash-lengths : (a m l : ℕ) → m ≡ l → m < a → a ≤ l → ⊥
-        clash-lengths a m l e x z = omega arith
+        (sym (ap (λ (o : Emitted). o .events)
+          (up-found prog k ws (R .tallied) base (st .next) last m from d O M lt (R .checked .removes) (st .next))))
+        (use-body A R (M .waits lt .0) lt (slotListLength ws d) (slotProcedure ws d + 1)
+          (rw same (seek-below ws (R .tallied) base (st .next) last m from d O M lt))))
 
--- the ways out of `emit_rest`: the bodies that follow and the right part
-module _ {prog : List ℕ} {k : ℕ} {st : Emit} {room ws : List ℕ} {base n d upto : ℕ} where
-  pub rest-past : upto ≤ d → Rest prog k st room ws st room ws base n d upto
-  rest-past h = walks-rest (λ R le lt first top over Q known S. not-below d upto h lt)
-
-  pub rest-walk : {a : Emit} {room₁ ws₁ : List ℕ} {b : Emit} {room₂ ws₂ : List ℕ} {behind : ℕ} → d < upto → behind ≡ st .next →
-      Bodies prog k st room ws a room₁ ws₁ base n (d + 1) upto → BodyRight prog k a room₁ ws₁ b room₂ ws₂ d behind →
-      Rest prog k st room ws b room₂ ws₂ base n d upto
-  rest-walk {a = a} {ws₁ = ws₁} h is A B = walks-rest (λ R le lt first top over Q known S.
-    let F = use-bodies A R (omega arith) (omega arith) (omega arith) known S in
+-- the way out of `emit_rest`: the bodies that follow and the right part
+module _ {prog : List ℕ} {k : ℕ} {st : Emit} {room ws : List ℕ} {base last d : ℕ} where
+  pub rest-walk : {a : Emit} {room₁ ws₁ : List ℕ} {b : Emit} {room₂ ws₂ : List ℕ} {behind : ℕ} → behind ≡ st .next →
+      Bodies prog k st room ws a room₁ ws₁ base last → BodyRight prog k a room₁ ws₁ b room₂ ws₂ d behind →
+      Rest prog k st room ws b room₂ ws₂ base last d
+  rest-walk {a = a} {ws₁ = ws₁} is A B = walks-rest (λ R le m from O first top over Q.
+    let F = use-bodies A R (omega arith) m from O in
     let slot : slotOf ws₁ d ≡ slotOf ws d = slot-kept ws ws₁ (st .next) (F .kept) d (omega arith) in
     let small = R .low in
     let G = use-body-right B (ready-then R F) (omega arith) first (λ ok. rw (slot, is) (Q (was-ok F ok))) in
-    let later = heldIn ws (d + 1) (upto - (d + 1)) in
-    let all = heldIn ws base (st .next - base) in
+    let all = callsIn ws base (st .next) in
     follows-append F (follows-if
-      (λ ok. rw (slot, follows-next F ok ∙ bodies-next prog k n known later all (st .next) (R .some))) G))
+      (λ ok. rw (slot, follows-next F ok ∙ bodies-next prog k m (keysFrom from (keys m all)) all all (st .next) (R .some))) G))
 
--- the ways out of `emit_inner`: the left part, then the rest
-module _ {prog : List ℕ} {k : ℕ} {st : Emit} {room ws : List ℕ} {base n d upto : ℕ} where
-  use-rest : {r : Emit} {room₁ ws₁ : List ℕ} → Rest prog k st room ws r room₁ ws₁ base n d upto →
-      Ready prog st ws → base ≤ d → d < upto → (first : ℕ) → upto ≤ first → first ≤ st .next →
+-- the way out of `emit_inner`: the left part, then the rest
+module _ {prog : List ℕ} {k : ℕ} {st : Emit} {room ws : List ℕ} {base last d : ℕ} where
+  use-rest : {r : Emit} {room₁ ws₁ : List ℕ} → Rest prog k st room ws r room₁ ws₁ base last d →
+      Ready prog st ws → base ≤ d → (m from : ℕ) → Precedes last m from → (first : ℕ) → d < first → first ≤ st .next →
       (st .status ≡ 0 → Before (st .next) first (length (bodyInvocations (programAt prog) (chainsIn prog k) (slotOf ws d) first))) →
-      (known : List ℕ) → DoneIn ws base n (d + 1) known →
       Follows
-        (let inner = bodiesUpTo prog k n known (heldIn ws (d + 1) (upto - (d + 1))) (heldIn ws base (st .next - base)) (st .next) in
+        (let inner = bodiesLeft prog k m from (callsIn ws base (st .next)) (st .next) in
           inner .events ++ rightOf prog k (slotOf ws d) first (inner .next)) st room ws r room₁ ws₁
   use-rest (walks-rest g) = g
 
-module _ {prog : List ℕ} {k : ℕ} {st : Emit} {room ws : List ℕ} {base n d upto : ℕ} where
+module _ {prog : List ℕ} {k : ℕ} {st : Emit} {room ws : List ℕ} {base last d : ℕ} where
   pub inner-walk : {a : Emit} {room₁ ws₁ : List ℕ} {b : Emit} {room₂ ws₂ : List ℕ} → BodyLeft prog k st room ws a room₁ ws₁ d →
-      Rest prog k a room₁ ws₁ b room₂ ws₂ base n d upto → Inner prog k st room ws b room₂ ws₂ base n d upto
-  inner-walk {a = a} {ws₁ = ws₁} A B = walks-inner (λ R le lt top known S.
+      Rest prog k a room₁ ws₁ b room₂ ws₂ base last d → Inner prog k st room ws b room₂ ws₂ base last d
+  inner-walk {a = a} {ws₁ = ws₁} A B = walks-inner (λ R le lt m from O.
     let P = programAt prog in
     let ch = chainsIn prog k in
     let s = slotOf ws d in
     let small = R .low in
-    let O = use-body-left A R (omega arith) in
-    let F = O .follows in
+    let L = use-body-left A R (omega arith) in
+    let F = L .follows in
     let news = bodyInvocations P ch s (st .next) in
-    let slot : slotOf ws₁ d ≡ s = slot-kept ws ws₁ (st .next) (F .kept) d (omega arith) in
-    let later : heldIn ws₁ (d + 1) (upto - (d + 1)) ≡ heldIn ws (d + 1) (upto - (d + 1)) =
-          held-kept ws ws₁ (st .next) (F .kept) (d + 1) (upto - (d + 1)) (omega arith) in
+    let slot : slotOf ws₁ d ≡ s = slot-kept ws ws₁ (st .next) (F .kept) d lt in
     let up : a .status ≡ 0 → a .next ≡ st .next + length news = λ ok. follows-next F ok
           ∙ left-next prog k (recursive P (s .procedure)) (body P (s .procedure)) (s .list) (under (s .ancilla)) (st .next) (R .some) in
-    let done₁ : DoneIn ws₁ base n (d + 1) known = λ f. S f ∙ sym (appears-kept ws ws₁ (st .next) (F .kept) base (d + 1 - base) f n (omega arith)) in
     let R₁ = ready-then R F in
-    let all : a .status ≡ 0 → heldIn ws₁ base (a .next - base) ≡ heldIn ws base (st .next - base) ++ news = λ ok.
+    let all : a .status ≡ 0 → callsIn ws₁ base (a .next) ≡ callsIn ws base (st .next) ++ news = λ ok.
           let e : a .next - base ≡ (st .next - base) + length news = let z = up ok in omega arith in
           let w : base + (st .next - base) ≡ st .next = omega arith in
-          rw (e, held-append ws₁ base (st .next - base) (length news), w, O .held ok,
+          rw (e, held-append ws₁ base (st .next - base) (length news), w, L .held ok,
             held-kept ws ws₁ (st .next) (F .kept) base (st .next - base) (omega arith)) in
-    let G = use-rest B R₁ le lt (st .next) top (F .rises) (λ ok. rw slot (record { ends = up ok; wires = R₁ .low })) known done₁ in
-    follows-append F (follows-if (λ ok. rw (slot, later, all ok, up ok)) G))
+    let G = use-rest B R₁ le m from O (st .next) lt (F .rises) (λ ok. rw slot (record { ends = up ok; wires = R₁ .low })) in
+    follows-append F (follows-if (λ ok. rw (slot, all ok, up ok)) G))
 
-  use-inner : {r : Emit} {room₁ ws₁ : List ℕ} → Inner prog k st room ws r room₁ ws₁ base n d upto →
-      Ready prog st ws → base ≤ d → d < upto → upto ≤ st .next → (known : List ℕ) → DoneIn ws base n (d + 1) known →
+  use-inner : {r : Emit} {room₁ ws₁ : List ℕ} → Inner prog k st room ws r room₁ ws₁ base last d →
+      Ready prog st ws → base ≤ d → d < st .next → (m from : ℕ) → Precedes last m from →
       Follows
         (let news = bodyInvocations (programAt prog) (chainsIn prog k) (slotOf ws d) (st .next) in
-          let inner = bodiesUpTo prog k n known (heldIn ws (d + 1) (upto - (d + 1))) (heldIn ws base (st .next - base) ++ news)
-            (st .next + length news) in
+          let inner = bodiesLeft prog k m from (callsIn ws base (st .next) ++ news) (st .next + length news) in
           leftOf prog k (slotOf ws d) (st .next) ++ (inner .events ++ rightOf prog k (slotOf ws d) (st .next) (inner .next)))
         st room ws r room₁ ws₁
   use-inner (walks-inner g) = g
 
 -- the ways out of `emit_body`: entry gates, what is inside them, entry gates reversed
-module _ {prog : List ℕ} {k : ℕ} {st : Emit} {room ws : List ℕ} {base n d upto : ℕ} where
-  pub body-past : upto ≤ d → Body prog k st room ws st room ws base n d upto
-  body-past h = walks-body (λ R le lt top known S. not-below d upto h lt)
+module _ {prog : List ℕ} {k : ℕ} {st : Emit} {room ws : List ℕ} {base last d upto : ℕ} (is-upto : upto ≡ st .next) where
+  pub body-past : upto ≤ d → Body prog k st room ws st room ws base last d
+  body-past h = walks-body (λ R le lt m from O. not-below d (st .next) (rw is-upto at h) lt)
 
 around-is : (P : Program) (ch : Chains) (d : Invocation) (later : List Invocation) (next : ℕ) (inner : Emitted) →
     allEntryGates d later ++
@@ -253,27 +245,29 @@ around-is P ch d later next inner =
     let E = reverse (allEntryGates d later) in
     rw (append-assoc L (inner .events ++ Q) E, append-assoc (inner .events) Q E)
 
-module _ {prog : List ℕ} {k : ℕ} {st : Emit} {room ws : List ℕ} {base n d upto : ℕ} where
-  pub body-walk : {a : Emit} {room₁ : List ℕ} {b : Emit} {room₂ ws₂ : List ℕ} {r : Emit} {room₃ : List ℕ} → d < upto →
+module _ {prog : List ℕ} {k : ℕ} {st : Emit} {room ws : List ℕ} {base last d upto : ℕ} (is-upto : upto ≡ st .next) where
+  pub body-walk : {a : Emit} {room₁ : List ℕ} {b : Emit} {room₂ ws₂ : List ℕ} {r : Emit} {room₃ : List ℕ} →
       progress a room₁ ≡ scan (entriesTo ws d (d + 1) (upto - (d + 1))) (progress st room) →
-      Inner prog k a room₁ ws b room₂ ws₂ base n d upto →
+      Inner prog k a room₁ ws b room₂ ws₂ base last d →
       progress r room₃ ≡ scan (reverse (entriesTo ws₂ d (d + 1) (upto - (d + 1)))) (progress b room₂) →
-      Body prog k st room ws r room₃ ws₂ base n d upto
-  body-walk {a = a} {room₁ = room₁} {b = b} {room₂ = room₂} {ws₂ = ws₂} {r = r} {room₃ = room₃} h e₀ A q₀ = walks-body (λ R le lt top known S.
-    let e = rw (entries-are ws (R .tallied) d (d + 1) (upto - (d + 1))) at e₀ in
+      Body prog k st room ws r room₃ ws₂ base last d
+  body-walk {a = a} {room₁ = room₁} {b = b} {room₂ = room₂} {ws₂ = ws₂} {r = r} {room₃ = room₃} e₀ A q₀ = walks-body (λ R le lt m from O.
     let s = slotOf ws d in
-    let later = heldIn ws (d + 1) (upto - (d + 1)) in
+    let later = laterCalls ws (st .next) d in
+    let e = rw (is-upto, entries-are ws (R .tallied) d (d + 1) (st .next - (d + 1))) at e₀ in
     let E = allEntryGates s later in
     let only = entries-only s later in
     let same : a .next ≡ st .next = ap (λ (x : Progress). emitOf x .next) e ∙ gates-next E st room only in
     let F = follows-gates E st room ws a room₁ only e in
-    let G = use-inner A (ready-then R F) le lt (omega arith) known S in
+    let G = use-inner A (ready-then R F) le (omega arith) m from O in
+    let word : getD ws₂ (slotAt d) 0 ≡ getD ws (slotAt d) 0 = G .kept (slotAt d) (omega arith) in
     let slot : slotOf ws₂ d ≡ s = slot-kept ws ws₂ (a .next) (G .kept) d (omega arith) in
-    let held : heldIn ws₂ (d + 1) (upto - (d + 1)) ≡ later = held-kept ws ws₂ (a .next) (G .kept) (d + 1) (upto - (d + 1)) (omega arith) in
-    let q = rw (entries-are ws₂ (G .tallied (R .tallied)) d (d + 1) (upto - (d + 1))) at q₀ in
-    let H = follows-gates (reverse E) b room₂ ws₂ r room₃ (only-reverse E only) (rw (slot, held) at q) in
+    let held : callsIn ws₂ (d + 1) (st .next) ≡ callsIn ws (d + 1) (st .next) =
+          held-kept ws ws₂ (a .next) (G .kept) (d + 1) (st .next - (d + 1)) (omega arith) in
+    let q = rw (is-upto, entries-are ws₂ (G .tallied (R .tallied)) d (d + 1) (st .next - (d + 1))) at q₀ in
+    let H = follows-gates (reverse E) b room₂ ws₂ r room₃ (only-reverse E only) (rw (slot, held, word) at q) in
     let news = bodyInvocations (programAt prog) (chainsIn prog k) s (st .next) in
-    let inner = bodiesUpTo prog k n known later (heldIn ws base (st .next - base) ++ news) (st .next + length news) in
+    let inner = bodiesLeft prog k m from (callsIn ws base (st .next) ++ news) (st .next + length news) in
     let G₁ : Follows (leftOf prog k s (st .next) ++ (inner .events ++ rightOf prog k s (st .next) (inner .next))) a room₁ ws b room₂ ws₂ =
           follows-as (rw same) G in
     follows-as (around-is (programAt prog) (chainsIn prog k) s later (st .next) inner) (follows-append F (follows-append G₁ H)))
@@ -304,14 +298,14 @@ module _ {prog : List ℕ} {k : ℕ} {st : Emit} {room ws : List ℕ} {d : ℕ} 
   pub body-left-walk : Left prog k st room ws r room₁ ws₁ i depth (listFrom site) (controlsFrom site) → BodyLeft prog k st room ws r room₁ ws₁ d
   unfolding slotOf
   body-left-walk A = walks-body-left (λ R h.
-    let O = use-left f A (body-known prog f i depth at deep (R .widths)) R in
+    let O = use-left f A (body-known prog f i depth at deep (R .checked .widths)) R in
     rw (body-is prog f i depth at deep, here .list, here .controls, is-f, is-l, is-w) at O)
 
   pub body-right-walk : {behind given : ℕ} → Right prog k st room ws r room₁ ws₁ i depth (listFrom site) (controlsFrom site) behind given →
       BodyRight prog k st room ws r room₁ ws₁ d behind
   unfolding slotOf
   body-right-walk A = walks-body-right (λ R h first Q.
-    let F = use-right f A (body-known prog f i depth at deep (R .widths)) R first
+    let F = use-right f A (body-known prog f i depth at deep (R .checked .widths)) R first
           (λ ok. rw (body-is prog f i depth at deep, here .list, is-f, is-l) (Q ok)) in
     rw (body-is prog f i depth at deep, here .list, here .controls, is-f, is-l, is-w) at (F .0))
 
@@ -410,12 +404,12 @@ module _ {prog : List ℕ} {k : ℕ} {st : Emit} {room ws : List ℕ} {f : ℕ} 
           (follows-finish (flip cs (wireOf (st .next))) (flip cs (st .next)) (O .follows)
             (λ ok. ap (flip cs) (taken-low A (λ e. nz (is ∙ e)) (R .space) (R .low) ok .1)) q))
 
-      pub call-chain : {base upto : ℕ} {b : Emit} {room₂ ws₂ : List ℕ} {r : Emit} {room₃ : List ℕ} → base ≡ st .next → (k ≡ 0 → ⊥) → upto ≡ a .next →
-          Bodies prog (k - 1) a room₁ ws₁ b room₂ ws₂ base n base upto →
+      pub call-chain : {base last : ℕ} {b : Emit} {room₂ ws₂ : List ℕ} {r : Emit} {room₃ : List ℕ} → base ≡ st .next → (k ≡ 0 → ⊥) → last ≡ 256 * n + 256 →
+          Bodies prog (k - 1) a room₁ ws₁ b room₂ ws₂ base last →
           progress r room₃ ≡ scan (places (flip cs (wireOf base)) ∷ frees base ∷ []) (progress b room₂) →
           Call prog k st room ws r room₃ ws₂ f l cs
-      call-chain {b = b} {room₂ = room₂} {ws₂ = ws₂} is-base h is-upto C u = walks-call (λ R.
-        let B = rw (is-base, is-upto) at C in
+      call-chain {b = b} {room₂ = room₂} {ws₂ = ws₂} is-base h is-last C u = walks-call (λ R.
+        let B = rw is-base at C in
         let q = rw is-base at u in
         let P = programAt prog in
         let some : length l ≡ 0 → ⊥ = λ e. nz (is ∙ e) in
@@ -423,13 +417,13 @@ module _ {prog : List ℕ} {k : ℕ} {st : Emit} {room ws : List ℕ} {f : ℕ} 
         let end = places (flip cs next) ∷ frees next ∷ [] in
         let O = use-invokes A (R .space) in
         let F = O .follows in
-        let G = use-bodies B (ready-then R F) (le-refl next) (le-refl (a .next)) (F .rises) [] (none-done ws₁ next n) in
+        let G = use-bodies B (ready-then R F) (F .rises) n 0 (record { key = omega arith; below = omega arith }) in
         let held : a .status ≡ 0 → heldIn ws₁ next (a .next - next) ≡ invocation f l next ∷ [] = λ ok.
               let one : a .next - next ≡ length (invoked f l next) = let z = taken-low A some (R .space) (R .low) ok .0 in
                     rw (one-more f l cs next some .1) (omega arith) in
               rw one (O .held ok ∙ one-more f l cs next some .1) in
         let events : a .status ≡ 0 →
-              bodiesUpTo prog (k - 1) n [] (heldIn ws₁ next (a .next - next)) (heldIn ws₁ next (a .next - next)) (a .next) .events
+              bodiesLeft prog (k - 1) n 0 (callsIn ws₁ next (a .next)) (a .next) .events
                 ≡ chainsWithin P k f l next = λ ok.
               let up : a .next ≡ suc next = let z = taken-low A some (R .space) (R .low) ok .0 in omega arith in
               rw (held ok, up, is) (ap (λ (o : Emitted). o .events) (bodies-all prog (k - 1) (length l) (invocation f l next ∷ []) (suc next))
@@ -440,6 +434,6 @@ module _ {prog : List ℕ} {k : ℕ} {st : Emit} {room ws : List ℕ} {f : ℕ} 
           (follows-finish (flip cs (wireOf next)) (flip cs next) both (λ ok. ap (flip cs) (taken-low A some (R .space) (R .low) (was-ok G ok) .1)) q))
 
 pub ruleset chaining = (
-    needs, call-stopped, call-empty, call-flat, call-chain, bodies-stopped, bodies-empty, bodies-found, bodies-on, body-past, body-walk, inner-walk,
-    rest-past, rest-walk, body-left-walk, body-right-walk
+    needs, call-stopped, call-empty, call-flat, call-chain, bodies-stopped, bodies-none, bodies-found, body-past, body-walk, inner-walk,
+    rest-walk, body-left-walk, body-right-walk
   )

@@ -7,16 +7,15 @@ use borrow.Author.Needs.{needs}
 use borrow.Author.Tests.{lt-ltb, le-ltb}
 use lib.ListN.{length}
 use Rattle.limits.specs.Sizes.{slotsLength}
-use Rattle.model.specs.Limits.{mostQubits, mostProcedures, mostDepth}
+use Rattle.model.specs.Limits.{mostQubits, mostDepth}
 use Rattle.model.specs.Lists.{qubits}
 use Rattle.model.specs.Gates.{Controls, noControls}
 use Rattle.model.specs.Emission.{whole, emission}
 use Rattle.decoded.specs.DecodedTable.{procedureCount, rootOf, statementAt, programAt}
-use Rattle.widths.specs.KeptWidths.{WidthsKnown}
 use Rattle.reach.proofs.MatrixOfAProgram.{count-at}
 use Rattle.controls.specs.ControlWords.{controlsFrom, listFrom, At}
 use Rattle.events.specs.Scan.{Emit, progress, scan, begun, Tallied}
-use Rattle.emit.specs.WalkPromises.{bodyDepth, Ready, chainsIn, Whole, Emits, walks-main}
+use Rattle.emit.specs.WalkPromises.{bodyDepth, Checked, Ready, chainsIn, Whole, Emits, walks-main}
 use Rattle.emit.proofs.WholeStatement.{use-whole}
 
 -- the emission as a walk over the program
@@ -33,14 +32,14 @@ pub main-walk : {prog : List ℕ} {n : ℕ} {st : Emit} {room ws : List ℕ} {r 
     st ≡ begun n → k ≡ procedureCount prog → root ≡ rootOf prog 0 → l ≡ qubits (min n mostQubits) → At site l noControls →
     Whole prog k st room ws r room₁ ws₁ root mostDepth (listFrom site) (controlsFrom site) → Emits prog n room ws r room₁ ws₁
 main-walk {prog = prog} {n = n} {room = room} {ws = ws} {k = k} {root = root} {l = l} b e a q c W =
-    walks-main (λ few widths small space tallied.
+    walks-main (λ checked small space tallied.
     let A = rw (b, c .list, c .controls) at W in
-    let R : Ready prog (begun n) ws = record { few = few; widths = widths; some = omega arith; low = omega arith; space = space; tallied = tallied } in
+    let R : Ready prog (begun n) ws = record { checked = checked; some = omega arith; low = omega arith; space = space; tallied = tallied } in
     let F = use-whole A R in
     (F .scanned ∙ ap (λ es. scan es (progress (begun n) room)) (emission-is prog n k root l noControls small e a q refl), F .long))
 
 pub use-main : {prog : List ℕ} {n : ℕ} {room ws : List ℕ} {r : Emit} {room₁ ws₁ : List ℕ} → Emits prog n room ws r room₁ ws₁ →
-    procedureCount prog ≤ mostProcedures → WidthsKnown prog → n ≤ mostQubits → slotsLength ≤ length ws → Tallied ws →
+    Checked prog → n ≤ mostQubits → slotsLength ≤ length ws → Tallied ws →
     (progress r room₁ ≡ scan (emission (programAt prog) n) (progress (begun n) room)) × (length ws₁ ≡ length ws)
 use-main (walks-main g) = g
 

@@ -14,4 +14,4 @@ pub ready-then : {prog : List ℕ} {es : List Event} {st : Emit} {room ws : List
     Ready prog st ws → Follows es st room ws a room₁ ws₁ → Ready prog a ws₁
 ready-then {ws = ws} {ws₁ = ws₁} R F =
     let up = F .rises in let some = R .some in let long : length ws₁ ≡ length ws = F .long in let space = R .space in
-    record { few = R .few; widths = R .widths; some = omega arith; low = F .low (R .low); space = omega arith; tallied = F .tallied (R .tallied) }
+    record { checked = R .checked; some = omega arith; low = F .low (R .low); space = omega arith; tallied = F .tallied (R .tallied) }

@@ -1,30 +1,33 @@
 -- What the walkers promise: each follows the events that the definitions have for it.
-use Prim.Native.Nat.{ℕ, zero, suc, _+_, _-_, _≤_, _<_}
+use Prim.Native.Nat.{ℕ, zero, suc, _+_, _-_, _*_, _≤_, _<_}
 use mathlib.Core.Path.{_≡_}
-use mathlib.Core.Bool.{cond}
-use mathlib.Core.List.{List, [], _++_}
+use mathlib.Core.Bool.{false, cond}
+use mathlib.Core.List.{List, [], _∷_, _++_}
 use lib.ListN.{length}
-use lib.Dec.{ltb}
+use lib.Dec.{ltb, leb}
 use Rattle.limits.specs.Sizes.{wireCount, slotsLength}
 use Rattle.model.specs.Limits.{mostProcedures, mostQubits, mostDepth, mostWires}
 use Rattle.model.specs.Syntax.{Program, body}
-use Rattle.model.specs.Lists.{member}
-use Rattle.model.specs.Reach.{recursive}
+use Rattle.model.specs.Reach.{recursive, anyLacksRemoval}
 use Rattle.model.specs.Gates.{Controls}
 use Rattle.model.specs.Emission.{
-  Event, Chains, startChain, whole, Invocation, invocations, left, right, under, Emitted, bodyInvocations, around, bodies, bodiesFrom, chainsWithin,
-  emission,
+  Event, Chains, startChain, whole, Invocation, invocations, left, right, under, Key, keys, callsTo, Emitted, bodyInvocations, around, bodies, bodiesFrom,
+  chainsWithin, emission,
 }
 use Rattle.decoded.specs.DecodedTable.{procedureCount, statementAt, programAt}
 use Rattle.widths.specs.KeptWidths.{Known, WidthsKnown}
-use Rattle.events.specs.Scan.{Emit, progress, scan, begun, slotOf, Tallied, heldIn}
-use Rattle.events.specs.Slots.{appears}
+use Rattle.events.specs.Scan.{Emit, progress, scan, begun, slotListLength, slotProcedure, slotOf, Tallied, heldIn}
 use Rattle.events.specs.FollowedEvents.{Follows, Opens}
 
--- a program of no more procedures than there may be with its widths, wires within their limit, and slots for all of them, each with the length of its list
-pub record Ready (prog : List ℕ) (st : Emit) (ws : List ℕ) : Type 0 where
+-- what a program that was accepted has: no more procedures than there may be, its widths, and a removal in each recursive call
+pub record Checked (prog : List ℕ) : Type 0 where
   pub few : procedureCount prog ≤ mostProcedures
   pub widths : WidthsKnown prog
+  pub removes : anyLacksRemoval (programAt prog) ≡ false
+
+-- such a program, wires within their limit, and slots for all of them, each with the length of its list
+pub record Ready (prog : List ℕ) (st : Emit) (ws : List ℕ) : Type 0 where
+  pub checked : Checked prog
   pub some : 0 < st .next
   pub low : st .next ≤ wireCount
   pub space : slotsLength ≤ length ws
@@ -41,10 +44,10 @@ module _ (prog : List ℕ) (k : ℕ) where
   abbrev pub chainsIn : Chains
   chainsIn = chainsWithin programIn k
 
-  -- the bodies of lists of length m and shorter, where `calls` of length m are still to be looked at
-  unfoldable pub bodiesUpTo : ℕ → List ℕ → List Invocation → List Invocation → ℕ → Emitted
-  bodiesUpTo zero known calls all next = record { events = []; next = next }
-  bodiesUpTo (suc m) known calls all next = bodies programIn chainsIn (suc m) (bodiesFrom programIn chainsIn m) known calls all next
+  -- the bodies of lists of length m, with the keys ks, and of shorter ones
+  unfoldable pub bodiesUpTo : ℕ → List Key → List Invocation → List Invocation → ℕ → Emitted
+  bodiesUpTo zero ks calls all next = record { events = []; next = next }
+  bodiesUpTo (suc m) ks calls all next = bodies programIn chainsIn (suc m) (bodiesFrom programIn chainsIn m) ks calls all next
 
   abbrev pub leftOf : Invocation → ℕ → List Event
   leftOf d next = left chainsIn (recursive programIn (d .procedure)) (body programIn (d .procedure)) (d .list) (under (d .ancilla)) next
@@ -52,9 +55,27 @@ module _ (prog : List ℕ) (k : ℕ) where
   abbrev pub rightOf : Invocation → ℕ → ℕ → List Event
   rightOf d next top = right chainsIn (recursive programIn (d .procedure)) (body programIn (d .procedure)) (d .list) (under (d .ancilla)) next top
 
--- `procedures` are those of the slots from `base` to before `from` with lists of length n
-abbrev pub DoneIn : List ℕ → ℕ → ℕ → ℕ → List ℕ → Type 0
-DoneIn ws base n from procedures = (f : ℕ) → member f procedures ≡ appears ws base (from - base) f n
+-- the keys that are not below `from`
+unfoldable pub keysFrom : ℕ → List Key → List Key
+keysFrom from [] = []
+keysFrom from (k ∷ ks) = cond (leb from k) (k ∷ keysFrom from ks) (keysFrom from ks)
+
+-- the bodies of lists of length m with keys from `from` on, and all shorter ones, of the chain's invocations so far
+abbrev pub bodiesLeft : List ℕ → ℕ → ℕ → ℕ → List Invocation → ℕ → Emitted
+bodiesLeft prog k m from all next = bodiesUpTo prog k m (keysFrom from (keys m all)) all all next
+
+-- the invocations in the slots from `base` on, before `upto`
+abbrev pub callsIn : List ℕ → ℕ → ℕ → List Invocation
+callsIn ws base upto = heldIn ws base (upto - base)
+
+-- the later calls to the pair of slot d
+abbrev pub laterCalls : List ℕ → ℕ → ℕ → List Invocation
+laterCalls ws upto d = callsTo (slotListLength ws d) (slotProcedure ws d) (callsIn ws (d + 1) upto)
+
+-- the bodies of length m with keys from `from` on, and all shorter ones, are those of precedence below `last`
+pub record Precedes (last m from : ℕ) : Type 0 where
+  pub key : from ≤ 256
+  pub below : last ≡ 256 * m + (256 - from)
 
 -- the widths of a statement in the body of f, of at least one record
 abbrev pub KnownIn : List ℕ → ℕ → ℕ → ℕ → Type 0
@@ -107,47 +128,39 @@ pub data BodyRight (prog : List ℕ) (k : ℕ) (st : Emit) (room ws : List ℕ) 
       Follows (rightOf prog k (slotOf ws d) first (st .next)) st room ws r room₁ ws₁) →
       BodyRight prog k st room ws r room₁ ws₁ d behind
 
-pub data Bodies (prog : List ℕ) (k : ℕ) (st : Emit) (room ws : List ℕ) (r : Emit) (room₁ ws₁ : List ℕ)
-    (base n j upto : ℕ) : Type 0 where
-  walks-bodies : (Ready prog st ws → base ≤ j → upto ≤ st .next → base ≤ st .next → (procedures : List ℕ) → DoneIn ws base n j procedures →
-      Follows (bodiesUpTo prog k n procedures (heldIn ws j (upto - j)) (heldIn ws base (st .next - base)) (st .next) .events)
-        st room ws r room₁ ws₁) →
-      Bodies prog k st room ws r room₁ ws₁ base n j upto
+pub data Bodies (prog : List ℕ) (k : ℕ) (st : Emit) (room ws : List ℕ) (r : Emit) (room₁ ws₁ : List ℕ) (base last : ℕ) : Type 0 where
+  walks-bodies : (Ready prog st ws → base ≤ st .next → (m from : ℕ) → Precedes last m from →
+      Follows (bodiesLeft prog k m from (callsIn ws base (st .next)) (st .next) .events) st room ws r room₁ ws₁) →
+      Bodies prog k st room ws r room₁ ws₁ base last
 
-pub data Rest (prog : List ℕ) (k : ℕ) (st : Emit) (room ws : List ℕ) (r : Emit) (room₁ ws₁ : List ℕ)
-    (base n d upto : ℕ) : Type 0 where
-  walks-rest : (Ready prog st ws → base ≤ d → d < upto → (first : ℕ) → upto ≤ first → first ≤ st .next →
+pub data Rest (prog : List ℕ) (k : ℕ) (st : Emit) (room ws : List ℕ) (r : Emit) (room₁ ws₁ : List ℕ) (base last d : ℕ) : Type 0 where
+  walks-rest : (Ready prog st ws → base ≤ d → (m from : ℕ) → Precedes last m from → (first : ℕ) → d < first → first ≤ st .next →
       (st .status ≡ 0 → Before (st .next) first (length (bodyInvocations (programAt prog) (chainsIn prog k) (slotOf ws d) first))) →
-      (procedures : List ℕ) → DoneIn ws base n (d + 1) procedures →
       Follows
-        (let inner = bodiesUpTo prog k n procedures (heldIn ws (d + 1) (upto - (d + 1))) (heldIn ws base (st .next - base)) (st .next) in
+        (let inner = bodiesLeft prog k m from (callsIn ws base (st .next)) (st .next) in
           inner .events ++ rightOf prog k (slotOf ws d) first (inner .next)) st room ws r room₁ ws₁) →
-      Rest prog k st room ws r room₁ ws₁ base n d upto
+      Rest prog k st room ws r room₁ ws₁ base last d
 
-pub data Inner (prog : List ℕ) (k : ℕ) (st : Emit) (room ws : List ℕ) (r : Emit) (room₁ ws₁ : List ℕ)
-    (base n d upto : ℕ) : Type 0 where
-  walks-inner : (Ready prog st ws → base ≤ d → d < upto → upto ≤ st .next → (procedures : List ℕ) → DoneIn ws base n (d + 1) procedures →
+pub data Inner (prog : List ℕ) (k : ℕ) (st : Emit) (room ws : List ℕ) (r : Emit) (room₁ ws₁ : List ℕ) (base last d : ℕ) : Type 0 where
+  walks-inner : (Ready prog st ws → base ≤ d → d < st .next → (m from : ℕ) → Precedes last m from →
       Follows
         (let news = bodyInvocations (programAt prog) (chainsIn prog k) (slotOf ws d) (st .next) in
-          let inner = bodiesUpTo prog k n procedures (heldIn ws (d + 1) (upto - (d + 1))) (heldIn ws base (st .next - base) ++ news)
-            (st .next + length news) in
+          let inner = bodiesLeft prog k m from (callsIn ws base (st .next) ++ news) (st .next + length news) in
           leftOf prog k (slotOf ws d) (st .next) ++ (inner .events ++ rightOf prog k (slotOf ws d) (st .next) (inner .next)))
         st room ws r room₁ ws₁) →
-      Inner prog k st room ws r room₁ ws₁ base n d upto
+      Inner prog k st room ws r room₁ ws₁ base last d
 
-pub data Body (prog : List ℕ) (k : ℕ) (st : Emit) (room ws : List ℕ) (r : Emit) (room₁ ws₁ : List ℕ)
-    (base n d upto : ℕ) : Type 0 where
-  walks-body : (Ready prog st ws → base ≤ d → d < upto → upto ≤ st .next → (procedures : List ℕ) → DoneIn ws base n (d + 1) procedures →
+pub data Body (prog : List ℕ) (k : ℕ) (st : Emit) (room ws : List ℕ) (r : Emit) (room₁ ws₁ : List ℕ) (base last d : ℕ) : Type 0 where
+  walks-body : (Ready prog st ws → base ≤ d → d < st .next → (m from : ℕ) → Precedes last m from →
       Follows
         (let news = bodyInvocations (programAt prog) (chainsIn prog k) (slotOf ws d) (st .next) in
-          around (programAt prog) (chainsIn prog k) (slotOf ws d) (heldIn ws (d + 1) (upto - (d + 1))) (st .next)
-            (bodiesUpTo prog k n procedures (heldIn ws (d + 1) (upto - (d + 1))) (heldIn ws base (st .next - base) ++ news)
-              (st .next + length news)) .events)
+          around (programAt prog) (chainsIn prog k) (slotOf ws d) (laterCalls ws (st .next) d) (st .next)
+            (bodiesLeft prog k m from (callsIn ws base (st .next) ++ news) (st .next + length news)) .events)
         st room ws r room₁ ws₁) →
-      Body prog k st room ws r room₁ ws₁ base n d upto
+      Body prog k st room ws r room₁ ws₁ base last d
 
 -- main emitted, from its start
 pub data Emits (prog : List ℕ) (n : ℕ) (room ws : List ℕ) (r : Emit) (room₁ ws₁ : List ℕ) : Type 0 where
-  walks-main : (procedureCount prog ≤ mostProcedures → WidthsKnown prog → n ≤ mostQubits → slotsLength ≤ length ws → Tallied ws →
+  walks-main : (Checked prog → n ≤ mostQubits → slotsLength ≤ length ws → Tallied ws →
       (progress r room₁ ≡ scan (emission (programAt prog) n) (progress (begun n) room)) × (length ws₁ ≡ length ws)) →
       Emits prog n room ws r room₁ ws₁

@@ -7,7 +7,7 @@ ghost use Rattle.decoded.specs.DecodedTable.{procedureCount};
 ghost use Rattle.events.specs.Scan.{emitIn};
 ghost use Rattle.emit.specs.WalkPromises.{bodyDepth, Whole, Call, Left, Right, BodyLeft, BodyRight, Bodies, Rest, Inner, Body, Emits};
 use controls::{Site, free_site, under, with_control};
-use events::{Slots, State, begin, emit_entries, emit_entries_back, emit_flip, finish, flip_again, invoke, load, longest_below, next, procedure, seek, status, wire};
+use events::{Slots, State, above_length, begin, emit_entries, emit_entries_back, emit_flip, finish, flip_again, invoke, load, next, precedence, procedure, seek, status, wire};
 use limits::{LIST_WORD, MOST_DEPTH, PROGRAM_LENGTH};
 use sets::{QubitSet, size};
 use step::{Step, all, chosen, procedures, remaining, root, step_at, touched};
@@ -76,64 +76,55 @@ fn emit_call(program: &[u32; PROGRAM_LENGTH], k: u8, f: u8, list: QubitSet, site
         finish(base, site, room, state);
         return;
     }
-    let upto = next(state);
-    emit_bodies(program, k - 1, base, m, base, upto, room, slots, state);
+    emit_bodies(program, k - 1, base, above_length(m), room, slots, state);
     finish(base, site, room, state);
 }
 
-// The bodies of lists of length m, from slot j on and before `upto`, around those of shorter lists, the longest of which come next.
-fn emit_bodies(program: &[u32; PROGRAM_LENGTH], k: u8, base: u16, m: u8, j: u16, upto: u16, room: &mut [u8], slots: &mut Slots, state: &mut State)
+// The bodies of a chain whose precedence is below `last`: the longest list goes first, and of equal lengths the lowest procedure.
+fn emit_bodies(program: &[u32; PROGRAM_LENGTH], k: u8, base: u16, last: u64, room: &mut [u8], slots: &mut Slots, state: &mut State)
     ensures { λ r. ⌜ Bodies (now (program .entry)) k (emitIn (now (state .entry))) (now (room .entry)) (now (slots .entry))
-        (emitIn (now (state .exit))) (now (room .exit)) (now (slots .exit)) base m j upto ⌝ }
+        (emitIn (now (state .exit))) (now (room .exit)) (now (slots .exit)) base last ⌝ }
 {
     if status(state) != 0 {
         return;
     }
-    if m == 0 {
-        return;
-    }
-    let d = seek(slots, base, m, j, upto);
-    if d < upto {
-        emit_body(program, k, base, m, d, upto, room, slots, state);
-        return;
-    }
     let upto = next(state);
-    let shorter = longest_below(slots, base, upto, m);
-    emit_bodies(program, k, base, shorter, base, upto, room, slots, state);
+    let d = seek(slots, base, last, upto);
+    if d < upto {
+        emit_body(program, k, base, precedence(slots, d), d, room, slots, state);
+    }
 }
 
 // The body of slot d around all bodies that follow it, between its entry gates.
-fn emit_body(program: &[u32; PROGRAM_LENGTH], k: u8, base: u16, m: u8, d: u16, upto: u16, room: &mut [u8], slots: &mut Slots, state: &mut State)
+fn emit_body(program: &[u32; PROGRAM_LENGTH], k: u8, base: u16, last: u64, d: u16, room: &mut [u8], slots: &mut Slots, state: &mut State)
     ensures { λ r. ⌜ Body (now (program .entry)) k (emitIn (now (state .entry))) (now (room .entry)) (now (slots .entry))
-        (emitIn (now (state .exit))) (now (room .exit)) (now (slots .exit)) base m d upto ⌝ }
+        (emitIn (now (state .exit))) (now (room .exit)) (now (slots .exit)) base last d ⌝ }
 {
+    let upto = next(state);
     if upto <= d {
         return;
     }
     emit_entries(slots, d, d + 1, upto, room, state);
-    emit_inner(program, k, base, m, d, upto, room, slots, state);
+    emit_inner(program, k, base, last, d, room, slots, state);
     emit_entries_back(slots, d, d + 1, upto, room, state);
 }
 
 // Its left part, then the rest.
-fn emit_inner(program: &[u32; PROGRAM_LENGTH], k: u8, base: u16, m: u8, d: u16, upto: u16, room: &mut [u8], slots: &mut Slots, state: &mut State)
+fn emit_inner(program: &[u32; PROGRAM_LENGTH], k: u8, base: u16, last: u64, d: u16, room: &mut [u8], slots: &mut Slots, state: &mut State)
     ensures { λ r. ⌜ Inner (now (program .entry)) k (emitIn (now (state .entry))) (now (room .entry)) (now (slots .entry))
-        (emitIn (now (state .exit))) (now (room .exit)) (now (slots .exit)) base m d upto ⌝ }
+        (emitIn (now (state .exit))) (now (room .exit)) (now (slots .exit)) base last d ⌝ }
 {
     emit_body_left(program, k, d, room, slots, state);
-    emit_rest(program, k, base, m, d, upto, room, slots, state);
+    emit_rest(program, k, base, last, d, room, slots, state);
 }
 
 // The bodies that follow, then its right part, whose recursive calls have the ancillas before the next wire.
-fn emit_rest(program: &[u32; PROGRAM_LENGTH], k: u8, base: u16, m: u8, d: u16, upto: u16, room: &mut [u8], slots: &mut Slots, state: &mut State)
+fn emit_rest(program: &[u32; PROGRAM_LENGTH], k: u8, base: u16, last: u64, d: u16, room: &mut [u8], slots: &mut Slots, state: &mut State)
     ensures { λ r. ⌜ Rest (now (program .entry)) k (emitIn (now (state .entry))) (now (room .entry)) (now (slots .entry))
-        (emitIn (now (state .exit))) (now (room .exit)) (now (slots .exit)) base m d upto ⌝ }
+        (emitIn (now (state .exit))) (now (room .exit)) (now (slots .exit)) base last d ⌝ }
 {
-    if upto <= d {
-        return;
-    }
     let behind = next(state);
-    emit_bodies(program, k, base, m, d + 1, upto, room, slots, state);
+    emit_bodies(program, k, base, last, room, slots, state);
     emit_body_right(program, k, d, behind, room, slots, state);
 }
 

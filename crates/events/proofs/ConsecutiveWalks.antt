@@ -2,7 +2,7 @@
 use mathlib.Core.Path.{_≡_, refl, sym, ap, _∙_, subst}
 use mathlib.Core.Logic.{_≢_}
 use mathlib.Core.List.{List, [], _∷_, _++_}
-use Prim.Native.Nat.{ℕ, zero, suc, _+_, _*_, _/_, _%_, _≤_, _<_}
+use Prim.Native.Nat.{ℕ, zero, suc, _+_, _-_, _*_, _/_, _%_, _≤_, _<_}
 use native.Mathlib.Nat.{le-refl}
 use native.Mathlib.Omega.{arith}
 use borrow.Author.Tests.{eqb-true, le-ltb, ne-eqb}
@@ -21,9 +21,9 @@ use Rattle.agreement.proofs.AncillaStack.{OnlyGates}
 use Rattle.sets.specs.Sets.{membersOf}
 use Rattle.sets.proofs.Members.{members-length}
 use Rattle.events.specs.Scan.{Emit, 
-  Progress, progress, emitOf, placed, scan, slotAt, slotProcedure, slotList, slotOf, Tallied, heldIn,
+  Progress, progress, emitOf, placed, scan, slotAt, slotList, slotOf, Tallied, heldIn,
 }
-use Rattle.events.specs.Slots.{filled, pairAt, appears}
+use Rattle.events.specs.Slots.{filled}
 use Rattle.events.specs.FollowedEvents.{Follows}
 use Rattle.events.proofs.ScanOfEvents.{scan-append, scan-stopped, scan-places, scan-no-gate, scan-many, scan-next, nextAfter}
 use Rattle.events.proofs.GatesAndSlots.{gate-stopped}
@@ -101,12 +101,6 @@ module _ (slots slots₁ : List ℕ) (top : ℕ) (same : (i : ℕ) → i < slotA
   held-kept a zero h = refl
   held-kept a (suc n) h = rw (slot-kept a (omega arith), held-kept (a + 1) n (omega arith))
 
-  pub appears-kept : (a n f m : ℕ) → a + n ≤ top → appears slots₁ a n f m ≡ appears slots a n f m
-  unfolding appears pairAt
-  appears-kept a zero f m h = refl
-  appears-kept a (suc n) f m h =
-    rw (same (slotLength * a) (omega arith), appears-kept (a + 1) n f m (omega arith))
-
 pub held-append : (slots : List ℕ) (a m n : ℕ) → heldIn slots a (m + n) ≡ heldIn slots a m ++ heldIn slots (a + m) n
 unfolding heldIn
 held-append slots a zero n = let e : 0 + n ≡ n = omega arith in let z : a + 0 ≡ a = omega arith in rw (e, z)
@@ -118,7 +112,7 @@ held-append slots a (suc m) n =
 -- a slot that was filled, and all before it
 module _ (slots : List ℕ) (a f w : ℕ) where
   abbrev word : ℕ
-  word = f + 256 * length (membersOf w)
+  word = 256 * length (membersOf w) + (255 - f)
 
   pub filled-length : length (filled slots a f w) ≡ length slots
   filled-length = length-set (set slots (slotAt a) word) (slotAt a + 1) w ∙ length-set slots (slotAt a) word
@@ -135,7 +129,7 @@ module _ (slots : List ℕ) (a f w : ℕ) where
 
     pub filled-is : slotOf (filled slots a f w) a ≡ invocation f (membersOf w) a
     unfolding slotOf
-    filled-is = let e : word % 256 ≡ f = omega (arith, byte .fits) in rw (filled-word, e, filled-list, le-ltb mostWires a low)
+    filled-is = let e : 255 - word % 256 ≡ f = omega (arith, byte .fits) in rw (filled-word, e, filled-list, le-ltb mostWires a low)
 
     pub filled-tallied : Tallied slots → Tallied (filled slots a f w)
     filled-tallied T b = byEq b a

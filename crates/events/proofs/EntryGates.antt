@@ -1,24 +1,26 @@
 -- The ways out of the functions that emit entry gates, in order or reversed.
 use mathlib.Core.Path.{_≡_, refl, sym, ap, _∙_}
-use mathlib.Core.Bool.{Bool, true, false}
+use mathlib.Core.Bool.{Bool, true, false, _&&_}
 use mathlib.Core.List.{List, [], _∷_, _++_, reverse, reverse-cons, reverse-append}
-use Prim.Native.Nat.{ℕ, zero, suc, _+_, _-_, _≤_, _<_}
+use Prim.Native.Nat.{ℕ, zero, suc, _+_, _-_, _/_, _%_, _≤_, _<_}
 use native.Mathlib.Numerals.{add-one}
 use native.Mathlib.Nat.{le-refl, zero-add}
 use native.Mathlib.Omega.{arith}
 use borrow.Author.Needs.{needs}
-use borrow.Author.Tests.{eq-eqb, ne-eqb}
+use borrow.Author.Tests.{eq-eqb, ne-eqb, eqb-true}
 use lib.ListN.{length, getD, drop, drop-of-length-le}
+use lib.Dec.{eqb}
 use Rattle.model.specs.Gates.{flip, swapOf}
-use Rattle.model.specs.Emission.{Event, places, under, swaps, entryGates, samePair, allEntryGates}
-use Rattle.model.proofs.BooleanLaws.{byBool}
+use Rattle.model.specs.Emission.{Event, places, under, swaps, entryGates, allEntryGates, isOf, callsTo}
+use Rattle.model.proofs.BooleanLaws.{byBool, same-test, and-left, and-right, and-both}
+use Rattle.agreement.proofs.KeysOfALength.{calls-here, calls-past}
 use Rattle.controls.specs.ControlWords.{controlsFrom, At}
 use Rattle.sets.specs.Sets.{membersOf}
 use Rattle.lookup.specs.declared.Plan.{Plan}
 use Rattle.lookup.specs.Plans.{pairsOf, swapsAlong, PlansSwaps, same-swaps}
 use Rattle.lookup.proofs.PlannedSwaps.{pairs-most, pair-at}
-use Rattle.events.specs.Scan.{Emit, Progress, progress, scan, slotListLength, slotProcedure, slotList, wireOf, slotOf, Tallied, heldIn}
-use Rattle.events.specs.Slots.{pairAt, turned, entryAt, entriesTo, swapsIn}
+use Rattle.events.specs.Scan.{Emit, Progress, progress, scan, slotAt, slotListLength, slotProcedure, slotList, wireOf, slotOf, Tallied, heldIn}
+use Rattle.events.specs.Slots.{precedenceIn, turned, entryAt, entriesTo, swapsIn}
 use Rattle.events.proofs.ScanOfEvents.{scan-append}
 use Rattle.events.proofs.GatesAndSlots.{further, spent}
 
@@ -130,23 +132,18 @@ module _ (slots : List ℕ) (d e : ℕ) (reversed : Bool) (st : Emit) (room F L 
       (rw (is-site .controls, is-u, is-v) at p) (rw (swaps-along u r 0 n (zero-add n ∙ is-n), planned-are F L r u P, is-u, is-f, is-l) at q))
 
 -- the ways out of `emit_entry`
-module _ (slots : List ℕ) (d e : ℕ) (reversed : Bool) (st : Emit) (room : List ℕ) (fe fd : ℕ) (is-fe : fe ≡ slotProcedure slots e)
-    (is-fd : fd ≡ slotProcedure slots d) where
-  pub entry-other : (fe ≡ fd → ⊥) → progress st room ≡ scan (turned reversed (entryAt slots d e)) (progress st room)
-  unfolding entryAt pairAt
-  entry-other h = rw (← is-fe, ← is-fd, ne-eqb fe fd h) (nothing-turned reversed (progress st room))
+module _ (slots : List ℕ) (d e : ℕ) (reversed : Bool) (st : Emit) (room : List ℕ) (pe pd : ℕ) (is-pe : pe ≡ precedenceIn slots e)
+    (is-pd : pd ≡ precedenceIn slots d) where
+  pub entry-other : (pe ≡ pd → ⊥) → progress st room ≡ scan (turned reversed (entryAt slots d e)) (progress st room)
+  unfolding entryAt
+  entry-other h = rw (← is-pe, ← is-pd, ne-eqb pe pd h) (nothing-turned reversed (progress st room))
 
-  module _ (same : fe ≡ fd) (me md : ℕ) (is-me : me ≡ slotListLength slots e) (is-md : md ≡ slotListLength slots d) where
-    pub entry-apart : (me ≡ md → ⊥) → progress st room ≡ scan (turned reversed (entryAt slots d e)) (progress st room)
-    unfolding entryAt pairAt
-    entry-apart h = rw (← is-fe, ← is-fd, eq-eqb fe fd same, ← is-me, ← is-md, ne-eqb me md h) (nothing-turned reversed (progress st room))
+  pub entry-same : (y : Progress) → pe ≡ pd → y ≡ scan (turned reversed (entryGates (slotOf slots d) (slotOf slots e))) (progress st room) →
+      y ≡ scan (turned reversed (entryAt slots d e)) (progress st room)
+  unfolding entryAt
+  entry-same y h p = rw (← is-pe, ← is-pd, eq-eqb pe pd h) p
 
-    pub entry-same : (y : Progress) → me ≡ md → y ≡ scan (turned reversed (entryGates (slotOf slots d) (slotOf slots e))) (progress st room) →
-        y ≡ scan (turned reversed (entryAt slots d e)) (progress st room)
-    unfolding entryAt pairAt
-    entry-same y h p = rw (← is-fe, ← is-fd, eq-eqb fe fd same, ← is-me, ← is-md, eq-eqb me md h) p
-
-pub ruleset gating = (needs, pairs-most, gates-same, gates-reversed, gates-forth, entry-other, entry-apart, entry-same)
+pub ruleset gating = (needs, pairs-most, gates-same, gates-reversed, gates-forth, entry-other, entry-same)
 
 -- `emit_entries` so far: the gates from slot a on make of it what all of them make; `emit_entries_back`: those from slot a on are placed, in reverse
 pub data Entering (slots : List ℕ) (d e upto : ℕ) (x y : Progress) (a : ℕ) : Type 0 where
@@ -193,15 +190,35 @@ module _ (slots : List ℕ) (d e upto : ℕ) (x : Progress) where
 
 pub ruleset entering = (needs, entering-starts, entering-next, entering-ends, leaving-none, leaving-starts, leaving-next, leaving-ends)
 
--- where each slot has the length of its list, they are the entry gates of the definitions
+-- where each slot has the length of its list, they are the entry gates of the calls to its pair
 module _ (slots : List ℕ) (T : Tallied slots) (d : ℕ) where
-  pair-is : (e : ℕ) → samePair (slotOf slots d) (slotOf slots e) ≡ pairAt slots e (slotProcedure slots d) (slotListLength slots d)
-  unfolding samePair slotOf pairAt
-  pair-is e = rw (T e, T d)
+  -- two slots of one number are of one pair
+  pair-is : (e : ℕ) → isOf (slotListLength slots d) (slotProcedure slots d) (slotOf slots e) ≡ eqb (precedenceIn slots e) (precedenceIn slots d)
+  unfolding slotOf
+  pair-is e = rw (← T e) (same-test
+    (eqb (slotListLength slots e) (slotListLength slots d) && eqb (slotProcedure slots e) (slotProcedure slots d)) (eqb (precedenceIn slots e) (precedenceIn slots d))
+    (λ h.
+      let l = eqb-true (slotListLength slots e) (slotListLength slots d)
+            (and-left (eqb (slotListLength slots e) (slotListLength slots d)) (eqb (slotProcedure slots e) (slotProcedure slots d)) h) in
+      let f = eqb-true (slotProcedure slots e) (slotProcedure slots d)
+            (and-right (eqb (slotListLength slots e) (slotListLength slots d)) (eqb (slotProcedure slots e) (slotProcedure slots d)) h) in
+      eq-eqb (precedenceIn slots e) (precedenceIn slots d) (one-number (getD slots (slotAt e) 0) (getD slots (slotAt d) 0) l f))
+    (λ h.
+      let t = two-numbers (getD slots (slotAt e) 0) (getD slots (slotAt d) 0) (eqb-true (precedenceIn slots e) (precedenceIn slots d) h) in
+      and-both (eqb (slotListLength slots e) (slotListLength slots d)) (eqb (slotProcedure slots e) (slotProcedure slots d))
+        (eq-eqb (slotListLength slots e) (slotListLength slots d) (t .0)) (eq-eqb (slotProcedure slots e) (slotProcedure slots d) (t .1))))
+    where
+      one-number : (v w : ℕ) → v / 256 % 256 ≡ w / 256 % 256 → 255 - v % 256 ≡ 255 - w % 256 → v % 65536 ≡ w % 65536
+      one-number v w h i = omega arith
+      two-numbers : (v w : ℕ) → v % 65536 ≡ w % 65536 → (v / 256 % 256 ≡ w / 256 % 256) × (255 - v % 256 ≡ 255 - w % 256)
+      two-numbers v w h = (omega arith, omega arith)
 
-  pub entries-are : (e n : ℕ) → entriesTo slots d e n ≡ allEntryGates (slotOf slots d) (heldIn slots e n)
-  unfolding heldIn allEntryGates entryAt entriesTo
+  pub entries-are : (e n : ℕ) →
+      entriesTo slots d e n ≡ allEntryGates (slotOf slots d) (callsTo (slotListLength slots d) (slotProcedure slots d) (heldIn slots e n))
+  unfolding heldIn callsTo allEntryGates entryAt entriesTo
   entries-are e zero = refl
-  entries-are e (suc n) = byBool (pairAt slots e (slotProcedure slots d) (slotListLength slots d))
-    (λ t. rw (t, pair-is e ∙ t, allEntryGates) (ap (λ es. entryGates (slotOf slots d) (slotOf slots e) ++ es) (entries-are (e + 1) n)))
-    (λ t. rw (t, pair-is e ∙ t, allEntryGates) (entries-are (e + 1) n))
+  entries-are e (suc n) = byBool (eqb (precedenceIn slots e) (precedenceIn slots d))
+    (λ t. rw (t, calls-here (slotListLength slots d) (slotProcedure slots d) (slotOf slots e) (heldIn slots (e + 1) n) (pair-is e ∙ t))
+      (ap (λ es. entryGates (slotOf slots d) (slotOf slots e) ++ es) (entries-are (e + 1) n)))
+    (λ t. rw (t, calls-past (slotListLength slots d) (slotProcedure slots d) (slotOf slots e) (heldIn slots (e + 1) n) (pair-is e ∙ t))
+      (entries-are (e + 1) n))

@@ -1,31 +1,31 @@
--- The ways out of the functions that walk over no statement: gates placed, slots filled and read, the next body sought.
+-- The ways out of the functions that walk over no statement: gates placed, slots filled and read, the next length found.
 use mathlib.Core.Path.{_≡_, refl, sym, ap, _∙_}
-use mathlib.Core.Bool.{Bool, true, false, not, cond, _||_, or-false}
+use mathlib.Core.Bool.{Bool, true, false}
 use mathlib.Core.List.{List, [], _∷_}
-use Prim.Native.Nat.{ℕ, zero, suc, _+_, _-_, _*_, _/_, _%_, _^_, _≤_, _<_, max}
+use Prim.Native.Nat.{ℕ, suc, _+_, _-_, _*_, _%_, _^_, _≤_, _<_, max}
 use native.Mathlib.Numerals.{add-one}
 use native.Mathlib.Omega.{arith}
 use mir.Syntax.{w8, w16, w64}
 use mir.Val.{Fits}
 use borrow.Author.Needs.{needs}
-use borrow.Author.Tests.{lt-ltb, le-ltb, le-leb, lt-leb, eq-eqb, ne-eqb, eqb-true, leb-true}
+use borrow.Author.Tests.{lt-ltb, le-ltb, le-leb, lt-leb, eq-eqb, ne-eqb, leb-true}
 use lib.ListN.{length, getD, set, drop, drop-of-length-le}
 use lib.Seq.{sets, drop-cons}
-use lib.Dec.{eqb, ltb, leb}
-use Rattle.limits.specs.Sizes.{slotLength, swapLength}
+use lib.Dec.{leb}
+use Rattle.limits.specs.Sizes.{slotLength}
 use Rattle.model.specs.Limits.{mostWires, mostCircuit, manyWires, noRoom, headerLength}
-use Rattle.model.specs.Gates.{Controls, noControls, withControl, Gate, flip, swapOf}
+use Rattle.model.specs.Gates.{Gate, flip, swapOf}
 use Rattle.model.specs.Emission.{Event, places, under}
 use Rattle.model.specs.Circuit.{encode, controlBytes}
 use Rattle.model.specs.Answers.{usable}
-use Rattle.model.proofs.BooleanLaws.{byBool, byEq, byLt, and-left, and-right, not-not}
+use Rattle.model.proofs.BooleanLaws.{byBool, byLt}
 use Rattle.circuit.proofs.GateBytes.{sets-past}
 use Rattle.controls.specs.ControlWords.{controlsOf, highIn, controlsFrom}
 use Rattle.controls.proofs.ControlBytes.{flip-long, swap-long}
 use Rattle.sets.specs.Sets.{membersOf}
 use Rattle.lookup.proofs.CountedEntries.{touching}
-use Rattle.events.specs.Scan.{Emit, emitIn, progress, stopped, freed, placed, withGate, afterEvent, scan, begun, slotListLength, slotProcedure, slotList}
-use Rattle.events.specs.Slots.{filled, ancillaTaken, returned, pairAt, appears, opensAt, opensBehind, seekOf, longestBelow}
+use Rattle.events.specs.Scan.{Emit, emitIn, progress, stopped, withGate, afterEvent, scan, begun, slotList}
+use Rattle.events.specs.Slots.{filled, ancillaTaken, returned}
 use Rattle.events.proofs.ScanOfEvents.{scan-stopped}
 
 pub ruleset reading = (needs, lt-ltb, le-ltb)
@@ -155,11 +155,11 @@ begins n byte =
 
 pub ruleset takings = (needs, back-stopped, back-given, take-stopped, take-past, take-one, begins)
 
--- the ways out of `load`, `list_size` and `fill_slot`
+-- the ways out of `load` and `fill_slot`
 pub list-is : (slots : List ℕ) (a w : ℕ) → w ≡ getD slots (slotLength * a + 1) 0 → membersOf w ≡ slotList slots a
 list-is slots a w e = ap membersOf e
 
-pub slot-filled : (slots : List ℕ) (a f w n : ℕ) (middle end : List ℕ) → n ≡ length (membersOf w) → middle ≡ set slots (slotLength * a) (f + 256 * n) →
+pub slot-filled : (slots : List ℕ) (a f w n : ℕ) (middle end : List ℕ) → n ≡ length (membersOf w) → middle ≡ set slots (slotLength * a) (256 * n + (255 - f)) →
     end ≡ set middle (slotLength * a + 1) w → end ≡ filled slots a f w
 slot-filled slots a f w n middle end is m e = rw (e, m, is)
 
@@ -184,140 +184,8 @@ module _ (room₀ : List ℕ) (at : ℕ) (l room : List ℕ) (place i n : ℕ) (
   pub stored-full : Storing room₀ at l room place i → length room ≤ place → room ≡ sets room₀ at l
   stored-full (still e) h = sets-past room place (drop i l) h ∙ e
 
--- the ways out of `pair_at`, `appears`, `opens` and `seek`
-two-parts : (w : ℕ) → w % 65536 ≡ w % 256 + 256 * (w / 256 % 256)
-two-parts w = omega arith
-
-differ : (y x f m : ℕ) → y < 256 → f < 256 → (y ≡ f → x ≡ m → ⊥) → y + 256 * x ≡ f + 256 * m → ⊥
-differ y x f m h g ne e = let low : y ≡ f = omega arith in let high : x ≡ m = omega arith in ne low high
-
-pub pair-is : (slots : List ℕ) (a f m w : ℕ) → Fits w8 f → w ≡ getD slots (slotLength * a) 0 → eqb (w % 65536) (f + 256 * m) ≡ pairAt slots a f m
-unfolding pairAt
-pair-is slots a f m w byte is = rw (← is, two-parts w) (byEq (w % 256) f
-    (λ e. byEq (w / 256 % 256) m
-      (λ q. rw (eq-eqb (w % 256) f e, eq-eqb (w / 256 % 256) m q) (eq-eqb (w % 256 + 256 * (w / 256 % 256)) (f + 256 * m) (rw (e, q))))
-      (λ q. rw (eq-eqb (w % 256) f e, ne-eqb (w / 256 % 256) m q)
-        (ne-eqb (w % 256 + 256 * (w / 256 % 256)) (f + 256 * m) (differ (w % 256) (w / 256 % 256) f m (omega arith) (byte .fits) (λ x y. q y)))))
-    (λ e. rw (ne-eqb (w % 256) f e)
-      (ne-eqb (w % 256 + 256 * (w / 256 % 256)) (f + 256 * m) (differ (w % 256) (w / 256 % 256) f m (omega arith) (byte .fits) (λ x y. e x)))))
-
 pub further : (n e : ℕ) → e < n → n - e ≡ suc (n - (e + 1))
 further n e h = omega arith
 
 pub spent : (n e : ℕ) → n ≤ e → n - e ≡ 0
 spent n e h = omega arith
-
--- `appears` so far: what is left from here on is the whole
-module _ (slots : List ℕ) (from upto f m a : ℕ) (left : appears slots a (upto - a) f m ≡ appears slots from (upto - from) f m) where
-  pub appears-none : upto ≤ a → false ≡ appears slots from (upto - from) f m
-  unfolding appears
-  appears-none h = rw (spent upto a h) at left
-
-  pub appears-here : (b : Bool) → a < upto → b ≡ pairAt slots a f m → b ≡ true → true ≡ appears slots from (upto - from) f m
-  unfolding appears
-  appears-here b h e q = rw (further upto a h, ← e, q) at left
-
-  pub appears-on : (b : Bool) → a < upto → b ≡ pairAt slots a f m → b ≡ false →
-      appears slots (a + 1) (upto - (a + 1)) f m ≡ appears slots from (upto - from) f m
-  unfolding appears
-  appears-on b h e q = rw (further upto a h, ← e, q) at left
-
-module _ (slots : List ℕ) (base m from a x : ℕ) (is : x ≡ slotListLength slots a) where
-  pub opens-yes : (f : ℕ) (b : Bool) → x ≡ m → f ≡ slotProcedure slots a → b ≡ appears slots base (from - base) f m → not b ≡ opensBehind slots base m from a
-  unfolding opensBehind
-  opens-yes f b q p r = rw (← is, eq-eqb x m q, ← p, ← r)
-
-  pub opens-no : (x ≡ m → ⊥) → false ≡ opensBehind slots base m from a
-  unfolding opensBehind
-  opens-no h = rw (← is, ne-eqb x m h)
-
--- one slot more
-pub appears-more : (slots : List ℕ) (a n f m : ℕ) → appears slots a (suc n) f m ≡ appears slots a n f m || pairAt slots (a + n) f m
-unfolding appears
-appears-more slots a zero f m = let e : a + 0 ≡ a = omega arith in rw e (byBool (pairAt slots a f m) (λ t. rw t) (λ t. rw t))
-appears-more slots a (suc n) f m =
-    let e : a + suc n ≡ a + 1 + n = omega arith in
-    let rest = appears-more slots (a + 1) n f m in
-    rw e (byBool (pairAt slots a f m) (λ t. rw t) (λ t. rw t rest))
-
--- the slots from `from` on that were passed over, up to a, are of no pair that is not before them
-pub data Passed (slots : List ℕ) (base m from a : ℕ) : Type 0 where
-  none-new : ((f : ℕ) → appears slots base (a - base) f m ≡ appears slots base (from - base) f m) → Passed slots base m from a
-
-pub passed-none : (slots : List ℕ) (base m from : ℕ) → Passed slots base m from from
-passed-none slots base m from = none-new (λ f. refl)
-
-module _ (slots : List ℕ) (base m from a : ℕ) (b : Bool) (e : b ≡ opensBehind slots base m from a) where
-  pub opens-is : Passed slots base m from a → b ≡ opensAt slots base m a
-  unfolding opensBehind opensAt
-  opens-is (none-new p) = rw (e, p (slotProcedure slots a))
-
-  known : (f : ℕ) → b ≡ false → pairAt slots a f m ≡ true → appears slots base (from - base) f m ≡ true
-  unfolding opensBehind pairAt
-  known f q t =
-    let is-f : slotProcedure slots a ≡ f = eqb-true (slotProcedure slots a) f (and-left (eqb (slotProcedure slots a) f) (eqb (slotListLength slots a) m) t) in
-    let is-m : eqb (slotListLength slots a) m ≡ true = and-right (eqb (slotProcedure slots a) f) (eqb (slotListLength slots a) m) t in
-    sym (not-not (appears slots base (from - base) f m)) ∙ ap not (rw (is-m, is-f) at (sym e ∙ q))
-
-  pub passed-next : Passed slots base m from a → b ≡ false → Passed slots base m from (a + 1)
-  passed-next (none-new p) q = none-new (λ f. byLt a base
-    (λ lt. let none : a + 1 - base ≡ a - base = omega arith in rw none (p f))
-    (λ ge.
-      let one : a + 1 - base ≡ suc (a - base) = omega arith in
-      let here : base + (a - base) ≡ a = omega arith in
-      rw one (appears-more slots base (a - base) f m ∙ rw (here, p f) (byBool (pairAt slots a f m)
-        (λ t. rw (t, known f q t))
-        (λ t. rw t (or-false (appears slots base (from - base) f m)))))))
-
--- `seek` so far: what is left from here on is the whole
-module _ (slots : List ℕ) (base m e upto a : ℕ) (left : seekOf slots base m a (upto - a) ≡ seekOf slots base m e (upto - e)) where
-  pub seek-none : upto ≤ a → a ≡ seekOf slots base m e (upto - e)
-  unfolding seekOf
-  seek-none h = rw (spent upto a h) at left
-
-  pub seek-here : (b : Bool) → a < upto → b ≡ opensAt slots base m a → b ≡ true → a ≡ seekOf slots base m e (upto - e)
-  unfolding seekOf
-  seek-here b h p q = rw (further upto a h, ← p, q) at left
-
-  pub seek-on : (b : Bool) → a < upto → b ≡ opensAt slots base m a → b ≡ false →
-      seekOf slots base m (a + 1) (upto - (a + 1)) ≡ seekOf slots base m e (upto - e)
-  unfolding seekOf
-  seek-on b h p q = rw (further upto a h, ← p, q) at left
-
--- the ways out of `longer`
-module _ (best n m : ℕ) where
-  pub longer-past : m ≤ n → best ≡ max best (cond (ltb n m) n 0)
-  longer-past h = rw (le-ltb n m h) (omega arith)
-
-  pub longer-more : n < m → best < n → n ≡ max best (cond (ltb n m) n 0)
-  longer-more h l = rw (lt-ltb n m h) (omega arith)
-
-  pub longer-less : n < m → n ≤ best → best ≡ max best (cond (ltb n m) n 0)
-  longer-less h l = rw (lt-ltb n m h) (omega arith)
-
--- `longest_below` so far: the longest of what was looked at and of what is left is that of the whole
-module _ (slots : List ℕ) (from upto m a best : ℕ) (left : max best (longestBelow slots a (upto - a) m) ≡ longestBelow slots from (upto - from) m) where
-  pub longest-ends : upto ≤ a → best ≡ longestBelow slots from (upto - from) m
-  unfolding longestBelow
-  longest-ends h = let z : max best (longestBelow slots a 0 m) ≡ best = omega arith in sym z ∙ (rw (spent upto a h) at left)
-
-  pub longest-on : (n r : ℕ) → a < upto → n ≡ slotListLength slots a → r ≡ max best (cond (ltb n m) n 0) →
-      max r (longestBelow slots (a + 1) (upto - (a + 1)) m) ≡ longestBelow slots from (upto - from) m
-  unfolding longestBelow
-  longest-on n r h is e =
-    let u = cond (ltb (slotListLength slots a) m) (slotListLength slots a) 0 in
-    let v = longestBelow slots (a + 1) (upto - (a + 1)) m in
-    let all : max best (max u v) ≡ longestBelow slots from (upto - from) m = rw (further upto a h) at left in
-    rw (e, is) (assoc best u v ∙ all)
-    where
-      assoc : (x y z : ℕ) → max (max x y) z ≡ max x (max y z)
-      assoc x y z = omega arith
-
-pub longest-begins : (slots : List ℕ) (from upto m : ℕ) → max 0 (longestBelow slots from (upto - from) m) ≡ longestBelow slots from (upto - from) m
-longest-begins slots from upto m = omega arith
-
-pub ruleset lengthening = (needs, longer-past, longer-more, longer-less, longest-begins, longest-ends, longest-on)
-
-pub ruleset seeking = (
-  needs, pair-is, appears-none, appears-here, appears-on, opens-yes, opens-no, passed-none, opens-is, passed-next, seek-none, seek-here, seek-on,
-)

@@ -1,5 +1,5 @@
 -- An emission as the code keeps it: what each event does to the state of the walk and to the room, and the slots of the ancillas.
-use Prim.Native.Nat.{ℕ, zero, suc, _+_, _*_, _/_, _%_, _^_, max}
+use Prim.Native.Nat.{ℕ, zero, suc, _+_, _-_, _*_, _/_, _%_, _^_, max}
 use mathlib.Core.Path.{_≡_}
 use mathlib.Core.Bool.{cond}
 use mathlib.Core.List.{List, [], _∷_}
@@ -78,12 +78,12 @@ emissionEnd P n = record {
   status = 0; used = headerLength + length (encodeAll (gates (emission P n))); gates = length (gates (emission P n));
   next = n + 1; highest = n + peak [] (emission P n) }
 
--- an ancilla's slot holds the invocation that took it: a word for the procedure and the length of its list, and the set of the list
+-- an ancilla's slot holds the invocation that took it: a word for the length of its list and the procedure, counted down from 255, and the set of the list
 abbrev pub slotAt : ℕ → ℕ
 slotAt a = slotLength * a
 
 abbrev pub slotProcedure : List ℕ → ℕ → ℕ
-slotProcedure slots a = getD slots (slotAt a) 0 % 256
+slotProcedure slots a = 255 - getD slots (slotAt a) 0 % 256
 
 abbrev pub slotList : List ℕ → ℕ → List ℕ
 slotList slots a = membersOf (getD slots (slotAt a + 1) 0)

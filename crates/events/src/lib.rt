@@ -4,7 +4,7 @@
 ghost use mathlib.Core.Path.{_≡_};
 ghost use mathlib.Core.Bool.{cond};
 ghost use mathlib.Core.List.{[], _∷_, reverse};
-ghost use Prim.Native.Nat.{_+_, _-_, _≤_, max};
+ghost use Prim.Native.Nat.{_+_, _-_, _*_, _≤_, max};
 ghost use lib.ListN.{length, getD, set};
 ghost use lib.Dec.{leb, ltb};
 ghost use Rattle.model.specs.Gates.{flip, swapOf};
@@ -15,9 +15,9 @@ ghost use Rattle.limits.specs.Sizes.{setLength};
 ghost use Rattle.controls.specs.ControlWords.{controlsFrom};
 ghost use Rattle.sets.specs.Sets.{membersOf};
 ghost use Rattle.events.specs.Scan.{
-  emitIn, progress, stopped, withGate, scan, begun, slotListLength, slotProcedure, slotList, wireOf, slotOf,
+  emitIn, progress, stopped, withGate, scan, begun, slotProcedure, slotList, wireOf, slotOf,
 };
-ghost use Rattle.events.specs.Slots.{filled, ancillaTaken, returned, pairAt, appears, opensBehind, seekOf, turned, entryAt, entriesTo, longestBelow, swapsIn};
+ghost use Rattle.events.specs.Slots.{filled, ancillaTaken, returned, precedenceIn, NextSlot, turned, entryAt, entriesTo, swapsIn};
 ghost use Rattle.events.specs.FollowedEvents.{Invokes};
 use controls::{Site, flip_length, high_wire, put_flip, put_swap, swap_length, under};
 use limits::{
@@ -178,7 +178,7 @@ fn word_at(words: &[u64], at: usize) -> u64
 pub fn procedure(slots: &Slots, a: u16) -> u8
     ensures { λ r. ⌜ r ≡ slotProcedure (now (slots .entry)) a ⌝ }
 {
-    (word_at(&slots[..], SLOT_LENGTH * a as usize) % 256) as u8
+    (255 - word_at(&slots[..], SLOT_LENGTH * a as usize) % 256) as u8
 }
 
 // The list in a slot.
@@ -186,13 +186,6 @@ pub fn load(slots: &Slots, a: u16) -> QubitSet
     ensures { λ r. ⌜ membersOf r ≡ slotList (now (slots .entry)) a ⌝ }
 {
     word_at(&slots[..], SLOT_LENGTH * a as usize + 1)
-}
-
-// The length of the list in a slot.
-fn list_size(slots: &Slots, a: u16) -> u8
-    ensures { λ r. ⌜ r ≡ slotListLength (now (slots .entry)) a ⌝ }
-{
-    (word_at(&slots[..], SLOT_LENGTH * a as usize) / 256 % 256) as u8
 }
 
 // A word is stored, none past the end.
@@ -208,7 +201,7 @@ fn put_word(words: &mut [u64], at: usize, word: u64)
 fn fill_slot(slots: &mut Slots, a: u16, f: u8, list: QubitSet)
     ensures { λ r. ⌜ now (slots .exit) ≡ filled (now (slots .entry)) a f list ⌝ }
 {
-    put_word(&mut slots[..], SLOT_LENGTH * a as usize, f as u64 + 256 * (size(list) as u64));
+    put_word(&mut slots[..], SLOT_LENGTH * a as usize, 256 * (size(list) as u64) + (255 - f as u64));
     put_word(&mut slots[..], SLOT_LENGTH * a as usize + 1, list);
 }
 
@@ -235,70 +228,36 @@ fn take(f: u8, list: QubitSet, slots: &mut Slots, state: &mut State)
     *state = [0, state[1], state[2], next as u64 + 1, larger(highest(state), next) as u64, state[5]];
 }
 
-// Is slot a of the pair of f and length m? Both stand in one word.
-fn pair_at(slots: &Slots, a: u16, f: u8, m: u8) -> bool
-    ensures { λ r. ⌜ r ≡ pairAt (now (slots .entry)) a f m ⌝ }
+// The list length and the procedure in a slot, as one number: the greater it is, the sooner comes the body.
+pub fn precedence(slots: &Slots, a: u16) -> u64
+    ensures { λ r. ⌜ r ≡ precedenceIn (now (slots .entry)) a ⌝ }
 {
-    word_at(&slots[..], SLOT_LENGTH * a as usize) % 65536 == f as u64 + 256 * (m as u64)
+    word_at(&slots[..], SLOT_LENGTH * a as usize) % 65536
 }
 
-// Is one of the slots from `from` on, before `upto`, of that pair?
-fn appears(slots: &Slots, from: u16, upto: u16, f: u8, m: u8) -> bool
-    ensures { λ r. ⌜ r ≡ appears (now (slots .entry)) from (upto - from) f m ⌝ }
+// The least number above those of all lists of length m.
+pub fn above_length(m: u8) -> u64
+    ensures { λ r. ⌜ r ≡ 256 * m + 256 ⌝ }
 {
-    let mut a = from;
+    256 * (m as u64) + 256
+}
+
+// The slot that opens the next body: of the slots from `base` on and before `upto` with a nonempty list, the first of the greatest precedence below `last`; `upto` where
+// there is none. One look over the slots.
+pub fn seek(slots: &Slots, base: u16, last: u64, upto: u16) -> u16
+    ensures { λ r. ⌜ NextSlot (now (slots .entry)) base last upto r ⌝ }
+{
+    let mut greatest = 255;
+    let mut best = upto;
+    let mut a = base;
     while a < upto {
-        if pair_at(slots, a, f, m) {
-            return true;
+        let number = precedence(slots, a);
+        if number < last {
+            if greatest < number {
+                greatest = number;
+                best = a;
+            }
         }
-        a += 1;
-    }
-    false
-}
-
-// Does slot a of a chain from `base` on open the body of its pair, with lists of length m, as far as the slots before `from` say?
-fn opens(slots: &Slots, base: u16, m: u8, from: u16, a: u16) -> bool
-    ensures { λ r. ⌜ r ≡ opensBehind (now (slots .entry)) base m from a ⌝ }
-{
-    if list_size(slots, a) == m {
-        return !appears(slots, base, from, procedure(slots, a), m);
-    }
-    false
-}
-
-// The first slot from e on, before `upto`, that opens the body of its pair, otherwise `upto`. A slot that is passed over is of a pair that was there before e,
-// or of another length: so only the slots before e are asked.
-pub fn seek(slots: &Slots, base: u16, m: u8, e: u16, upto: u16) -> u16
-    ensures { λ r. ⌜ r ≡ seekOf (now (slots .entry)) base m e (upto - e) ⌝ }
-{
-    let mut a = e;
-    while a < upto {
-        if opens(slots, base, m, e, a) {
-            return a;
-        }
-        a += 1;
-    }
-    a
-}
-
-// The longer of two lengths, of which the second counts only below m.
-fn longer(best: u8, length: u8, m: u8) -> u8
-    ensures { λ r. ⌜ r ≡ max best (cond (ltb length m) length 0) ⌝ }
-{
-    if m <= length {
-        return best;
-    }
-    if best < length { length } else { best }
-}
-
-// The greatest length below m of the lists in the slots from `from` on, before `upto`; 0 for none.
-pub fn longest_below(slots: &Slots, from: u16, upto: u16, m: u8) -> u8
-    ensures { λ r. ⌜ r ≡ longestBelow (now (slots .entry)) from (upto - from) m ⌝ }
-{
-    let mut best = 0u8;
-    let mut a = from;
-    while a < upto {
-        best = longer(best, list_size(slots, a), m);
         a += 1;
     }
     best
@@ -364,10 +323,8 @@ fn emit_entry(slots: &Slots, d: u16, e: u16, reversed: bool, room: &mut [u8], st
     ensures { λ r. ⌜ progress (emitIn (now (state .exit))) (now (room .exit)) ≡
         scan (turned reversed (entryAt (now (slots .entry)) d e)) (progress (emitIn (now (state .entry))) (now (room .entry))) ⌝ }
 {
-    if procedure(slots, e) == procedure(slots, d) {
-        if list_size(slots, e) == list_size(slots, d) {
-            emit_gates(slots, d, e, reversed, room, state);
-        }
+    if precedence(slots, e) == precedence(slots, d) {
+        emit_gates(slots, d, e, reversed, room, state);
     }
 }
 

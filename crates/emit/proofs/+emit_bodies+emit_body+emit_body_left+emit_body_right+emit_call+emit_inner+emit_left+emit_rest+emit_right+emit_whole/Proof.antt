@@ -1,7 +1,7 @@
--- The walkers meet their contracts: each way out is one law; class rank, list length, slot and depth fall.
+-- The walkers meet their contracts: each way out is one law; class rank, precedence and depth fall.
 use borrow.Author.Needs.{needs}
-use Prim.Native.Nat.{ℕ, _+_, _-_, _*_, _<_}
-use Rattle.emit.proofs.NextBody.{seek-le, longest-less}
+use Prim.Native.Nat.{ℕ, _+_, _*_, _<_}
+use Rattle.emit.proofs.NextBody.{seek-falls}
 use Rattle.emit.proofs.WholeStatement.{wholes}
 use Rattle.emit.proofs.LeftPart.{lefts}
 use Rattle.emit.proofs.RightPart.{rights, right-branches}
@@ -41,6 +41,7 @@ use Rattle.emit.proofs.+emit_bodies+emit_body+emit_body_left+emit_body_
 use Rattle.controls.proofs.under.Reads as under-reads
 use Rattle.controls.proofs.with_control.Reads as with-control-reads
 use Rattle.emit.proofs.body_depth.Reads as body-depth-reads
+use Rattle.events.proofs.above_length.Reads as above-length-reads
 use Rattle.events.proofs.emit_entries.Reads as emit-entries-reads
 use Rattle.events.proofs.emit_entries_back.Reads as emit-entries-back-reads
 use Rattle.events.proofs.emit_flip.Reads as emit-flip-reads
@@ -48,8 +49,8 @@ use Rattle.events.proofs.finish.Reads as finish-reads
 use Rattle.events.proofs.flip_again.Reads as flip-again-reads
 use Rattle.events.proofs.invoke.Reads as invoke-reads
 use Rattle.events.proofs.load.Reads as load-reads
-use Rattle.events.proofs.longest_below.Reads as longest-below-reads
 use Rattle.events.proofs.next.Reads as next-reads
+use Rattle.events.proofs.precedence.Reads as precedence-reads
 use Rattle.events.proofs.procedure.Reads as procedure-reads
 use Rattle.events.proofs.seek.Reads as seek-reads
 use Rattle.events.proofs.status.Reads as status-reads
@@ -69,10 +70,10 @@ use Rattle.emit.proofs.+emit_bodies+emit_body+emit_body_left+emit_body_
 }
 
 abbrev μ-emit-bodies : Measures 4 emit-bodies-kinds.ps ℕ
-μ-emit-bodies κs a = 268435456 * a .1 .0 + (1048576 * a .1 .1 .1 .0 + (8 * (65536 - a .1 .1 .1 .1 .0) + 1005))
+μ-emit-bodies κs a = 268435456 * a .1 .0 + (8 * a .1 .1 .1 .0 + 1000)
 
 abbrev μ-emit-body : Measures 4 emit-body-kinds.ps ℕ
-μ-emit-body κs a = 268435456 * a .1 .0 + (1048576 * a .1 .1 .1 .0 + (8 * (65536 - a .1 .1 .1 .1 .0) + 1004))
+μ-emit-body κs a = 268435456 * a .1 .0 + (8 * a .1 .1 .1 .0 + 1007)
 
 abbrev μ-emit-body-left : Measures 4 emit-body-left-kinds.ps ℕ
 μ-emit-body-left κs a = 268435456 * a .1 .0 + 600
@@ -84,13 +85,13 @@ abbrev μ-emit-call : Measures 5 emit-call-kinds.ps ℕ
 μ-emit-call κs a = 268435456 * a .1 .0
 
 abbrev μ-emit-inner : Measures 4 emit-inner-kinds.ps ℕ
-μ-emit-inner κs a = 268435456 * a .1 .0 + (1048576 * a .1 .1 .1 .0 + (8 * (65536 - a .1 .1 .1 .1 .0) + 1003))
+μ-emit-inner κs a = 268435456 * a .1 .0 + (8 * a .1 .1 .1 .0 + 1006)
 
 abbrev μ-emit-left : Measures 5 emit-left-kinds.ps ℕ
 μ-emit-left κs a = 268435456 * a .1 .0 + (a .1 .1 .1 .0 + 300)
 
 abbrev μ-emit-rest : Measures 4 emit-rest-kinds.ps ℕ
-μ-emit-rest κs a = 268435456 * a .1 .0 + (1048576 * a .1 .1 .1 .0 + (8 * (65536 - a .1 .1 .1 .1 .0) + 1002))
+μ-emit-rest κs a = 268435456 * a .1 .0 + (8 * a .1 .1 .1 .0 + 1005)
 
 abbrev μ-emit-right : Measures 5 emit-right-kinds.ps ℕ
 μ-emit-right κs a = 268435456 * a .1 .0 + (a .1 .1 .1 .0 + 300)
@@ -159,32 +160,29 @@ abbrev emit-whole-below : ℕ → In 5 emit-whole-kinds.ps
 emit-whole-below t = and 5 emit-whole-kinds.ps (falls 5 emit-whole-kinds.ps _<_ μ-emit-whole t) emit-whole.Pre
 
 emit-bodies-meets : {M : Type 1} (t : ℕ) → emit-bodies-lts.Closed (
-    status-reads.Asked, status-reads.Learnt, seek-reads.Asked, seek-reads.Learnt, emit-body-below t, emit-body.Post, next-reads.Asked,
-    next-reads.Learnt, longest-below-reads.Asked, longest-below-reads.Learnt, emit-bodies-below t, emit-bodies.Post) (emit-bodies-at t) emit-bodies.Post M
+    status-reads.Asked, status-reads.Learnt, next-reads.Asked, next-reads.Learnt, seek-reads.Asked, seek-reads.Learnt, precedence-reads.Asked,
+    precedence-reads.Learnt, emit-body-below t, emit-body.Post) (emit-bodies-at t) emit-bodies.Post M
 emit-bodies-meets t = emit-bodies-lts.spec (
-    status-reads.Asked, status-reads.Learnt, seek-reads.Asked, seek-reads.Learnt, emit-body-below t, emit-body.Post, next-reads.Asked,
-    next-reads.Learnt, longest-below-reads.Asked, longest-below-reads.Learnt, emit-bodies-below t, emit-bodies.Post) (emit-bodies-at t) emit-bodies.Post
+    status-reads.Asked, status-reads.Learnt, next-reads.Asked, next-reads.Learnt, seek-reads.Asked, seek-reads.Learnt, precedence-reads.Asked,
+    precedence-reads.Learnt, emit-body-below t, emit-body.Post) (emit-bodies-at t) emit-bodies.Post
     (λ c κs. search needs)
     (λ c. search chaining)
-    (λ c. search chaining)
     (λ c κs. search needs)
-    (λ c κs. search (needs, seek-le _ _ _ _ _ _ (c .before .before .before .before .seek .ensures)))
-    (λ c. search needs)
-    (λ c. search chaining)
     (λ c κs. search needs)
     (λ c κs. search needs)
     (λ c κs. let d = c .before .before .before in
-      let e = d .before .before .before .before .before .before .before in
-      search (needs, longest-less _ _ _ _ _ (d .longest-below .ensures) (e .if2 .left), e .before .before .before .before .before .pre .0))
+      search (needs, seek-falls _ _ _ _ _ _ (d .before .before .before .seek .ensures) (d .before .before .if2 .taken) (d .precedence .ensures)))
     (λ c. search needs)
+    (λ c. search chaining)
     (λ c. search chaining)
 
 emit-body-meets : {M : Type 1} (t : ℕ) → emit-body-lts.Closed (
-    emit-entries-reads.Asked, emit-entries-reads.Learnt, emit-inner-below t, emit-inner.Post, emit-entries-back-reads.Asked,
-    emit-entries-back-reads.Learnt) (emit-body-at t) emit-body.Post M
+    next-reads.Asked, next-reads.Learnt, emit-entries-reads.Asked, emit-entries-reads.Learnt, emit-inner-below t, emit-inner.Post,
+    emit-entries-back-reads.Asked, emit-entries-back-reads.Learnt) (emit-body-at t) emit-body.Post M
 emit-body-meets t = emit-body-lts.spec (
-    emit-entries-reads.Asked, emit-entries-reads.Learnt, emit-inner-below t, emit-inner.Post, emit-entries-back-reads.Asked,
-    emit-entries-back-reads.Learnt) (emit-body-at t) emit-body.Post
+    next-reads.Asked, next-reads.Learnt, emit-entries-reads.Asked, emit-entries-reads.Learnt, emit-inner-below t, emit-inner.Post,
+    emit-entries-back-reads.Asked, emit-entries-back-reads.Learnt) (emit-body-at t) emit-body.Post
+    (λ c κs. search needs)
     (λ c. search chaining)
     (λ c. search needs)
     (λ c κs. search needs)
@@ -228,10 +226,10 @@ emit-body-right-meets t = emit-body-right-lts.spec (
 
 emit-call-meets : {M : Type 1} (t : ℕ) → emit-call-lts.Closed (
     status-reads.Asked, status-reads.Learnt, size-reads.Asked, size-reads.Learnt, next-reads.Asked, next-reads.Learnt, invoke-reads.Asked,
-    invoke-reads.Learnt, finish-reads.Asked, finish-reads.Learnt, emit-bodies-below t, emit-bodies.Post) (emit-call-at t) emit-call.Post M
+    invoke-reads.Learnt, finish-reads.Asked, finish-reads.Learnt, above-length-reads.Asked, above-length-reads.Learnt, emit-bodies-below t, emit-bodies.Post) (emit-call-at t) emit-call.Post M
 emit-call-meets t = emit-call-lts.spec (
     status-reads.Asked, status-reads.Learnt, size-reads.Asked, size-reads.Learnt, next-reads.Asked, next-reads.Learnt, invoke-reads.Asked,
-    invoke-reads.Learnt, finish-reads.Asked, finish-reads.Learnt, emit-bodies-below t, emit-bodies.Post) (emit-call-at t) emit-call.Post
+    invoke-reads.Learnt, finish-reads.Asked, finish-reads.Learnt, above-length-reads.Asked, above-length-reads.Learnt, emit-bodies-below t, emit-bodies.Post) (emit-call-at t) emit-call.Post
     (λ c κs. search needs)
     (λ c. search chaining)
     (λ c κs. search needs)
@@ -241,21 +239,12 @@ emit-call-meets t = emit-call-lts.spec (
     (λ c κs. search needs)
     (λ c. search needs)
     (λ c. search chaining)
-    (λ c κs. search needs)
     (λ c. search needs)
     (λ c κs. search needs)
     (λ c κs. search needs)
+    (λ c κs. search needs)
     (λ c. search needs)
-    (λ c. search (chaining,
-      c .before .before .finish2 .ensures, c .before .before .before .before .before .before .before .emit-bodies .ensures,
-      c .before .before .before .before .before .before .before .before .before .before .before .next2 .ensures,
-      c .before .before .before .before .before .before .before .before .before .before .before .before .before .if3 .left,
-      c .before .before .before .before .before .before .before .before .before .before .before .before .before .before .before .before .invoke .ensures,
-      c .before .before .before .before .before .before .before .before .before .before .before .before .before .before .before .before .before .before .before .before .next .ensures,
-      c .before .before .before .before .before .before .before .before .before .before .before .before .before .before .before .before .before .before .before .before .before .before .if2 .left,
-      c .before .before .before .before .before .before .before .before .before .before .before .before .before .before .before .before .before .before .before .before .before .before .before .size .ensures,
-      c .before .before .before .before .before .before .before .before .before .before .before .before .before .before .before .before .before .before .before .before .before .before .before .before .if1 .left,
-      c .before .before .before .before .before .before .before .before .before .before .before .before .before .before .before .before .before .before .before .before .before .before .before .before .before .status .ensures))
+    (λ c. search chaining)
 
 emit-inner-meets : {M : Type 1} (t : ℕ) → emit-inner-lts.Closed (
     emit-body-left-below t, emit-body-left.Post, emit-rest-below t, emit-rest.Post) (emit-inner-at t) emit-inner.Post M
@@ -357,9 +346,7 @@ emit-rest-meets : {M : Type 1} (t : ℕ) → emit-rest-lts.Closed (
     next-reads.Asked, next-reads.Learnt, emit-bodies-below t, emit-bodies.Post, emit-body-right-below t, emit-body-right.Post) (emit-rest-at t) emit-rest.Post M
 emit-rest-meets t = emit-rest-lts.spec (
     next-reads.Asked, next-reads.Learnt, emit-bodies-below t, emit-bodies.Post, emit-body-right-below t, emit-body-right.Post) (emit-rest-at t) emit-rest.Post
-    (λ c. search chaining)
     (λ c κs. search needs)
-    (λ c. search needs)
     (λ c κs. search needs)
     (λ c κs. search needs)
     (λ c. search needs)

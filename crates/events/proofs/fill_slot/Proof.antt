@@ -10,6 +10,7 @@ fill-slot-spec = tie.close (tie.spec
     (λ c. search words)
     (λ c. search words)
     (λ c. search words)
+    (λ c. search words)
     (λ c κs. search words)
     (λ c. search words)
     (λ c. search words)
