@@ -1,4 +1,5 @@
-//! Document 01, "Emission": the gates of a program and its ancillas.
+//! Document 01, "Emission": the gates of a program and its ancillas, with the
+//! order of bodies that document 02 asks for in S-6.
 
 use crate::calls::Calls;
 use crate::circuit::{Control, Gate, HEADER, LONGEST_CIRCUIT};
@@ -6,6 +7,7 @@ use crate::meaning::{holds, main_list, remaining, touched};
 use crate::operations;
 use crate::refusal;
 use crate::table::{Program, Statement};
+use std::cmp::Reverse;
 
 /// What an emission gives.
 #[derive(Clone, Debug, PartialEq, Eq)]
@@ -31,8 +33,14 @@ pub struct Tally {
     pub nested_right: usize,
     /// Chains with bodies of more than one procedure.
     pub mutual: usize,
+    /// The most bodies of one list length in a chain.
+    pub most_of_one_length: usize,
+    /// Chains in which bodies of one length do not go in the order called.
+    pub reordered: usize,
     /// Later calls, each with an entry ancilla.
     pub entries: usize,
+    /// Later calls to bodies beside which there are others of their length.
+    pub entries_of_one_length: usize,
     /// Swaps placed before left parts (as many come after right parts).
     pub swaps: usize,
 }
@@ -108,6 +116,25 @@ struct Body {
     ancilla: u8,
     entries: Vec<Entry>,
     emitted: bool,
+}
+
+impl Body {
+    /// The body that a call names, were it "met first for its pair".
+    fn of_first_call(procedure: usize, first_list: Vec<u8>, ancilla: u8) -> Body {
+        Body {
+            procedure,
+            first_list,
+            ancilla,
+            entries: Vec::new(),
+            emitted: false,
+        }
+    }
+
+    /// Its pair. The body with the least one goes first: that is a long list,
+    /// and then a low procedure.
+    fn pair(&self) -> (Reverse<usize>, usize) {
+        (Reverse(self.first_list.len()), self.procedure)
+    }
 }
 
 /// "A later call to that pair takes an entry ancilla".
@@ -217,13 +244,7 @@ impl<'p> Emitter<'p> {
         let ancilla = self.take()?;
         let flip = Gate::not(ancilla, controls);
         self.place(flip.clone())?;
-        self.chain(Body {
-            procedure,
-            first_list: list,
-            ancilla,
-            entries: Vec::new(),
-            emitted: false,
-        })?;
+        self.chain(Body::of_first_call(procedure, list, ancilla))?;
         self.place(flip)?;
         self.in_use = in_use;
         self.part = part;
@@ -235,9 +256,11 @@ impl<'p> Emitter<'p> {
     /// and "After its right part the same gates come in reverse."
     fn chain(&mut self, first: Body) -> Result<(), u32> {
         let mut bodies = vec![first];
+        let mut order = Vec::new();
         let mut right_parts = Vec::new();
         while let Some(index) = next_body(&bodies) {
             bodies[index].emitted = true;
+            order.push(index);
             let entry_gates = entry_gates(&bodies[index]);
             self.tally.swaps += entry_gates.iter().filter(|gate| gate.is_swap()).count();
             self.place_all(entry_gates.iter())?;
@@ -245,8 +268,7 @@ impl<'p> Emitter<'p> {
             let owed = self.left_part(&mut bodies, index)?;
             right_parts.push((owed, entry_gates));
         }
-        let mutual = |body: &Body| body.procedure != bodies[0].procedure;
-        self.tally.mutual += usize::from(bodies.iter().any(mutual));
+        self.count_bodies(&bodies, &order);
         for (owed, entry_gates) in right_parts.into_iter().rev() {
             self.part = Some(Part::Right);
             self.right_part(owed)?;
@@ -345,20 +367,14 @@ impl<'p> Emitter<'p> {
         let ancilla = self.take()?;
         let flip = Gate::not(ancilla, &at.controls);
         self.place(flip.clone())?;
-        let pair =
-            |body: &&mut Body| body.procedure == procedure && body.first_list.len() == list.len();
-        match bodies.iter_mut().find(pair) {
+        let called = Body::of_first_call(procedure, list, ancilla);
+        match bodies.iter_mut().find(|body| body.pair() == called.pair()) {
             Some(body) => {
+                let list = called.first_list;
                 body.entries.push(Entry { ancilla, list });
                 self.tally.entries += 1;
             }
-            None => bodies.push(Body {
-                procedure,
-                first_list: list,
-                ancilla,
-                entries: Vec::new(),
-                emitted: false,
-            }),
+            None => bodies.push(called),
         }
         Ok(vec![Owed::Flip(flip)])
     }
@@ -383,17 +399,34 @@ impl<'p> Emitter<'p> {
             None => {}
         }
     }
+
+    /// Counts a chain by its bodies, which stand in the order called, and by the
+    /// order in which they were emitted.
+    fn count_bodies(&mut self, bodies: &[Body], order: &[usize]) {
+        let mutual = |body: &Body| body.procedure != bodies[0].procedure;
+        self.tally.mutual += usize::from(bodies.iter().any(mutual));
+        let length = |index: &usize| bodies[*index].first_list.len();
+        let mut reordered = false;
+        for group in order.chunk_by(|one, next| length(one) == length(next)) {
+            reordered |= !group.is_sorted();
+            let most = self.tally.most_of_one_length.max(group.len());
+            self.tally.most_of_one_length = most;
+            if group.len() > 1 {
+                let entries = group.iter().map(|&index| bodies[index].entries.len());
+                self.tally.entries_of_one_length += entries.sum::<usize>();
+            }
+        }
+        self.tally.reordered += usize::from(reordered);
+    }
 }
 
-/// "The longest list goes first, and of equal lengths the one called first."
-/// Bodies stand in the order called; a recursive call shortens the list, so
-/// every call to a body is met before the body's turn comes.
+/// "The longest list goes first", and of document 02, S-6: "Bodies of equal list
+/// length are now emitted in order of procedure number, lowest first." A
+/// recursive call shortens the list, so every call to a body is met before the
+/// body's turn comes.
 fn next_body(bodies: &[Body]) -> Option<usize> {
-    let waiting = || (0..bodies.len()).filter(|&index| !bodies[index].emitted);
-    let longest = waiting()
-        .map(|index| bodies[index].first_list.len())
-        .max()?;
-    waiting().find(|&index| bodies[index].first_list.len() == longest)
+    let waiting = (0..bodies.len()).filter(|&index| !bodies[index].emitted);
+    waiting.min_by_key(|&index| bodies[index].pair())
 }
 
 /// "for each such call in order: flip the body's ancilla under the entry

@@ -5,9 +5,9 @@
 //! emission, the circuit, the refusals with their order, and the listing. Of
 //! document 02 there is the page of a circuit (S-1), which is also read again,
 //! the size of what is left (S-2), a third base of numbers, the published
-//! circuit size (S-4) in the listing's first line, and the inverse program
-//! (S-5), for which programs are written as tables; a circuit can be listed
-//! without its table.
+//! circuit size (S-4) in the listing's first line, the inverse program (S-5),
+//! for which programs are written as tables, and the order of bodies of equal
+//! list length (S-6); a circuit can be listed without its table.
 //! Words in quotation marks in the comments are the documents' own.
 
 #![deny(clippy::unwrap_used, clippy::expect_used, clippy::panic)]

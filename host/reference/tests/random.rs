@@ -4,8 +4,10 @@
 
 mod met;
 
-use foq_generator::programs::{program, Shape, LARGE, MERGING, SMALL};
-use foq_generator::tree::encode;
+use foq_generator::programs::{
+    program, program_of_few_classes, Shape, LARGE, MEETING, MERGING, SMALL,
+};
+use foq_generator::tree::{encode, Program};
 use foq_generator::Random;
 use foq_reference::{
     circuit_run, compile, emission, gate_bound, read_circuit, read_table, run, verdict, Circuit,
@@ -78,10 +80,14 @@ fn show_steps(emitted: &Emission, shown: &mut Shown) {
     let tally = emitted.tally;
     let swaps = emitted.gates.iter().filter(|gate| gate.is_swap()).count();
     assert_eq!(swaps, 2 * tally.swaps);
+    let of_one_length = usize::from(tally.most_of_one_length > 1);
     for (class, count) in [
         ("chain", tally.chains),
         ("mutual recursion", tally.mutual),
+        ("bodies of one length", of_one_length),
+        ("not in the order called", tally.reordered),
         ("merging", tally.entries),
+        ("merging at one length", tally.entries_of_one_length),
         ("swap", tally.swaps),
         ("nested in a left part", tally.nested_left),
         ("nested in a right part", tally.nested_right),
@@ -100,12 +106,15 @@ fn swaps_matter(circuit: &Circuit, words: &[u64]) -> bool {
     without.gates.len() < circuit.gates.len() && words.iter().any(differs)
 }
 
+/// Makes a program of a shape.
+type Make = fn(&mut Random, &Shape) -> Program;
+
 /// Checks programs of a seed on every word of 1 to `most` qubits.
-fn check_all_words(seed: u64, shape: &Shape, programs: usize, most: u32) -> Counts {
+fn check_all_words(seed: u64, make: Make, shape: &Shape, programs: usize, most: u32) -> Counts {
     let mut random = Random::from_seed(seed);
     let mut counts = Counts::new();
     for _ in 0..programs {
-        let table = encode(&program(&mut random, shape));
+        let table = encode(&make(&mut random, shape));
         let mut shown = Shown::new();
         for n in 1..=most {
             let words: Vec<u64> = (0..1 << n).collect();
@@ -134,8 +143,8 @@ fn check_some_words(seed: u64, shape: &Shape, programs: usize) -> Counts {
 
 #[test]
 fn circuits_do_what_runs_do_on_every_word() {
-    let small = thread::spawn(|| check_all_words(1, &SMALL, 16_000, 6));
-    let mut counts = check_all_words(2, &MERGING, 9_000, 6);
+    let small = thread::spawn(|| check_all_words(1, program, &SMALL, 16_000, 6));
+    let mut counts = check_all_words(2, program, &MERGING, 9_000, 6);
     for (class, count) in small.join().unwrap() {
         *counts.entry(class).or_default() += count;
     }
@@ -156,13 +165,26 @@ fn circuits_do_what_runs_do_on_every_word() {
 
 #[test]
 fn circuits_of_many_procedures_do_what_runs_do_on_every_word() {
-    let counts = check_all_words(3, &LARGE, 2_000, 4);
+    let counts = check_all_words(3, program, &LARGE, 2_000, 4);
     let least = [
         ("accepted", 1_800),
         ("mutual recursion", 400),
         ("merging", 200),
         ("nested in a left part", 800),
         ("nested in a right part", 100),
+    ];
+    assert_met(&counts, &least);
+}
+
+#[test]
+fn circuits_with_bodies_of_one_length_do_what_runs_do_on_every_word() {
+    let counts = check_all_words(6, program_of_few_classes, &MEETING, 4_000, 6);
+    let least = [
+        ("accepted", 3_900),
+        ("mutual recursion", 1_000),
+        ("bodies of one length", 1_000),
+        ("not in the order called", 1_000),
+        ("merging at one length", 1_000),
     ];
     assert_met(&counts, &least);
 }

@@ -3,6 +3,7 @@
 
 mod judged;
 
+use foq_generator::equal_lengths::equal_lengths;
 use foq_generator::tables::{
     closed_through_a_call, full, leaning_right, negations, one_in_each_branch, two_in_sequence,
     without_removal,
@@ -365,19 +366,47 @@ fn nested_chains_take_wires_above_those_in_use_and_give_them_back() {
 }
 
 #[test]
-fn bodies_go_by_length_and_then_by_first_call() {
+fn bodies_go_by_length_and_then_by_procedure() {
     // From length 4: procedure 2 with 2 qubits, then procedure 1 with 3, and
-    // from there both with 2 again: the longer body comes before the shorter.
+    // from there both with 2 again: the longer body comes before the shorter,
+    // and of the two shorter ones that of procedure 1, though it was called last.
     let four = case(1, call(2, &[1, 1]), call(1, &[1]));
     let three = case(1, call(1, &[1]), call(2, &[1]));
     let first = choose(longer_than(3), four, choose(longer_than(2), three, not(1)));
     let second = choose(longer_than(4), call(1, &[1]), not(2));
     let mixed = table(call(1, &[]), &[first, second]);
-    let printed = "4 5 23\n1 X 5\n2 X 6 -1 +5\n3 X 7 +1 +5\n4 X 8 -2 +7\n5 X 9 +2 +7\n6 X 6 +9\n\
-                   7 X 4 +6\n8 X 3 +8\n9 X 6 +9\n10 X 9 +2 +7\n11 X 8 -2 +7\n12 X 7 +1 +5\n\
+    let printed = "4 5 23\n1 X 5\n2 X 6 -1 +5\n3 X 7 +1 +5\n4 X 8 -2 +7\n5 X 9 +2 +7\n6 X 3 +8\n\
+                   7 X 6 +9\n8 X 4 +6\n9 X 6 +9\n10 X 9 +2 +7\n11 X 8 -2 +7\n12 X 7 +1 +5\n\
                    13 X 6 -1 +5\n14 X 5\n";
     assert_eq!(listed(&mixed, 4), printed);
     compare_all_words(&mixed, 4);
+}
+
+#[test]
+fn equal_lengths_are_emitted_as_worked_out_by_hand() {
+    // Procedure 3 is called first and takes ancilla 4, procedure 2 ancilla 5.
+    let printed = "2 3 13\n1 X 3\n2 X 4 -1 +3\n3 X 5 +1 +3\n4 X 2 +5\n5 X 2 +4\n\
+                   6 X 5 +1 +3\n7 X 4 -1 +3\n8 X 3\n";
+    let three_first = equal_lengths(3, 2);
+    assert_eq!(listed(&three_first, 2), printed);
+    let written = bytes(
+        "01 02 03 08 00 00 00  00 03  03 04 01 03 01 01  01 05 02 01 03  01 02 01 05 \
+         01 02 01 04  01 05 02 01 03  03 04 01 03 01 01  00 03",
+    );
+    assert_eq!(compile(&three_first, 2, ROOM, WORKSPACE), Ok(written));
+    assert_eq!(emitted(&three_first, 2).tally.reordered, 1);
+    // The other way round 2 is called first, and its body stays before that of 3.
+    let printed = "2 3 13\n1 X 3\n2 X 4 -1 +3\n3 X 5 +1 +3\n4 X 2 +4\n5 X 2 +5\n\
+                   6 X 5 +1 +3\n7 X 4 -1 +3\n8 X 3\n";
+    let two_first = equal_lengths(2, 3);
+    assert_eq!(listed(&two_first, 2), printed);
+    assert_eq!(emitted(&two_first, 2).tally.reordered, 0);
+    for table in [three_first, two_first] {
+        assert_eq!(emitted(&table, 2).tally.most_of_one_length, 2);
+        for n in 1..=8 {
+            compare_all_words(&table, n);
+        }
+    }
 }
 
 #[test]
