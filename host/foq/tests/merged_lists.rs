@@ -315,6 +315,8 @@ impl Seen {
             ("swaps in all", 4_000_000),
             ("branches that meet", 8_500),
             ("mutual recursion", 2_000),
+            ("bodies of one length", 2_000),
+            ("not in the order called", 1_500),
             ("calls inside calls", 900),
             ("changes a word", 9_000),
             ("runs", 35_000),

@@ -13,8 +13,9 @@
 //! - [`tables`] holds single tables: small ones of every kind, and those at a
 //!   limit.
 //! - [`published`] holds programs of source 002, [`emissions`] tables whose
-//!   emission is at a limit, and [`merged_lists`] makes programs whose circuits
-//!   are mostly swaps.
+//!   emission is at a limit, [`equal_lengths`] tables whose procedures meet at
+//!   one list length, and [`merged_lists`] makes programs whose circuits are
+//!   mostly swaps.
 //! - [`steps`] makes programs of many sequences, in which the order matters.
 //! - [`circuits`] makes well-formed circuits, and circuits of given gates.
 //! - [`damage`] spoils bytes.
@@ -24,6 +25,7 @@
 pub mod circuits;
 pub mod damage;
 pub mod emissions;
+pub mod equal_lengths;
 pub mod merged_lists;
 pub mod numbers;
 pub mod programs;

@@ -3,9 +3,9 @@
 //! [`program`] builds its trees so that they are mostly accepted: it keeps
 //! count of the least size the list can have, closes qcase qubits, lets calls
 //! remove them, and hands the right to recur down one path of each sequence.
-//! [`program_from_the_end`] does so for longer lists, and knows every position
-//! from the end of its list. [`wild_program`] keeps the form of a table and
-//! nothing else.
+//! [`program_of_few_classes`] has more procedures that call each other, and
+//! [`program_from_the_end`] longer lists, of which it knows every position from
+//! the end. [`wild_program`] keeps the form of a table and nothing else.
 
 use crate::tree::{choose, qcase, sequence, Condition, Number, Program, Statement};
 use crate::Random;
@@ -53,6 +53,16 @@ pub const LARGE: Shape = Shape {
     slips: 1,
 };
 
+/// Programs for [`program_of_few_classes`]: short ones of several procedures,
+/// with calls in nearly every branch.
+pub const MEETING: Shape = Shape {
+    procedures: 4,
+    records: 12,
+    cases: 75,
+    recurs: 90,
+    slips: 0,
+};
+
 /// What a writer knows of the lists, and makes of them.
 #[derive(Clone, Debug)]
 struct Lists {
@@ -69,13 +79,27 @@ struct Lists {
 
 /// A random program that is mostly accepted, for every number of qubits.
 pub fn program(random: &mut Random, shape: &Shape) -> Program {
-    let lists = Lists {
+    program_on(random, shape, lists_of_any_size())
+}
+
+/// The same with two procedures at least, nearly all of them in one class: they
+/// call each other from the branches of qcases, so that several of them often
+/// have bodies of one list length in a chain.
+pub fn program_of_few_classes(random: &mut Random, shape: &Shape) -> Program {
+    let more = random.below(shape.procedures.saturating_sub(1));
+    let ranks = (0..2 + more).map(|_| if random.chance(85) { 1 } else { 2 });
+    let ranks = ranks.collect();
+    program_of_ranks(random, shape, lists_of_any_size(), ranks)
+}
+
+/// Lists of which nothing is known but what conditions ask for.
+fn lists_of_any_size() -> Lists {
+    Lists {
         main: 1,
         sizes: vec![1, 2, 2, 3, 3, 3, 4, 4],
         removals: 3,
         from_the_front: true,
-    };
-    program_on(random, shape, lists)
+    }
 }
 
 /// A random program that is mostly accepted on n qubits. Its records have up
@@ -98,11 +122,22 @@ fn program_on(random: &mut Random, shape: &Shape, lists: Lists) -> Program {
     let procedures = 1 + random.below(shape.procedures);
     let procedures = procedures.min(shape.procedures);
     let classes = 1 + random.below(procedures);
-    let mut ranks = vec![0];
-    ranks.extend((0..procedures).map(|_| 1 + random.below(classes)));
+    let ranks = (0..procedures).map(|_| 1 + random.below(classes));
+    let ranks = ranks.collect();
+    program_of_ranks(random, shape, lists, ranks)
+}
+
+/// A random program whose procedures have these ranks, of which none is 0.
+fn program_of_ranks(
+    random: &mut Random,
+    shape: &Shape,
+    lists: Lists,
+    ranks: Vec<usize>,
+) -> Program {
+    let procedures = ranks.len();
     let mut writer = Writer {
         random,
-        ranks,
+        ranks: [vec![0], ranks].concat(),
         shape: *shape,
         lists,
     };

@@ -12,7 +12,7 @@ use crate::steps::count_steps;
 use foq::border;
 use foq_expected::answer;
 use foq_reference::{
-    compile, emission, gate_bound, read_table, LONGEST_CIRCUIT, SHORTEST_WORKSPACE,
+    compile, emission, gate_bound, read_table, Tally, LONGEST_CIRCUIT, SHORTEST_WORKSPACE,
 };
 
 /// The circuit or the refusal of both, with a room and a workspace of these
@@ -85,8 +85,9 @@ pub fn end_alike(
 }
 
 /// The circuit reader gives back n, the most ancillas in use and the number of
-/// gates emitted, which is within the bound. Counts the classes of the calls.
-pub fn assert_read_back(table: &[u8], n: u32, circuit: &[u8], counts: &mut Counts) {
+/// gates emitted, which is within the bound. Counts the classes of the calls,
+/// and gives the tally of the emission.
+pub fn assert_read_back(table: &[u8], n: u32, circuit: &[u8], counts: &mut Counts) -> Tally {
     let program = read_table(table).unwrap();
     let emitted = emission(&program, n, LONGEST_CIRCUIT).unwrap();
     let header = foq::Circuit {
@@ -97,4 +98,5 @@ pub fn assert_read_back(table: &[u8], n: u32, circuit: &[u8], counts: &mut Count
     assert_eq!(foq::circuit_read(circuit), Ok(header));
     assert!(u128::from(header.gates) <= gate_bound(&program, n));
     count_steps(&emitted.tally, counts);
+    emitted.tally
 }

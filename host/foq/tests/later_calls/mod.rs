@@ -4,6 +4,7 @@
 
 use crate::calls::reached_from;
 use foq_reference::{holds, remaining, Program, Statement};
+use std::cmp::Reverse;
 
 /// A later call to a body.
 pub struct LaterCall {
@@ -90,13 +91,15 @@ impl Walk<'_> {
         self.reached[to - 1].contains(&from)
     }
 
-    /// Goes through the bodies of a chain: "The longest list goes first, and of
-    /// equal lengths the one called first."
+    /// Goes through the bodies of a chain: "The longest list goes first", and
+    /// "Bodies of equal list length are now emitted in order of procedure
+    /// number, lowest first."
     fn chain(&mut self, procedure: usize, list: Vec<u8>) {
         let mut waiting = vec![(procedure, list)];
-        while let Some(longest) = waiting.iter().map(|(_, list)| list.len()).max() {
-            let turn = waiting.iter().position(|(_, list)| list.len() == longest);
-            let (own, list) = waiting.remove(turn.unwrap());
+        while !waiting.is_empty() {
+            // The one whose turn it is stands last.
+            waiting.sort_by_key(|(procedure, list)| (list.len(), Reverse(*procedure)));
+            let (own, list) = waiting.pop().unwrap();
             for (procedure, list) in calls(&self.program.bodies[own - 1], &list) {
                 if !self.is_recursive(own, procedure) {
                     self.chain(procedure, list);
