@@ -4,6 +4,7 @@ use crate::rows::{print_rest, print_row, title, used};
 use crate::timing::{rounds, slow_rounds};
 use foq::{LEAST_WORKSPACE, MOST_CIRCUIT};
 use foq_generator::emissions::{filled, merged_lists, slowest_compile, SLOWEST_QUBITS};
+use foq_generator::equal_lengths::sixteen_of_one_length;
 use foq_generator::size_left::{reversal, reversal_by_hand};
 use foq_generator::tables::nested_classes;
 use foq_generator::tree::Statement;
@@ -16,7 +17,7 @@ const N: u32 = 32;
 
 /// Tables and their names. The last one's emission would be astronomical, and
 /// is refused at the first gate past the room.
-fn cases() -> [(&'static str, Vec<u8>); 6] {
+fn cases() -> [(&'static str, Vec<u8>); 7] {
     [
         ("PAIRS", PAIRS.to_vec()),
         (
@@ -24,6 +25,7 @@ fn cases() -> [(&'static str, Vec<u8>); 6] {
             filled(LONGEST_CIRCUIT, Statement::Skip, &[]),
         ),
         ("4,340 swaps", merged_lists()),
+        ("equal lengths", sixteen_of_one_length(N as i16)),
         ("reversal, base 1", reversal_by_hand()),
         ("reversal, base 2", reversal()),
         ("16 nested classes", nested_classes(16)),

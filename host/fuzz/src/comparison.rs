@@ -5,7 +5,7 @@ use crate::operations::Operations;
 use foq::border::{self, Answer, Band};
 use foq::MOST_BAND;
 use foq_expected as expected;
-use foq_reference::{read_circuit, Gate, LONGEST_CIRCUIT};
+use foq_reference::{emission, read_circuit, read_table, Gate, LONGEST_CIRCUIT};
 use std::fmt::Debug;
 
 /// What the answers look like from afar. An input of a class that was not seen
@@ -30,6 +30,10 @@ pub struct Class {
     pub gates: usize,
     /// The swaps among them.
     pub swaps: usize,
+    /// Whether two procedures of a table meet at one list length.
+    pub meets: bool,
+    /// Whether the bodies at such a length do not go in the order called.
+    pub reordered: bool,
 }
 
 impl Class {
@@ -45,6 +49,18 @@ impl Class {
             ancillas: magnitude(circuit[2].into()),
             gates: magnitude(gates.len()),
             swaps: magnitude(swaps),
+            ..self
+        }
+    }
+
+    /// Adds how the bodies of a table that has a circuit stand to each other.
+    fn with_bodies(self, table: &Table) -> Class {
+        let emitted = read_table(&table.bytes)
+            .and_then(|program| emission(&program, table.n, LONGEST_CIRCUIT));
+        let tally = emitted.map(|emitted| emitted.tally).unwrap_or_default();
+        Class {
+            meets: tally.most_of_one_length > 1,
+            reordered: tally.reordered > 0,
             ..self
         }
     }
@@ -334,6 +350,7 @@ fn compare_table(product: &impl Operations, table: &Table) -> Result<Class, Diff
         list(product, &circuit)?;
         draw(product, &circuit)?;
         class = class.with_circuit(&circuit, read(product, &circuit)?);
+        class = class.with_bodies(table);
         class.ancillas = circuit[2].into();
     } else if judged != 0 {
         class.run = run(product, table)?.number;

@@ -4,7 +4,10 @@ use crate::input::{Circuit, Table};
 use crate::trees::{replaced, trees, Tree};
 use foq_generator::circuits::{circuit, crowded_circuit, sizes};
 use foq_generator::damage::damaged;
-use foq_generator::programs::{program, wild_program, LARGE, MERGING, SMALL};
+use foq_generator::equal_lengths::equal_lengths;
+use foq_generator::programs::{
+    program, program_of_few_classes, wild_program, LARGE, MEETING, MERGING, SMALL,
+};
 use foq_generator::size_left::{program_by_size_left, reversal, wild_program_by_size_left};
 use foq_generator::steps::program_of_steps;
 use foq_generator::tables::{
@@ -19,7 +22,7 @@ use foq_reference::{circuit_bytes, read_circuit, LONGEST_CIRCUIT, SHORTEST_WORKS
 const LONG_TABLE: usize = 8_000;
 
 /// Tables to begin with.
-fn known_tables() -> [Vec<u8>; 12] {
+fn known_tables() -> [Vec<u8>; 13] {
     [
         PAIRS.to_vec(),
         every_kind(),
@@ -33,6 +36,7 @@ fn known_tables() -> [Vec<u8>; 12] {
         deepest(leaning_left),
         deepest(leaning_right),
         reversal(),
+        equal_lengths(3, 2),
     ]
 }
 
@@ -92,11 +96,12 @@ pub fn fresh_table(random: &mut Random) -> Table {
         0..4 => encode(&program(random, &SMALL)),
         4..8 => encode(&program(random, &MERGING)),
         8..10 => encode(&program(random, &LARGE)),
-        10..15 => encode(&program_by_size_left(random, n)),
+        10..14 => encode(&program_by_size_left(random, n)),
+        14 => encode(&program_of_few_classes(random, &MEETING)),
         15 => encode(&wild_program(random, &SMALL)),
         16 => encode(&wild_program_by_size_left(random)),
         17 | 18 => encode(&program_of_steps(random, n)),
-        _ => known_tables()[random.below(12)].clone(),
+        _ => known_tables()[random.below(13)].clone(),
     };
     with_numbers(random, bytes, n)
 }

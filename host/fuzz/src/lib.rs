@@ -3,8 +3,9 @@
 //!
 //! Inputs are made out of nothing by `foq_generator`, or out of old inputs by a
 //! change. Those that reach a class of answers which was not seen before (its
-//! numbers, the size of the circuit, its ancillas and swaps) are kept to be
-//! changed further. One seed always gives the same row of inputs.
+//! numbers, the size of the circuit, its ancillas and swaps, bodies of one list
+//! length) are kept to be changed further. One seed always gives the same row of
+//! inputs.
 
 pub mod input;
 pub mod operations;
@@ -31,6 +32,10 @@ pub struct Tried {
     pub inverted: u64,
     /// Tables that gave a circuit.
     pub compiled: u64,
+    /// Those of them with two procedures at one list length.
+    pub meeting: u64,
+    /// Those of these whose bodies do not go in the order called.
+    pub reordered: u64,
     /// Circuits.
     pub circuits: u64,
     /// Circuits that are well formed, those of tables too: each has a listing
@@ -49,6 +54,8 @@ impl Tried {
             self.tables += 1;
             self.inverted += u64::from(class.inverse == 0);
             self.compiled += u64::from(class.compile == 0);
+            self.meeting += u64::from(class.meets);
+            self.reordered += u64::from(class.reordered);
             self.drawn += u64::from(class.compile == 0);
         } else {
             self.circuits += 1;

@@ -4,6 +4,7 @@
 //!     $ fuzz 60 1
 //!     seed 1, 60 seconds, .. classes of answers:
 //!     .. tables, of which .. were inverted, .. gave a circuit and .. were listed;
+//!     .. of them with two procedures at one length, .. not in the order called;
 //!     .. circuits; .. pages, and as many listings of circuits
 //!     no mismatch
 //!
@@ -51,6 +52,8 @@ fn print_counts(tried: &Tried) {
         tables,
         inverted,
         compiled,
+        meeting,
+        reordered,
         circuits,
         listed,
         drawn,
@@ -58,5 +61,7 @@ fn print_counts(tried: &Tried) {
     } = tried;
     print!("{tables} tables, of which {inverted} were inverted, ");
     println!("{compiled} gave a circuit and {listed} were listed;");
+    print!("{meeting} of them with two procedures at one length, ");
+    println!("{reordered} not in the order called;");
     println!("{circuits} circuits; {drawn} pages, and as many listings of circuits");
 }

@@ -120,6 +120,37 @@ fn astray(before: Action, gate: Action) -> Action {
     }
 }
 
+/// Puts the highest procedure first among bodies of one list length: the
+/// procedures are numbered from the last one on.
+struct Backward;
+
+impl Operations for Backward {
+    fn compile(&self, table: &[u8], n: u32, room: &mut [u8], workspace: &mut [u8]) -> Answer {
+        border::compile(&numbered_backward(table), n, room, workspace)
+    }
+}
+
+/// The table with its last procedure as the first one, and so on, which means
+/// the same; as it is where it is not read.
+fn numbered_backward(table: &[u8]) -> Vec<u8> {
+    let trees = trees(table);
+    let mut bytes = table.to_vec();
+    for at in trees.iter().filter_map(Tree::procedure) {
+        bytes[at] = table[1] + 1 - table[at];
+    }
+    let front = trees.first().map_or(table.len(), |main| main.range.end);
+    let mut bodies = Vec::new();
+    let mut behind = front;
+    for body in &trees {
+        if body.range.start == behind {
+            bodies.push(&bytes[body.range.clone()]);
+            behind = body.range.end;
+        }
+    }
+    bodies.reverse();
+    [&bytes[..front], &bodies.concat()].concat()
+}
+
 /// Leaves a workspace as it was where the table is refused.
 struct Forgetful;
 
@@ -344,6 +375,7 @@ fn planted_faults_are_found() {
     assert_found(&Stale, "run");
     // Two calls whose lists differ in two qubits at least.
     assert_found_within(&Astray, "circuit", 49);
+    assert_found(&Backward, "circuit");
     assert_found(&Untidy, "room's rest");
     assert_found(&Forgetful, "workspace");
     assert_found(&Crossed, "inverse's table");
