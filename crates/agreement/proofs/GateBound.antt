@@ -11,7 +11,7 @@ use mathlib.Core.List.{List, [], _∷_, _++_, map, reverse, reverse-cons}
 use Prim.Native.Nat.{ℕ, zero, suc, _+_, _*_, _^_, _≤_, _<_, zero-le, suc-le-suc}
 use native.Mathlib.Nat.{not-suc-le-zero, mul-le-mul-right, mul-le-mul-left, pow-suc, pow-zero}
 use native.Mathlib.Omega.{arith}
-use borrow.Author.Tests.{eqb-true, ltb-true, lt-ltb, le-ltb}
+use borrow.Author.Tests.{eq-eqb, eqb-true, ltb-true, lt-ltb, le-ltb}
 use lib.ListN.{length, length-append}
 use lib.Dec.{eqb, ltb}
 use Rattle.model.specs.Syntax.{Statement, skip, NOT, sequence, if, qcase, call, Program, count, body}
@@ -31,7 +31,7 @@ use Rattle.agreement.proofs.EmissionClauses.{left-other, right-wide, ri
 use Rattle.agreement.proofs.EmissionClauses.{width-if, width-qcase, thin-width, wide-width, Low, thin-low}
 use Rattle.agreement.proofs.ProgramFacts.{ranked-up}
 use Rattle.agreement.proofs.InvocationsOfABody.{Mem, AllOf, all-append}
-use Rattle.agreement.proofs.KeysOfALength.{CallTo, calls-here, calls-past, calls-are, calls-keep, keys-order}
+use Rattle.agreement.proofs.KeysOfALength.{CallTo, is-of, calls-here, calls-past, calls-are, calls-keep, keys-order}
 use Rattle.agreement.proofs.ClassesOnALine.{Each, each-call, classes, classes-positive, classes-ranked, main-low, r-none}
 
 -- how many gates events place
@@ -337,10 +337,9 @@ module _ (P : Program) (rank : ℕ → ℕ) (n u : ℕ) (enough : 2 + 2 * n ≤ 
         length (callsTo m κ ds) + passing (isToCome m ks) ds ≤ passing (isToCome m (κ ∷ ks)) ds
     pair-split m κ ks ds new = rw (calls-count m κ ds) (passing-split (isOf m κ) (isToCome m ks) (isToCome m (κ ∷ ks))
       (λ x h.
-        let l = and-left (eqb (length (x .list)) m) (eqb (keyOf x) κ) h in
-        let e : keyOf x ≡ κ = eqb-true (keyOf x) κ (and-right (eqb (length (x .list)) m) (eqb (keyOf x) κ) h) in
-        (and-both (eqb (length (x .list)) m) (member (keyOf x) (κ ∷ ks)) l (rw e (member-head κ ks)),
-         and-false-right (eqb (length (x .list)) m) (member (keyOf x) ks) (rw e new)))
+        let t = is-of m κ x h in
+        (and-both (eqb (length (x .list)) m) (member (keyOf x) (κ ∷ ks)) (eq-eqb (length (x .list)) m (t .0)) (rw (t .1) (member-head κ ks)),
+         and-false-right (eqb (length (x .list)) m) (member (keyOf x) ks) (rw (t .1) new)))
       (λ x h. and-both (eqb (length (x .list)) m) (member (keyOf x) (κ ∷ ks)) (and-left (eqb (length (x .list)) m) (member (keyOf x) ks) h)
         (member-tail (keyOf x) κ ks (and-right (eqb (length (x .list)) m) (member (keyOf x) ks) h))) ds)
 

@@ -102,7 +102,7 @@ module _ (m : ℕ) where
   unfolding keys
   keys-here d calls h = rw (eq-eqb (length (d .list)) m h, keys)
 
-  pub keys-past : (d : Invocation) (calls : List Invocation) → length (d .list) ≢ m → keys m (d ∷ calls) ≡ keys m calls
+  keys-past : (d : Invocation) (calls : List Invocation) → length (d .list) ≢ m → keys m (d ∷ calls) ≡ keys m calls
   unfolding keys
   keys-past d calls h = rw (ne-eqb (length (d .list)) m h, keys)
 
@@ -156,12 +156,13 @@ module _ (m : ℕ) where
   call-later : {k : Key} {x d : Invocation} {calls : List Invocation} → CallTo k calls d → CallTo k (x ∷ calls) d
   call-later c = record { among = inr (c .among); long = c .long; key = c .key }
 
-  is-of : (k : Key) (d : Invocation) → isOf m k d ≡ true → (length (d .list) ≡ m) × (keyOf d ≡ k)
+  -- the test of a pair says just that
+  pub is-of : (k : Key) (d : Invocation) → isOf m k d ≡ true → (length (d .list) ≡ m) × (keyOf d ≡ k)
   is-of k d h =
     (eqb-true (length (d .list)) m (and-left (eqb (length (d .list)) m) (eqb (keyOf d) k) h),
      eqb-true (keyOf d) k (and-right (eqb (length (d .list)) m) (eqb (keyOf d) k) h))
 
-  of-is : (k : Key) (d : Invocation) → length (d .list) ≡ m → keyOf d ≡ k → isOf m k d ≡ true
+  pub of-is : (k : Key) (d : Invocation) → length (d .list) ≡ m → keyOf d ≡ k → isOf m k d ≡ true
   of-is k d l e = and-both (eqb (length (d .list)) m) (eqb (keyOf d) k) (eq-eqb (length (d .list)) m l) (eq-eqb (keyOf d) k e)
 
   -- those are exactly the calls to it

@@ -5,16 +5,15 @@ use mathlib.Core.Bool.{true, false}
 use mathlib.Core.List.{List, [], _∷_}
 use Prim.Native.Nat.{ℕ, zero, suc, _+_, _-_, _*_, _/_, _%_, _≤_, _<_, zero-le}
 use native.Mathlib.Omega.{arith}
-use borrow.Author.Tests.{eq-eqb, eqb-true, ltb-true, le-leb, lt-leb}
+use borrow.Author.Tests.{ltb-true, le-leb, lt-leb}
 use lib.ListN.{length, getD}
-use lib.Dec.{eqb}
 use Rattle.model.specs.Syntax.{Program}
 use Rattle.model.specs.Lists.{member}
 use Rattle.model.specs.Emission.{Chains, Invocation, Key, keyOf, keys, isOf, callsTo, Emitted, bodies, bodiesFrom}
-use Rattle.model.proofs.BooleanLaws.{byEq, byLt, not-true-false, and-left, and-right, and-both}
+use Rattle.model.proofs.BooleanLaws.{byEq, byLt, not-true-false}
 use Rattle.model.proofs.ListLaws.{member-head, member-tail, member-cases, not-in-nil}
 use Rattle.agreement.proofs.InvocationsOfABody.{Mem}
-use Rattle.agreement.proofs.KeysOfALength.{InOrder, OrderOf, calls-here, calls-past, keys-in-order, keys-called, keys-order}
+use Rattle.agreement.proofs.KeysOfALength.{InOrder, OrderOf, is-of, of-is, calls-here, calls-past, keys-in-order, keys-called, keys-order}
 use Rattle.decoded.specs.DecodedTable.{programAt}
 use Rattle.events.specs.Scan.{slotAt, slotListLength, slotProcedure, slotOf, Tallied, heldIn}
 use Rattle.events.specs.Slots.{precedenceIn, Waits, NextSlot}
@@ -227,23 +226,18 @@ module _ (ws : List ℕ) (T : Tallied ws) (base upto : ℕ) where
               (keys-next from (d-length .0 e) (λ a is le. key-waits a (is ∙ e) le (let z = seek-some in omega arith))))
 
       -- it is the first call to its pair
-      is-of : (a : ℕ) → isOf long key (slotOf ws a) ≡ true → (slotListLength ws a ≡ long) × (slotProcedure ws a ≡ key)
-      unfolding slotOf
-      is-of a h =
-        (T a ∙ eqb-true (length (slotOf ws a .list)) long (and-left (eqb (length (slotOf ws a .list)) long) (eqb (slotProcedure ws a) key) h),
-         eqb-true (slotProcedure ws a) key (and-right (eqb (length (slotOf ws a .list)) long) (eqb (slotProcedure ws a) key) h))
-
       here : isOf long key (slotOf ws d) ≡ true
       unfolding slotOf
-      here = and-both (eqb (length (slotOf ws d .list)) long) (eqb key key) (eq-eqb (length (slotOf ws d .list)) long (sym (T d))) (eq-eqb key key refl)
+      here = of-is long key (slotOf ws d) (sym (T d)) refl
 
       other : (a : ℕ) → base ≤ a → a < d → isOf long key (slotOf ws a) ≡ false
+      unfolding slotOf
       other a l h = not-true-false (isOf long key (slotOf ws a)) (λ t.
-        let pair = is-of a t in
+        let pair = is-of long key (slotOf ws a) t in
         let e = slot-precedence a in
         let q = slot-precedence d in
         let w = N .waits lt .1 in
-        let same : precedenceIn ws a ≡ precedenceIn ws d = e ∙ rw (pair .0, pair .1) (sym q) in
+        let same : precedenceIn ws a ≡ precedenceIn ws d = e ∙ rw (T a ∙ pair .0, pair .1) (sym q) in
         let z : precedenceIn ws a < precedenceIn ws d = N .first a l h lt (omega arith, omega arith) in
         omega arith)
 

@@ -1,6 +1,6 @@
 -- The ways out of the functions that emit entry gates, in order or reversed.
 use mathlib.Core.Path.{_≡_, refl, sym, ap, _∙_}
-use mathlib.Core.Bool.{Bool, true, false, _&&_}
+use mathlib.Core.Bool.{Bool, true, false}
 use mathlib.Core.List.{List, [], _∷_, _++_, reverse, reverse-cons, reverse-append}
 use Prim.Native.Nat.{ℕ, zero, suc, _+_, _-_, _/_, _%_, _≤_, _<_}
 use native.Mathlib.Numerals.{add-one}
@@ -12,8 +12,8 @@ use lib.ListN.{length, getD, drop, drop-of-length-le}
 use lib.Dec.{eqb}
 use Rattle.model.specs.Gates.{flip, swapOf}
 use Rattle.model.specs.Emission.{Event, places, under, swaps, entryGates, allEntryGates, isOf, callsTo}
-use Rattle.model.proofs.BooleanLaws.{byBool, same-test, and-left, and-right, and-both}
-use Rattle.agreement.proofs.KeysOfALength.{calls-here, calls-past}
+use Rattle.model.proofs.BooleanLaws.{byBool, same-test}
+use Rattle.agreement.proofs.KeysOfALength.{is-of, of-is, calls-here, calls-past}
 use Rattle.controls.specs.ControlWords.{controlsFrom, At}
 use Rattle.sets.specs.Sets.{membersOf}
 use Rattle.lookup.specs.declared.Plan.{Plan}
@@ -195,18 +195,13 @@ module _ (slots : List ℕ) (T : Tallied slots) (d : ℕ) where
   -- two slots of one number are of one pair
   pair-is : (e : ℕ) → isOf (slotListLength slots d) (slotProcedure slots d) (slotOf slots e) ≡ eqb (precedenceIn slots e) (precedenceIn slots d)
   unfolding slotOf
-  pair-is e = rw (← T e) (same-test
-    (eqb (slotListLength slots e) (slotListLength slots d) && eqb (slotProcedure slots e) (slotProcedure slots d)) (eqb (precedenceIn slots e) (precedenceIn slots d))
+  pair-is e = same-test (isOf (slotListLength slots d) (slotProcedure slots d) (slotOf slots e)) (eqb (precedenceIn slots e) (precedenceIn slots d))
     (λ h.
-      let l = eqb-true (slotListLength slots e) (slotListLength slots d)
-            (and-left (eqb (slotListLength slots e) (slotListLength slots d)) (eqb (slotProcedure slots e) (slotProcedure slots d)) h) in
-      let f = eqb-true (slotProcedure slots e) (slotProcedure slots d)
-            (and-right (eqb (slotListLength slots e) (slotListLength slots d)) (eqb (slotProcedure slots e) (slotProcedure slots d)) h) in
-      eq-eqb (precedenceIn slots e) (precedenceIn slots d) (one-number (getD slots (slotAt e) 0) (getD slots (slotAt d) 0) l f))
+      let t = is-of (slotListLength slots d) (slotProcedure slots d) (slotOf slots e) h in
+      eq-eqb (precedenceIn slots e) (precedenceIn slots d) (one-number (getD slots (slotAt e) 0) (getD slots (slotAt d) 0) (T e ∙ t .0) (t .1)))
     (λ h.
       let t = two-numbers (getD slots (slotAt e) 0) (getD slots (slotAt d) 0) (eqb-true (precedenceIn slots e) (precedenceIn slots d) h) in
-      and-both (eqb (slotListLength slots e) (slotListLength slots d)) (eqb (slotProcedure slots e) (slotProcedure slots d))
-        (eq-eqb (slotListLength slots e) (slotListLength slots d) (t .0)) (eq-eqb (slotProcedure slots e) (slotProcedure slots d) (t .1))))
+      of-is (slotListLength slots d) (slotProcedure slots d) (slotOf slots e) (sym (T e) ∙ t .0) (t .1))
     where
       one-number : (v w : ℕ) → v / 256 % 256 ≡ w / 256 % 256 → 255 - v % 256 ≡ 255 - w % 256 → v % 65536 ≡ w % 65536
       one-number v w h i = omega arith

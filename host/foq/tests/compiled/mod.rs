@@ -5,7 +5,7 @@
 // Each test uses a part of this.
 #![allow(dead_code)]
 
-use crate::counts::Counts;
+use crate::counts::{count, Counts};
 use crate::lent::Workspace;
 use crate::room::Room;
 use crate::steps::count_steps;
@@ -57,6 +57,19 @@ impl Both {
     pub fn circuit(&mut self, table: &[u8], n: u32) -> Result<Vec<u8>, u32> {
         let lent = (&mut self.room, &mut self.workspace);
         compile_of_both(lent, table, n, (LONGEST_CIRCUIT, SHORTEST_WORKSPACE))
+    }
+
+    /// The circuit, where there is one; its number is counted.
+    pub fn counted(
+        &mut self,
+        table: &[u8],
+        n: u32,
+        numbers: &mut Counts<u32>,
+    ) -> Option<Vec<u8>> {
+        let given = self.circuit(table, n);
+        let number = given.as_ref().err().copied().unwrap_or(0);
+        count(numbers, number, true);
+        given.ok()
     }
 }
 
