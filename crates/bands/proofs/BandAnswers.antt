@@ -1,7 +1,7 @@
 -- The ways out of `draw`, `draw_from` and `page_band`: the answer and the text are those of the band that document 02 asks for.
 use mathlib.Core.Path.{_≡_, refl, sym, ap, _∙_}
 use mathlib.Core.Bool.{true, false, _&&_}
-use mathlib.Core.List.{List, []}
+use mathlib.Core.List.{List}
 use Prim.Native.Nat.{ℕ, zero, suc, _-_, _^_, _≤_, _<_}
 use native.Mathlib.Nat.{zero-add}
 use native.Mathlib.Omega.{arith}
@@ -11,14 +11,14 @@ use lib.ListN.{length, replicate}
 use lib.Dec.{ltb, leb}
 use Rattle.limits.specs.Sizes.{marksLength}
 use Rattle.model.specs.Limits.{mostWires, mostCircuit, headerLength, notWellFormed}
-use Rattle.model.specs.Reading.{Input, Parsed, parsed, refused}
+use Rattle.model.specs.Reading.{Input, Parsed, parsed, refused, andThen}
 use Rattle.model.specs.Gates.{Gate}
 use Rattle.model.specs.Circuit.{Circuit}
 use Rattle.model.specs.Answers.{Outcome, gives, refuses, after, require, circuitRead}
 use Rattle.model.specs.Page.{bandGates, dash, band, Band, readBand, placeOf, drawn, headerWires, bandAt, pageBand, lentAfter, textAfter}
 use Rattle.model.proofs.BooleanLaws.{byLt, and-false-right}
 use Rattle.model.proofs.PageBands.{band-most, band-formed, page-refused, refused-number}
-use Rattle.circuit.specs.GatesInBytes.{inputAt}
+use Rattle.circuit.specs.GatesInBytes.{inputAt, settled}
 use Rattle.circuit.specs.Header.{circuitAfter}
 use Rattle.circuit.proofs.CircuitReading.{header-short, read-gives}
 use Rattle.answers.specs.Structs.{headerOf, bandAnswer, refusedBand}
@@ -27,43 +27,33 @@ use Rattle.answers.specs.declared.PageBand.{PageBand}
 use Rattle.marks.specs.declared.BandEnd.{BandEnd}
 use Rattle.marks.specs.declared.BandRead.{BandRead}
 use Rattle.marks.specs.declared.BandRead.the-variants.{Gates, NoBand}
-use Rattle.marks.specs.Columns.{Banded, banded, unread, markFrom, bandedIn}
+use Rattle.marks.specs.Columns.{Kept, markFrom, bandParsed}
 use Rattle.bands.specs.MarkedRows.{rowsAt}
-use Rattle.bands.proofs.KeptMarks.{band-kept, markRead, marked-read}
+use Rattle.bands.proofs.KeptMarks.{markGates, band-kept, markRead, marked-read}
 
--- what was counted, what is left and what was kept
-counted : {k l : ℕ} {i j : Input} {a b : List ℕ} → banded k i a ≡ banded l j b → (k ≡ l) × (i ≡ j) × (a ≡ b)
-counted e = (ap (λ x. number x) e, ap (λ x. rest x) e, ap (λ x. columns x) e)
-  where
-    number : Banded → ℕ
-    number (banded k i a) = k
-    number unread = 0
-    rest : Banded → Input
-    rest (banded k i a) = i
-    rest unread = record { bytes = []; records = 0 }
-    columns : Banded → List ℕ
-    columns (banded k i a) = a
-    columns unread = []
+-- what is kept and what is left
+parsed-same : {A : Type 0} {a b : A} {i j : Input} → parsed a i ≡ parsed b j → (a ≡ b) × (i ≡ j)
+parsed-same e = (cc, cc)
 
-banded-unread : {A : Type 0} {k : ℕ} {i : Input} {a : List ℕ} → banded k i a ≡ unread → A
-banded-unread e = let z : _≡_ {A = ℕ} 0 1 = cc in absurd (omega arith)
+parsed-refused : {A B : Type 0} {a : A} {i : Input} {k : ℕ} → parsed a i ≡ refused k → B
+parsed-refused e = let z : _≡_ {A = ℕ} 0 1 = cc in absurd (omega arith)
 
 -- the ways out of `draw`, by what was read from a place on
 module _ (bs : List ℕ) (at most : ℕ) (few : most < 2 ^ 8) (r : BandRead) (kept : List ℕ)
-    (is : bandedIn bs r kept ≡ markFrom most bandGates 0 (inputAt bs at) (replicate marksLength dash)) where
+    (is : bandParsed bs r kept ≡ settled (markFrom most bandGates 0 (inputAt bs at) (replicate marksLength dash))) where
   abbrev o : Outcome Band
   o = drawn bs most (readBand most bandGates (inputAt bs at))
 
-  marked : bandedIn bs r kept ≡ markRead 0 (replicate marksLength dash) (readBand most bandGates (inputAt bs at))
-  marked = is ∙ marked-read most bandGates 0 (inputAt bs at) (replicate marksLength dash)
+  marked : bandParsed bs r kept ≡ settled (markRead 0 (replicate marksLength dash) (readBand most bandGates (inputAt bs at)))
+  marked = is ∙ ap settled (marked-read most bandGates 0 (inputAt bs at) (replicate marksLength dash))
 
   module _ (e : r ≡ NoBand) where
     none : o ≡ refuses notWellFormed
-    unfolding drawn bandedIn markRead
+    unfolding drawn bandParsed settled andThen
     none = go (readBand most bandGates (inputAt bs at)) (rw e at marked)
       where
-        go : (x : Parsed (List Gate)) → unread ≡ markRead 0 (replicate marksLength dash) x → drawn bs most x ≡ refuses notWellFormed
-        go (parsed gs j) f = banded-unread (sym f)
+        go : (x : Parsed (List Gate)) → refused notWellFormed ≡ settled (markRead 0 (replicate marksLength dash) x) → drawn bs most x ≡ refuses notWellFormed
+        go (parsed gs j) f = parsed-refused (sym f)
         go (refused k) f = refl
 
     pub none-answer : (a : PageBand) → a ≡ refusedBand notWellFormed → a ≡ bandAnswer o
@@ -76,20 +66,21 @@ module _ (bs : List ℕ) (at most : ℕ) (few : most < 2 ^ 8) (r : BandRead) (ke
 
   module _ (end : BandEnd) (e : r ≡ Gates end) where
     some : o ≡ gives (record { text = rowsAt kept (end .count) most 1; next = placeOf bs (inputAt bs (end .next)) })
-    unfolding drawn bandedIn markRead
+    unfolding drawn bandParsed settled andThen
     some = go (readBand most bandGates (inputAt bs at)) refl (rw e at marked)
       where
         go : (x : Parsed (List Gate)) → readBand most bandGates (inputAt bs at) ≡ x →
-            banded (end .count) (inputAt bs (end .next)) kept ≡ markRead 0 (replicate marksLength dash) x →
+            parsed (record { count = end .count; marks = kept }) (inputAt bs (end .next)) ≡ settled (markRead 0 (replicate marksLength dash) x) →
             drawn bs most x ≡ gives (record { text = rowsAt kept (end .count) most 1; next = placeOf bs (inputAt bs (end .next)) })
         go (parsed gs j) q f =
-            let c = counted f in
-            let count : end .count ≡ length gs = c .0 ∙ zero-add (length gs) in
+            let same = parsed-same f in
+            let count : end .count ≡ length gs = ap (λ (x : Kept). x .count) (same .0) ∙ zero-add (length gs) in
+            let columns : kept ≡ markGates 0 gs (replicate marksLength dash) = ap (λ (x : Kept). x .marks) (same .0) in
             let rows : rowsAt kept (end .count) most 1 ≡ band most gs =
-                rw (c .2, count) (band-kept most (omega arith) gs (band-formed most bandGates (inputAt bs at) gs j q)
+                rw (columns, count) (band-kept most (omega arith) gs (band-formed most bandGates (inputAt bs at) gs j q)
                   (band-most most bandGates (inputAt bs at) gs j q)) in
-            rw (rows, c .1)
-        go (refused k) q f = banded-unread f
+            rw (rows, same .1)
+        go (refused k) q f = parsed-refused f
 
     pub some-answer : (size next : ℕ) → size ≡ length (rowsAt kept (end .count) most 1) → next ≡ placeOf bs (inputAt bs (end .next)) →
         record { number = 0; length = size; next = next } ≡ bandAnswer o

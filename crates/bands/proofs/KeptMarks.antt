@@ -24,7 +24,7 @@ use Rattle.model.proofs.AscendingWires.{within-head, within-tail, within-member
 use Rattle.model.proofs.RoundTrip.{AllWellFormed, formed}
 use Rattle.model.proofs.PageMarks.{wires-are}
 use Rattle.model.proofs.PageBands.{band-end, band-gate}
-use Rattle.marks.specs.Columns.{spanOf, inside, markAll, markBars, markGate, Banded, banded, unread, markThen, markFrom}
+use Rattle.marks.specs.Columns.{spanOf, inside, markAll, markBars, markGate, Kept, markFrom}
 use Rattle.marks.proofs.MarkedBand.{from-end, from-more}
 use Rattle.bands.specs.MarkedRows.{marked, marksAt, rowsAt}
 
@@ -256,19 +256,18 @@ module _ (most : ℕ) (few : most ≤ mostWires) where
         (rw (length-replicate marksLength dash) (omega arith)) most 1 (omega arith)
 
 -- Reading the gates of a band and marking them in one go is reading them and then marking them.
-unfoldable pub markRead : ℕ → List ℕ → Parsed (List Gate) → Banded
-markRead column kept (parsed gs j) = banded (column + length gs) j (markGates column gs kept)
-markRead column kept (refused k) = unread
+abbrev pub markRead : ℕ → List ℕ → Parsed (List Gate) → Parsed Kept
+markRead column kept x = andThen x (λ gs j. parsed (record { count = column + length gs; marks = markGates column gs kept }) j)
 
 -- one gate before others
 mark-first : (column : ℕ) (g : Gate) (kept : List ℕ) (x : Parsed (List Gate)) →
     markRead (suc column) (markGate column g kept) x ≡ markRead column kept (andThen x (λ gs l. parsed (g ∷ gs) l))
-unfolding markRead andThen markGates
+unfolding andThen markGates
 mark-first column g kept (parsed gs j) = let e : suc column + length gs ≡ column + suc (length gs) = omega arith in rw e
 mark-first column g kept (refused k) = refl
 
 pub marked-read : (most k column : ℕ) (i : Input) (kept : List ℕ) → markFrom most k column i kept ≡ markRead column kept (readBand most k i)
-unfolding markRead markGates andThen markThen markFrom readBand
+unfolding markGates andThen markFrom readBand
 marked-read most zero column i kept = rw (add-zero column)
 marked-read most (suc k) column i kept = byEq (length (i .bytes)) 0
     (λ e. rw (from-end most (suc k) column i kept e, band-end most (suc k) i e, add-zero column))
@@ -280,7 +279,7 @@ marked-read most (suc k) column i kept = byEq (length (i .bytes)) 0
     go : (x : Parsed Gate) →
         ((g : Gate) (j : Input) → markFrom most k (suc column) j (markGate column g kept) ≡
           markRead (suc column) (markGate column g kept) (readBand most k j)) →
-        markThen column kept x (markFrom most k (suc column)) ≡
+        andThen x (λ g j. markFrom most k (suc column) j (markGate column g kept)) ≡
         markRead column kept (andThen x (λ g j. andThen (readBand most k j) (λ gs l. parsed (g ∷ gs) l)))
     go (parsed g j) later = later g j ∙ mark-first column g kept (readBand most k j)
     go (refused r) later = refl

@@ -31,7 +31,7 @@ unfolding settled
 settled-parsed (parsed b j) a i e = sym e
 settled-parsed (refused k) a i e = let z : _≡_ {A = ℕ} 0 1 = cc in absurd (omega arith)
 
-settled-refused : {A B : Type 0} (p : Parsed A) (k : ℕ) (f : A → Input → Parsed B) → refused k ≡ settled p →
+pub settled-refused : {A B : Type 0} (p : Parsed A) (k : ℕ) (f : A → Input → Parsed B) → refused k ≡ settled p →
     refused notWellFormed ≡ settled (andThen p f)
 unfolding settled andThen
 settled-refused (parsed b j) k f e = let z : _≡_ {A = ℕ} 0 1 = cc in absurd (omega arith)

@@ -7,62 +7,55 @@ use native.Mathlib.Omega.{arith}
 use borrow.Author.Needs.{needs}
 use borrow.Author.Tests.{eq-eqb, ne-eqb}
 use lib.ListN.{length, length-drop}
-use Rattle.model.specs.Limits.{notWellFormed}
-use Rattle.model.specs.Reading.{Input, Parsed, parsed, refused}
-use Rattle.model.specs.Gates.{Gate}
+use Rattle.model.specs.Reading.{Input, Parsed, parsed, andThen}
 use Rattle.model.specs.Circuit.{readGate}
 use Rattle.model.specs.Page.{bandGates}
 use Rattle.circuit.specs.GatesInBytes.{inputAt, settled, gateIn, gateParsed}
 use Rattle.circuit.specs.declared.GateAt.{GateAt}
 use Rattle.circuit.specs.declared.GateRead.{GateRead}
 use Rattle.circuit.specs.declared.GateRead.the-variants.{Found, NoGate}
-use Rattle.circuit.proofs.GateReading.{settled-parsed}
+use Rattle.circuit.proofs.GateReading.{settled-parsed, settled-refused}
 use Rattle.marks.specs.declared.BandRead.the-variants.{Gates, NoBand}
-use Rattle.marks.specs.Columns.{markGate, Banded, banded, unread, markThen, markFrom, bandedIn}
+use Rattle.marks.specs.Columns.{markGate, Kept, markFrom, bandParsed}
 
 -- no byte is left, and some are
-pub from-end : (most k column : ℕ) (i : Input) (marks : List ℕ) → length (i .bytes) ≡ 0 → markFrom most k column i marks ≡ banded column i marks
+pub from-end : (most k column : ℕ) (i : Input) (marks : List ℕ) → length (i .bytes) ≡ 0 →
+    markFrom most k column i marks ≡ parsed (record { count = column; marks = marks }) i
 unfolding markFrom
 from-end most zero column i marks e = refl
 from-end most (suc k) column i marks e = rw (eq-eqb (length (i .bytes)) 0 e, markFrom)
 
 pub from-more : (most k column : ℕ) (i : Input) (marks : List ℕ) → 0 < k → (length (i .bytes) ≡ 0 → ⊥) →
-    markFrom most k column i marks ≡ markThen column marks (readGate most i) (markFrom most (k - 1) (suc column))
+    markFrom most k column i marks ≡ andThen (readGate most i) (λ g j. markFrom most (k - 1) (suc column) j (markGate column g marks))
 unfolding markFrom
 from-more most zero column i marks h f = absurd (omega arith)
 from-more most (suc k) column i marks h f = let e : suc k - 1 ≡ k = omega arith in rw (ne-eqb (length (i .bytes)) 0 f, markFrom, e)
 
-no-gate : (column : ℕ) (marks : List ℕ) (p : Parsed Gate) (others : Input → List ℕ → Banded) → refused notWellFormed ≡ settled p →
-    markThen column marks p others ≡ unread
-unfolding settled markThen
-no-gate column marks (parsed g i) others e = let z : _≡_ {A = ℕ} 0 1 = cc in absurd (omega arith)
-no-gate column marks (refused k) others e = refl
-
-module _ (bs marks : List ℕ) (most column at : ℕ) (whole : Banded)
+module _ (bs marks : List ℕ) (most column at : ℕ) (whole : Parsed Kept)
     (inv : whole ≡ markFrom most (bandGates - column) column (inputAt bs at) marks) where
-  pub band-full : bandGates ≤ column → bandedIn bs (Gates (record { count = column; next = at })) marks ≡ whole
-  unfolding bandedIn markFrom
+  pub band-full : bandGates ≤ column → bandParsed bs (Gates (record { count = column; next = at })) marks ≡ settled whole
+  unfolding bandParsed markFrom settled
   band-full h = let z : bandGates - column ≡ 0 = omega arith in rw (inv, z)
 
-  pub band-ended : length bs ≤ at → bandedIn bs (Gates (record { count = column; next = at })) marks ≡ whole
-  unfolding bandedIn
+  pub band-ended : length bs ≤ at → bandParsed bs (Gates (record { count = column; next = at })) marks ≡ settled whole
+  unfolding bandParsed settled
   band-ended h =
       let z : length (inputAt bs at .bytes) ≡ 0 = rw (length-drop at bs) (omega arith) in
-      rw (inv) (sym (from-end most (bandGates - column) column (inputAt bs at) marks z))
+      rw (inv, from-end most (bandGates - column) column (inputAt bs at) marks z)
 
   module _ (l : column < bandGates) (h : at < length bs) (x : GateRead) (p : gateParsed bs x ≡ settled (readGate most (inputAt bs at))) where
-    more : whole ≡ markThen column marks (readGate most (inputAt bs at)) (markFrom most (bandGates - column - 1) (suc column))
+    more : whole ≡ andThen (readGate most (inputAt bs at)) (λ g j. markFrom most (bandGates - column - 1) (suc column) j (markGate column g marks))
     more = rw (inv)
         (from-more most (bandGates - column) column (inputAt bs at) marks (omega arith) (λ z.
         let e : length bs - at ≡ 0 = sym (length-drop at bs) ∙ z in absurd (omega arith)))
 
-    pub band-none : x ≡ NoGate → bandedIn bs NoBand marks ≡ whole
-    unfolding bandedIn gateParsed
-    band-none e = rw (more) (sym (no-gate column marks (readGate most (inputAt bs at)) _ (rw e at p)))
+    pub band-none : x ≡ NoGate → bandParsed bs NoBand marks ≡ settled whole
+    unfolding bandParsed gateParsed
+    band-none e = rw (more) (settled-refused (readGate most (inputAt bs at)) _ _ (rw e at p))
 
     pub band-next : (g : GateAt) → x ≡ Found g → (marks₁ : List ℕ) → marks₁ ≡ markGate column (gateIn bs g) marks →
         whole ≡ markFrom most (bandGates - (column + 1)) (column + 1) (inputAt bs (g .next)) marks₁
-    unfolding gateParsed markThen
+    unfolding gateParsed andThen
     band-next g e marks₁ q =
         let found : readGate most (inputAt bs at) ≡ parsed (gateIn bs g) (inputAt bs (g .next)) =
             settled-parsed (readGate most (inputAt bs at)) (gateIn bs g) (inputAt bs (g .next)) (rw e at p) in

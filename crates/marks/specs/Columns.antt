@@ -6,7 +6,8 @@ use mathlib.Core.List.{List, [], _∷_}
 use lib.ListN.{length, set}
 use lib.Dec.{eqb}
 use Rattle.limits.specs.Sizes.{wireCount}
-use Rattle.model.specs.Reading.{Input, Parsed, parsed, refused}
+use Rattle.model.specs.Limits.{notWellFormed}
+use Rattle.model.specs.Reading.{Input, Parsed, parsed, refused, andThen}
 use Rattle.model.specs.Lists.{range}
 use Rattle.model.specs.Gates.{Controls, Gate, targets}
 use Rattle.model.specs.Circuit.{wires, controlsOf, readGate}
@@ -45,23 +46,18 @@ markControls column cs marks = markAll plus column (cs .ones) (markAll letterO c
 abbrev pub markGate : ℕ → Gate → List ℕ → List ℕ
 markGate column g marks = markAll (letter g) column (targets g) (markControls column (controlsOf g) (markBars column (wires g) marks))
 
--- the gates of a band: how many there are, what is left behind them, and their marks; or none
-pub data Banded : Type 0 where
-  banded : ℕ → Input → List ℕ → Banded
-  unread : Banded
+-- what is kept of the gates of a band: how many there are, and their marks
+pub record Kept : Type 0 where
+  pub count : ℕ
+  pub marks : List ℕ
 
--- the marks of the next gate, if it is one, and then the others
-unfoldable pub markThen : ℕ → List ℕ → Parsed Gate → (Input → List ℕ → Banded) → Banded
-markThen column marks (parsed g i) others = others i (markGate column g marks)
-markThen column marks (refused k) others = unread
+-- at most k gates over wires 1 to `most`, as many as there are, each marked as it is read, from this column on
+unfoldable pub markFrom : ℕ → ℕ → ℕ → Input → List ℕ → Parsed Kept
+markFrom most zero column i marks = parsed (record { count = column; marks = marks }) i
+markFrom most (suc k) column i marks = elim (eqb (length (i .bytes)) 0) [ true ↦ parsed (record { count = column; marks = marks }) i | false ↦
+    andThen (readGate most i) (λ g j. markFrom most k (suc column) j (markGate column g marks)) ]
 
--- at most k gates over wires 1 to `most`, from this column on
-unfoldable pub markFrom : ℕ → ℕ → ℕ → Input → List ℕ → Banded
-markFrom most zero column i marks = banded column i marks
-markFrom most (suc k) column i marks = elim (eqb (length (i .bytes)) 0) [ true ↦ banded column i marks | false ↦
-    markThen column marks (readGate most i) (markFrom most k (suc column)) ]
-
--- what the code's answer says of the bytes
-unfoldable pub bandedIn : List ℕ → BandRead → List ℕ → Banded
-bandedIn bs (Gates e) marks = banded (e .count) (inputAt bs (e .next)) marks
-bandedIn bs NoBand marks = unread
+-- the code's answer and the marks behind it: what is kept of the gates and what is left behind them, or "14 circuit not well formed"
+unfoldable pub bandParsed : List ℕ → BandRead → List ℕ → Parsed Kept
+bandParsed bs (Gates e) marks = parsed (record { count = e .count; marks = marks }) (inputAt bs (e .next))
+bandParsed bs NoBand marks = refused notWellFormed

@@ -6,8 +6,8 @@ ghost use Rattle.limits.specs.Sizes.{wireCount};
 ghost use Rattle.model.specs.Gates.{noControls, targets};
 ghost use Rattle.model.specs.Circuit.{wires};
 ghost use Rattle.model.specs.Page.{bandGates, bar};
-ghost use Rattle.circuit.specs.GatesInBytes.{part, inputAt, gateWith, gateIn, controlsIn};
-ghost use Rattle.marks.specs.Columns.{spanFrom, spanOf, inside, markAll, markControls, markGate, markFrom, bandedIn};
+ghost use Rattle.circuit.specs.GatesInBytes.{part, inputAt, settled, gateWith, gateIn, controlsIn};
+ghost use Rattle.marks.specs.Columns.{spanFrom, spanOf, inside, markAll, markControls, markGate, markFrom, bandParsed};
 use circuit::{GateAt, GateRead, read_gate};
 use circuit::write::{higher, lower};
 use limits::{BAND_GATES, WIRE_COUNT};
@@ -134,8 +134,8 @@ fn mark_gate(marks: &mut [u8], column: u8, bytes: &[u8], gate: GateAt)
 
 // The marks of at most nineteen gates over wires 1 to `most` from a place on, as many as there are.
 pub fn mark_band(marks: &mut [u8], bytes: &[u8], from: usize, most: u8) -> BandRead
-    ensures { λ r. ⌜ bandedIn (now (bytes .entry)) r (now (marks .exit)) ≡
-        markFrom most bandGates 0 (inputAt (now (bytes .entry)) from) (now (marks .entry)) ⌝ }
+    ensures { λ r. ⌜ bandParsed (now (bytes .entry)) r (now (marks .exit)) ≡
+        settled (markFrom most bandGates 0 (inputAt (now (bytes .entry)) from) (now (marks .entry))) ⌝ }
 {
     let mut at = from;
     let mut column = 0u8;
