@@ -7,20 +7,19 @@ use mathlib.Core.List.{List, [], _∷_, _++_}
 use Prim.Native.Nat.{ℕ, suc, _+_, _*_, _^_, _≤_, _<_}
 use native.Mathlib.Omega.{arith}
 use borrow.Author.Tests.{ltb-true}
-use lib.ListN.{getD}
 use lib.Dec.{ltb}
 use Rattle.model.specs.Limits.{blockLength, highBit}
 use Rattle.model.specs.Syntax.{Program}
 use Rattle.model.specs.Lists.{member}
-use Rattle.model.specs.Meaning.{State, bit, stateOf, wordOf, endState, endWord}
+use Rattle.model.specs.Meaning.{State, stateOf, endState, endWord}
 use Rattle.model.specs.Gates.{Gate, flip, swap, act, acts, targets}
-use Rattle.model.specs.Circuit.{Circuit, wires, within, blockOf, circuitBlock}
+use Rattle.model.specs.Circuit.{Circuit, wires, within, wireBit, blockOf, circuitBlock}
 use Rattle.model.specs.Answers.{Outcome, gives, refuses, after, require, Block, circuitRead, circuitRun}
 use Rattle.model.proofs.OutcomeLaws.{not-both}
 use Rattle.model.proofs.ListLaws.{member-head, member-tail, member-skip, member-nil}
 use Rattle.model.proofs.AscendingWires.{within-member}
 use Rattle.model.proofs.GateLaws.{act-frame}
-use Rattle.model.proofs.WordBits.{past-bit, word-below, word-zero, word-wire, same-block, block-bit}
+use Rattle.model.proofs.WordBits.{word-below, word-zero, block-wire}
 use Rattle.model.proofs.RoundTrip.{AllWellFormed, WellFormed, formed, write-circuitRead}
 use Rattle.agreement.proofs.ProgramFacts.{Zero}
 
@@ -53,19 +52,13 @@ past-wires : (c : Circuit) → WellFormed c → (word : ℕ) → word < 2 ^ (c .
 past-wires c f word low w past =
     past-same (c .dataWires + c .ancillas) w past (c .gates) (f .all-gates) (stateOf word) ∙ word-zero (c .dataWires) word low w (omega arith)
 
--- a block's bits past wire m are zero: bit k of byte j, "counted from 0 and from the lowest bit", is that of wire 8j + k + 1
+-- a block's bits past wire m are zero
 abbrev pub ZeroPast : ℕ → List ℕ → Type 0
-ZeroPast m block = (j k : ℕ) → j < blockLength → k < 8 → m ≤ 8 * j + k → bit (getD block j 0) k ≡ false
+ZeroPast m block = (w : ℕ) → m < w → w ≤ 8 * blockLength → wireBit block w ≡ false
 
--- so they are in the block of a word below 2 ^ m
-word-past : (m word : ℕ) → word < 2 ^ m → ZeroPast m (blockOf (stateOf word))
-word-past m word low j k hj hk past = block-bit word j k hj hk ∙ past-bit m word (8 * j + k) low past
-
--- and in the block of a state that is zero past wire m
+-- so they are in the block of a state that is zero past wire m
 state-past : (m : ℕ) (s : State) → Zero (suc m) s → ZeroPast m (blockOf s)
-state-past m s zeros = subst (ZeroPast m)
-    (same-block blockLength 1 (stateOf (wordOf m s)) s (word-wire m s zeros))
-    (word-past m (wordOf m s) (word-below m 1 s))
+state-past m s zeros w past few = block-wire s w (omega arith) few ∙ zeros w past
 
 -- "bits past the last wire are zero": in the block of every well-formed circuit, from every word of its data wires
 circuit-past : (c : Circuit) → WellFormed c → (word : ℕ) → word < 2 ^ (c .dataWires) →
@@ -92,10 +85,10 @@ run-past bytes word {b} = go (circuitRead bytes) refl
     go (refuses k) r e = not-both e
 
 -- an end word has no bit but those of its qubits
-end-below : (P : Program) (n word : ℕ) → endWord P n word < 2 ^ n
+pub end-below : (P : Program) (n word : ℕ) → endWord P n word < 2 ^ n
 unfolding endWord
 end-below P n word = word-below n 1 (endState P n (stateOf word))
 
 -- so "every other bit is zero" in its block
 pub end-past : (P : Program) (n word : ℕ) → ZeroPast n (blockOf (stateOf (endWord P n word)))
-end-past P n word = word-past n (endWord P n word) (end-below P n word)
+end-past P n word = state-past n (stateOf (endWord P n word)) (word-zero n (endWord P n word) (end-below P n word))

@@ -3,7 +3,7 @@ use mathlib.Core.Path.{_≡_, refl, sym, ap, _∙_, subst}
 use mathlib.Core.Logic.{_≢_, _⊎_, inl, inr}
 use mathlib.Core.Bool.{false}
 use mathlib.Core.List.{List, []}
-use Prim.Native.Nat.{ℕ, zero, suc, _^_, _≤_, _<_}
+use Prim.Native.Nat.{ℕ, zero, suc, _-_, _^_, _≤_, _<_}
 use native.Mathlib.Omega.{arith}
 use borrow.Author.Tests.{lt-ltb, le-leb, lt-leb}
 use lib.ListN.{length}
@@ -11,14 +11,15 @@ use lib.Dec.{leb}
 use Rattle.model.specs.Limits.{mostProcedures, mostQubits, headerLength, leastWorkspace, blockLength, noRoom}
 use Rattle.model.specs.Syntax.{Program, count}
 use Rattle.model.specs.Faults.{programFaults}
-use Rattle.model.specs.Meaning.{State, stateOf, endState, endWord}
+use Rattle.model.specs.Meaning.{State, bit, stateOf, endState, endWord}
 use Rattle.model.specs.Reach.{anyLacksRemoval, anyTooWide}
 use Rattle.model.specs.Emission.{emission, peak}
-use Rattle.model.specs.Circuit.{write, blockOf, circuitBlock}
-use Rattle.model.specs.Answers.{gives, refuses, after, require, accepted, fit, fitted, circuit, usable, run, compile, circuitRead, circuitRun}
+use Rattle.model.specs.Circuit.{write, wireBit, blockOf, circuitBlock}
+use Rattle.model.specs.Answers.{gives, refuses, after, require, accepted, fit, fitted, circuit, usable, run, compile, circuitRead, Block, circuitRun}
 use Rattle.model.specs.Demand.{Demand3}
 use Rattle.model.proofs.BooleanLaws.{byEq}
-use Rattle.model.proofs.WordBits.{word-zero, word-wire, same-block}
+use Rattle.model.proofs.OutcomeLaws.{gives-same}
+use Rattle.model.proofs.WordBits.{word-zero, word-wire, same-block, block-bit}
 use Rattle.model.proofs.ReachAndRank.{Named}
 use Rattle.model.proofs.ReadingLaws.{read-named, read-count}
 use Rattle.model.proofs.Acceptance.{accepted-exactly, compile-gives}
@@ -27,6 +28,7 @@ use Rattle.agreement.proofs.Agreement.{agreement, ancillas-zero}
 use Rattle.agreement.proofs.GateBound.{gate-bound}
 use Rattle.agreement.proofs.FirstMisfit.{FirstMisfit, AllFit, fit-all, all-fit, fit-first, first-fit}
 use Rattle.agreement.proofs.WellFormedEmission.{FittingCircuit, emission-well-formed}
+use Rattle.agreement.proofs.BitsPastTheLastWire.{ZeroPast, end-past}
 
 -- a program is accepted with n qubits
 pub record Accepted (n : ℕ) (P : Program) : Type 0 where
@@ -67,6 +69,18 @@ run-ends : (n : ℕ) (P : Program) → Accepted n P → (bytes : List ℕ) → c
 unfolding circuitRun after require circuit
 run-ends n P a bytes reads word h = rw (reads, lt-ltb word (2 ^ n) h, circuit-ends n P a word h)
 
+-- the block that it gives is the end word's: each data wire holds its bit, and every other bit is zero
+module _ (n : ℕ) (P : Program) (a : Accepted n P) (bytes : List ℕ) (reads : circuitRead bytes ≡ gives (circuit P n)) (word : ℕ) (low : word < 2 ^ n)
+    (block : Block) (given : circuitRun bytes word ≡ gives block) where
+  ends : block .bits ≡ blockOf (stateOf (endWord P n word))
+  ends = ap (λ (b : Block). b .bits) (gives-same (sym given ∙ run-ends n P a bytes reads word low))
+
+  wires-hold : (i : ℕ) → 1 ≤ i → i ≤ n → wireBit (block .bits) i ≡ bit (endWord P n word) (i - 1)
+  wires-hold i some in-n = let few : n ≤ mostQubits = a .few in rw ends (block-bit (endWord P n word) i some (omega arith))
+
+  others-zero : ZeroPast n (block .bits)
+  others-zero = rw ends (end-past P n word)
+
 -- run answers the end word of an accepted table
 pub run-answers : (table : List ℕ) (n : ℕ) (P : Program) → accepted table n ≡ gives P → (word workspace : ℕ) → word < 2 ^ n → leastWorkspace ≤ workspace →
     run table n word workspace ≡ gives (endWord P n word)
@@ -92,6 +106,8 @@ module _ (table : List ℕ) (n room : ℕ) (P : Program) (accepts : accepted tab
         reads = reads;
         bounded = gate-bound P (a .named) (a .passes10) (a .passes11) n;
         runs = run-ends n P a (write (circuit P n)) reads;
+        holds = wires-hold n P a (write (circuit P n)) reads;
+        zeros = others-zero n P a (write (circuit P n)) reads;
         answers = run-answers table n P accepts }
 
 -- Demand 3, for every table that compile gives a circuit of; and the circuit has its place in the room.

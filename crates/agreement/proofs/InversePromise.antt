@@ -7,22 +7,18 @@ use borrow.Author.Tests.{le-leb}
 use lib.ListN.{length}
 use Rattle.model.specs.Limits.{leastWorkspace}
 use Rattle.model.specs.Syntax.{Program}
-use Rattle.model.specs.Meaning.{stateOf, endState, endWord}
+use Rattle.model.specs.Meaning.{endWord}
 use Rattle.model.specs.Writing.{writeTable}
 use Rattle.model.specs.Inverse.{inverseProgram}
 use Rattle.model.specs.Answers.{gives, after, require, accepted, run, inverseTable}
 use Rattle.model.specs.Undoing.{Undoes}
-use Rattle.model.proofs.WordBits.{word-below}
 use Rattle.model.proofs.Acceptance.{Passes, accepted-exactly, inverse-gives}
 use Rattle.model.proofs.RoundTrip.{Bytes}
 use Rattle.model.proofs.WrittenTables.{table-written, table-fits, table-read}
 use Rattle.model.proofs.InverseTables.{inverse-fits, inverse-long, inverse-twice}
+use Rattle.agreement.proofs.BitsPastTheLastWire.{end-below}
 use Rattle.agreement.proofs.CompilePromise.{run-answers}
 use Rattle.agreement.proofs.InverseProgram.{same-ten, same-eleven, same-twelve, word-undone}
-
-end-below : (P : Program) (n word : ℕ) → endWord P n word < 2 ^ n
-unfolding endWord
-end-below P n word = word-below n 1 (endState P n (stateOf word))
 
 -- one table's run, then the run of another whose program is the inverse, gives the start word
 run-then : (table undone : List ℕ) (n : ℕ) (P : Program) → accepted table n ≡ gives P → accepted undone n ≡ gives (inverseProgram P) →

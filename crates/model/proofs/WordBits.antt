@@ -11,7 +11,7 @@ use lib.ListN.{getD}
 use lib.Pow.{pow-mono, shr-lt, pow-lt, pow-add, shl-shr, shl-exact}
 use Rattle.model.specs.Limits.{blockLength}
 use Rattle.model.specs.Meaning.{State, bit, stateOf, digit, wordFrom, wordOf}
-use Rattle.model.specs.Circuit.{blockFrom, blockOf}
+use Rattle.model.specs.Circuit.{wireBit, blockFrom, blockOf}
 use Rattle.model.proofs.BooleanLaws.{byLt}
 use mathlib.Core.Logic.{_≢_}
 use lib.Bits.{bitAnd, bitXor, and-mask, xor-shr, xor-mod, xor-zero-r, shifted-even}
@@ -160,7 +160,7 @@ unfolding digit
 digit-mark true = refl
 digit-mark false = refl
 
--- "Wire w is bit (w − 1) mod 8 of byte (w − 1) div 8": bit k of byte j is the wire 8j + k further on
+-- bit k of byte j is the wire 8j + k further on
 block-from : (count a : ℕ) (s : State) (j k : ℕ) → j < count → k < 8 → bit (getD (blockFrom count a s) j 0) k ≡ s (a + (8 * j + k))
 unfolding blockFrom
 block-from zero a s j k h l = absurd (omega arith)
@@ -168,8 +168,14 @@ block-from (suc count) a s zero k h l = word-bit 8 a s k l ∙ ap s (let same : 
 block-from (suc count) a s (suc j) k h l =
     block-from count (a + 8) s j k (omega arith) l ∙ ap s (let same : a + 8 + (8 * j + k) ≡ a + (8 * suc j + k) = omega arith in same)
 
--- so bit k of byte j of a word's block is bit 8j + k of the word: past the word's bits all are zero
-pub block-bit : (word j k : ℕ) → j < blockLength → k < 8 → bit (getD (blockOf (stateOf word)) j 0) k ≡ bit word (8 * j + k)
+-- "Wire w is bit (w − 1) mod 8 of byte (w − 1) div 8": in the block of a state each wire holds what it does in the state
+pub block-wire : (s : State) (w : ℕ) → 1 ≤ w → w ≤ 8 * blockLength → wireBit (blockOf s) w ≡ s w
+block-wire s w some few = block-from blockLength 1 s ((w - 1) / 8) ((w - 1) % 8) (omega arith) (omega arith) ∙
+    ap s (let same : 1 + (8 * ((w - 1) / 8) + (w - 1) % 8) ≡ w = omega arith in same)
+
+-- so in the block of a word wire i holds bit i − 1
+pub block-bit : (word i : ℕ) → 1 ≤ i → i ≤ 8 * blockLength → wireBit (blockOf (stateOf word)) i ≡ bit word (i - 1)
 unfolding stateOf
-block-bit word j k h l = block-from blockLength 1 (stateOf word) j k h l ∙
-    ap (stateOf word) (let same : 1 + (8 * j + k) ≡ suc (8 * j + k) = omega arith in same)
+block-bit word zero some few = absurd (omega arith)
+block-bit word (suc k) some few =
+    block-wire (stateOf word) (suc k) some few ∙ ap (bit word) (let same : k ≡ suc k - 1 = omega arith in same)

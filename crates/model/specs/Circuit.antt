@@ -1,13 +1,13 @@
 -- "The circuit": its bytes, reading them (refusal 14), and the run of a circuit.
-use Prim.Native.Nat.{ℕ, zero, suc, _+_, _*_, _/_, _%_}
+use Prim.Native.Nat.{ℕ, zero, suc, _+_, _-_, _*_, _/_, _%_}
 use mathlib.Core.Bool.{Bool, true, false, not, _&&_}
 use mathlib.Core.List.{List, [], _∷_, _++_}
-use lib.ListN.{length}
+use lib.ListN.{length, getD}
 use lib.Dec.{eqb, ltb, leb}
 use Rattle.model.specs.Limits.{circuitEdition, mostQubits, mostWires, mostCircuit, blockLength, notWellFormed}
 use Rattle.model.specs.Reading.{Input, Parsed, parsed, andThen, provided, byte, optional, stands}
 use Rattle.model.specs.Lists.{member}
-use Rattle.model.specs.Meaning.{State, stateOf, wordFrom}
+use Rattle.model.specs.Meaning.{State, bit, stateOf, wordFrom}
 use Rattle.model.specs.Gates.{Controls, Gate, flip, swap, acts}
 
 -- "wires are 1 to n plus ancillas"
@@ -129,7 +129,11 @@ circuitOf i =
 unfoldable pub readCircuit : List ℕ → Parsed Circuit
 readCircuit bs = provided (leb (length bs) mostCircuit) notWellFormed (circuitOf (record { bytes = bs; records = 0 }))
 
--- "Wire w is bit (w − 1) mod 8 of byte (w − 1) div 8, counted from 0 and from the lowest bit": k bytes, the first bit wire a's
+-- "Wire w is bit (w − 1) mod 8 of byte (w − 1) div 8, counted from 0 and from the lowest bit": the bit of wire w in a block
+abbrev pub wireBit : List ℕ → ℕ → Bool
+wireBit block w = bit (getD block ((w - 1) / 8) 0) ((w - 1) % 8)
+
+-- so the block of a state, k bytes, the first bit wire a's
 unfoldable pub blockFrom : ℕ → ℕ → State → List ℕ
 blockFrom zero a s = []
 blockFrom (suc k) a s = wordFrom 8 a s ∷ blockFrom k (a + 8) s
