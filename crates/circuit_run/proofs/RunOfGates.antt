@@ -2,7 +2,6 @@
 use mathlib.Core.Path.{_≡_, refl, sym}
 use mathlib.Core.Bool.{true}
 use mathlib.Core.List.{List, _∷_}
-use mathlib.Core.Option.{Option, none}
 use Prim.Native.Nat.{ℕ, zero, suc, _-_, _≤_, _<_}
 use native.Mathlib.Numerals.{sub-one}
 use native.Mathlib.Omega.{arith}
@@ -16,6 +15,7 @@ use Rattle.model.specs.Reading.{Input, Parsed, parsed, refused, andThen}
 use Rattle.model.specs.Meaning.{State}
 use Rattle.model.specs.Gates.{Gate, act, acts}
 use Rattle.model.specs.Circuit.{gateIsWellFormed, readGate, readGates, blockOf}
+use Rattle.model.specs.Answers.{Outcome, refuses}
 use Rattle.model.proofs.BooleanLaws.{byLt}
 use Rattle.model.proofs.RoundTrip.{reads-gate, formed}
 use Rattle.wires.specs.StateOfABlock.{stateIn, inState}
@@ -31,7 +31,7 @@ use Rattle.circuit_run.specs.RunAnswers.{endedAs, ranOf}
 
 -- what was not read ran no gate
 ran-refused : {A : Type 0} (wires : Wires) (p : Parsed A) (f : A → Input → Parsed (List Gate)) → refused notWellFormed ≡ settled p →
-    ranOf wires (andThen p f) ≡ none
+    ranOf wires (andThen p f) ≡ refuses notWellFormed
 unfolding settled andThen ranOf
 ran-refused wires (parsed b j) f e = let z : _≡_ {A = ℕ} 0 1 = cc in absurd (omega arith)
 ran-refused wires (refused k) f e = refl
@@ -58,7 +58,7 @@ ran-more most zero i h = absurd (omega arith)
 ran-more most (suc n) i h = rw (sub-one, readGates)
 
 -- what the loop of `run_gates` keeps: the whole run is the run of the gates that are left, on the wires as they are
-module _ (bs : List ℕ) (at most left : ℕ) (wires : Wires) (whole : Option Wires)
+module _ (bs : List ℕ) (at most left : ℕ) (wires : Wires) (whole : Outcome Wires)
     (inv : whole ≡ ranOf wires (readGates most left (inputAt bs at))) where
   pub run-end : left ≤ 0 → IsBlock (wires .bits) → endedAs (leb (length bs) at) wires ≡ whole
   unfolding readGates ranOf acts
@@ -70,7 +70,7 @@ module _ (bs : List ℕ) (at most left : ℕ) (wires : Wires) (whole : Option Wi
       (λ l. rw (le-leb (length bs) at l, eq-eqb (length bs - at) 0 (omega arith))))
 
   module _ (h : 0 < left) (x : GateRead) (p : gateParsed bs x ≡ settled (readGate most (inputAt bs at))) where
-    pub run-bad : x ≡ NoGate → none ≡ whole
+    pub run-bad : x ≡ NoGate → refuses notWellFormed ≡ whole
     unfolding gateParsed
     run-bad e = rw (inv, ran-more most left (inputAt bs at) h) (sym (ran-refused wires (readGate most (inputAt bs at)) _ (rw e at p)))
 
