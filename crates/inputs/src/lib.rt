@@ -1,5 +1,6 @@
-// The inputs of a program: standard input, or the files that its arguments name; `-` names standard input.
+// The inputs of a program, standard input or the files that its arguments name, where `-` names standard input; and its output.
 use libc::STDIN_FILENO;
+use libc::STDOUT_FILENO;
 
 fn is_hyphen(name: &[u8]) -> bool {
     if name.len() != 1 {
@@ -27,4 +28,13 @@ pub fn close(fd: i32) {
     if fd != STDIN_FILENO {
         libc::close(fd);
     }
+}
+
+// Writes all of a text to standard output. Where that fails it answers false, and the error is printed.
+pub fn print(text: &[u8]) -> bool {
+    if io::write_all(STDOUT_FILENO, text) {
+        return true;
+    }
+    os::fail(b"standard output");
+    false
 }

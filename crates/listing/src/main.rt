@@ -11,7 +11,6 @@ ghost use Rattle.io.specs.Counts.{Counts};
 ghost use Rattle.text.specs.Inputs.{BeginsWith};
 use compile::compile;
 use libc::STDIN_FILENO;
-use libc::STDOUT_FILENO;
 use limits::{LEAST_WORKSPACE, MOST_CIRCUIT, MOST_LISTING, MOST_RECORDS, MOST_REMOVALS};
 use lines::list_circuit;
 use text::refusal_line;
@@ -88,7 +87,7 @@ fn list_descriptor(fd: i32) {
     let mut text = [0u8; MOST_LISTING];
     let count = io::read_full(fd, &mut buffer);
     let length = list_read(&mut text, &buffer, count);
-    io::write_all(STDOUT_FILENO, &text[..length]);
+    inputs::print(&text[..length]);
 }
 
 fn list_argument(i: usize) {

@@ -9,7 +9,6 @@ ghost use Rattle.text.specs.Inputs.{BeginsWith};
 ghost use Rattle.page.specs.Parts.{pagePart};
 use bands::page_band;
 use libc::STDIN_FILENO;
-use libc::STDOUT_FILENO;
 use limits::{MOST_BAND, MOST_CIRCUIT};
 use text::refusal_line;
 
@@ -61,8 +60,7 @@ fn print_page(fd: i32) {
     loop {
         let part = put_part_read(&mut text, &buffer, count, at);
         let length = part.length;
-        if !io::write_all(STDOUT_FILENO, &text[..length]) {
-            os::fail(b"standard output");
+        if !inputs::print(&text[..length]) {
             return;
         }
         if part.next <= at {

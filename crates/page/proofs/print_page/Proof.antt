@@ -5,10 +5,10 @@ use Rattle.page.proofs.print_page.Statement.{statement}
 use Rattle.page.proofs.print_page.Tie as tie
 
 abbrev Inv-loop : tie.InvT-loop
-Inv-loop fd buffer text₀ count at₀ t8 text at = Unit {0}
+Inv-loop fd buffer text₀ count at₀ text at = Unit {0}
 
 abbrev μ-loop : tie.MeasureT-loop
-μ-loop fd buffer text₀ count at₀ t8 text at = 2 ^ 64 - at
+μ-loop fd buffer text₀ count at₀ text at = 2 ^ 64 - at
 
 pub print-page-spec : {M : Type 1} → statement M
 print-page-spec = tie.close (tie.spec
@@ -19,8 +19,6 @@ print-page-spec = tie.close (tie.spec
     (λ c. search needs)
     (λ c κs. search needs)
     (λ c. search needs)
-    (λ c. search needs)
-    (λ c κs. search needs)
     (λ c. search needs)
     (λ c κs. search needs)
     (λ c. search needs)
