@@ -15,12 +15,13 @@ use Rattle.model.specs.Emission.{emission, gates, peak}
 use Rattle.model.specs.Circuit.{Circuit, encodeAll, fourBytes, write}
 use Rattle.model.specs.Answers.{gives, require, fitted, fit, circuit, usable, number, valueOr, roomAfter}
 use Rattle.model.proofs.BooleanLaws.{byLt}
+use Rattle.model.proofs.ListLaws.{not-in-nil}
 use Rattle.model.proofs.RoundTrip.{write-length}
 use Rattle.agreement.proofs.FirstMisfit.{fits-wires}
 use Rattle.circuit.specs.GatesToWrite.{headerBytes}
 use Rattle.sets.proofs.Members.{members-empty}
 use Rattle.decoded.specs.DecodedTable.{programAt}
-use Rattle.events.specs.Scan.{Emit, Tallied, slotAt, Progress, progress, emitOf, roomOf, emissionEnd, wireOf}
+use Rattle.events.specs.Scan.{Emit, Tallied, slotAt, slotList, Progress, progress, emitOf, roomOf, emissionEnd, wireOf}
 use Rattle.events.proofs.ScanOfEvents.{emission-status, emission-ends, emission-within}
 use Rattle.events.proofs.GatesAndSlots.{Storing, storing-starts, storing-next, stored-all, stored-full}
 use Rattle.emit.specs.WalkPromises.{Checked, Emits}
@@ -117,7 +118,7 @@ given-answer P n room header e = rw (le-leb headerLength (usable (length room)) 
 -- stands in the text
 module _ {prog : List ℕ} {n : ℕ} (room text : List ℕ) {slots : List ℕ} {a : Emit} (text₁ : List ℕ) {slots₁ : List ℕ} (long : length text ≡ mostCircuit)
     (A : Emits prog n (take (usable (length room)) text) slots a (take (usable (length room)) text₁) slots₁)
-    (checked : Checked prog) (small : n ≤ mostQubits) (space : slotsLength ≤ length slots) (tallied : Tallied slots)
+    (checked : Checked prog) (small : n ≤ mostQubits) (space : slotsLength ≤ length slots) (tallied : Tallied n slots)
     (header : headerLength ≤ usable (length room)) where
   abbrev P : Program
   P = programAt prog
@@ -215,20 +216,25 @@ front-emitted end text back rest h same A =
     rw (take-at back rest end long) (rw none at A)
 
 -- slots that are all zero have the lengths of their lists, which are empty
-none-tallied : (n : ℕ) → Tallied (replicate n 0)
-none-tallied n a = rw (zeros (slotAt a), zeros (slotAt a + 1), members-empty)
+none-tallied : (n k : ℕ) → Tallied n (replicate k 0)
+none-tallied n k = record {
+    lengths = λ a. rw (zeros (slotAt a), empty a);
+    within = λ a w m. not-in-nil w (rw (empty a) at m) }
   where
-    zeros : (i : ℕ) → _≡_ {A = ℕ} (getD (replicate n 0) i 0) 0
-    zeros i = byLt i n
-      (λ lt. getD-replicate {A = ℕ} n i 0 0 lt)
-      (λ ge. List·getD-eq-default (replicate n 0) 0 (rw (length-replicate {A = ℕ} n 0) ge))
+    zeros : (i : ℕ) → _≡_ {A = ℕ} (getD (replicate k 0) i 0) 0
+    zeros i = byLt i k
+      (λ lt. getD-replicate {A = ℕ} k i 0 0 lt)
+      (λ ge. List·getD-eq-default (replicate k 0) 0 (rw (length-replicate {A = ℕ} k 0) ge))
+    empty : (a : ℕ) → slotList (replicate k 0) a ≡ []
+    empty a = rw (zeros (slotAt a + 1), members-empty)
 
 -- the way out of `emit_text`
 pub text-emitted : {prog : List ℕ} {n room end : ℕ} (text : List ℕ) {a : Emit} (text₁ : List ℕ) {slots₁ : List ℕ} →
     length text ≡ mostCircuit → end ≡ usable room → Emits prog n (take end text) (replicate slotsLength 0) a (take end text₁) slots₁ →
     EmitsText prog n room a text₁
-text-emitted text text₁ {slots₁ = slots₁} long e A =
-    into-text text (replicate slotsLength 0) slots₁ long (rw (length-replicate {A = ℕ} slotsLength 0) (le-refl slotsLength)) (none-tallied slotsLength) (rw e at A)
+text-emitted {n = n} text text₁ {slots₁ = slots₁} long e A =
+    into-text text (replicate slotsLength 0) slots₁ long (rw (length-replicate {A = ℕ} slotsLength 0) (le-refl slotsLength))
+      (none-tallied n slotsLength) (rw e at A)
 
 -- the ways out of `compile_emission`
 module _ {prog : List ℕ} {n : ℕ} {room : List ℕ} where

@@ -26,7 +26,7 @@ compiledOf o = record { number = number o; length = length (valueOr [] o) }
 
 -- main emitted into the front of a text, as much of it as a room of that length has of use, with slots for all wires
 pub data EmitsText (prog : List ℕ) (n room : ℕ) (r : Emit) (text₁ : List ℕ) : Type 0 where
-  into-text : (text slots slots₁ : List ℕ) → length text ≡ mostCircuit → slotsLength ≤ length slots → Tallied slots →
+  into-text : (text slots slots₁ : List ℕ) → length text ≡ mostCircuit → slotsLength ≤ length slots → Tallied n slots →
       Emits prog n (take (usable room) text) slots r (take (usable room) text₁) slots₁ → EmitsText prog n room r text₁
 
 -- the room behind a circuit that fits: the header is put into the text, and the used bytes of the text into the room

@@ -1,5 +1,5 @@
 -- The ways out of the walkers over chains: a call, the bodies of a chain, one body around those that follow it.
-use mathlib.Core.Path.{_≡_, refl, sym, ap, _∙_}
+use mathlib.Core.Path.{_≡_, refl, sym, ap, _∙_, subst}
 use mathlib.Core.Bool.{false}
 use mathlib.Core.List.{List, [], _∷_, _++_, reverse, append-assoc}
 use Prim.Native.Nat.{ℕ, zero, suc, _+_, _-_, _*_, _≤_, _<_}
@@ -10,7 +10,6 @@ use borrow.Author.Tests.{lt-ltb, le-ltb, eqb-true, ne-eqb}
 use lib.ListN.{length, getD}
 use lib.Seq.{sets}
 use lib.Dec.{eqb}
-use Rattle.limits.specs.Sizes.{wireCount, slotsLength}
 use Rattle.model.specs.Limits.{mostWires, mostDepth, mostCircuit}
 use Rattle.model.specs.Syntax.{Program, body}
 use Rattle.model.specs.Reach.{recursive, anyLacksRemoval}
@@ -31,8 +30,9 @@ use Rattle.reach.proofs.MatrixOfAProgram.{count-at, body-at}
 use Rattle.step.proofs.StatementAtARecord.{spent-skip}
 use Rattle.controls.specs.ControlWords.{controlsFrom, listFrom, At}
 use Rattle.widths.specs.KeptWidths.{WidthsKnown}
+use Rattle.lookup.specs.Plans.{Within}
 use Rattle.events.specs.Scan.{Emit, Progress, progress, emitOf, freed, placed, scan, slotAt, slotListLength, slotProcedure, slotList, wireOf, slotOf, Tallied, heldIn}
-use Rattle.events.specs.Slots.{precedenceIn, NextSlot, entriesTo}
+use Rattle.events.specs.Slots.{precedenceIn, NextSlot, Enters, entriesTo}
 use Rattle.events.specs.FollowedEvents.{Follows, Opens, Invokes}
 use Rattle.emit.specs.WalkPromises.{
   Ready, bodyDepth, KnownIn, Before, chainsIn, bodiesUpTo, leftOf, rightOf, keysFrom, bodiesLeft, callsIn, laterCalls, Precedes, Call, walks-call, Left, Right, BodyLeft, walks-body-left, BodyRight,
@@ -40,7 +40,7 @@ use Rattle.emit.specs.WalkPromises.{
   walks-bodies, Rest, walks-rest, Inner, walks-inner, Body, walks-body,
 }
 use Rattle.events.proofs.ScanOfEvents.{scan-append, scan-stopped, scan-places, scan-no-gate, scan-many, scan-frees, nextAfter, stacked-after}
-use Rattle.events.proofs.EntryGates.{scan-nothing, entries-are}
+use Rattle.events.proofs.EntryGates.{scan-nothing, use-enters, entries-are}
 use Rattle.events.proofs.ConsecutiveWalks.{
   gates-next, follows-none, follows-stopped, follows-gates, follows-next, follows-if, follows-as, follows-append, slot-kept, held-kept,
   held-append,
@@ -124,7 +124,7 @@ module _ (prog : List ℕ) (k : ℕ) (passes10 : anyLacksRemoval (programAt prog
         (λ κ. sym (calls-shorter (suc m) news short κ all)) (keysFrom from (keys (suc m) all)))
 
 -- the bodies that are left, by the slot that is found
-module _ (prog : List ℕ) (k : ℕ) (ws : List ℕ) (T : Tallied ws) (base upto last m from d : ℕ) (O : Precedes last m from)
+module _ (prog : List ℕ) (k : ℕ) (ws : List ℕ) {n : ℕ} (T : Tallied n ws) (base upto last m from d : ℕ) (O : Precedes last m from)
     (N : NextSlot ws base last upto d) (lt : d < upto) (passes10 : anyLacksRemoval (programAt prog) ≡ false) (next : ℕ) where
   abbrev all : List Invocation
   all = callsIn ws base upto
@@ -149,7 +149,8 @@ module _ (prog : List ℕ) (k : ℕ) (ws : List ℕ) (T : Tallied ws) (base upto
     seek-key ws T base upto last m from d O N lt prog k next
       ∙ shared-first (slotListLength ws d) some refl
       ∙ ap (around (programAt prog) (chainsIn prog k) (slotOf ws d) (laterCalls ws upto d) next)
-          (following-same prog k passes10 (slotOf ws d) next (rw (← T d) some) (slotListLength ws d) (slotProcedure ws d + 1) all (next + length own) (T d))
+          (following-same prog k passes10 (slotOf ws d) next (rw (← T .lengths d) some) (slotListLength ws d) (slotProcedure ws d + 1) all
+            (next + length own) (T .lengths d))
 
 -- the ways out of `emit_bodies`
 module _ {prog : List ℕ} {k : ℕ} {st : Emit} {room ws : List ℕ} {base last : ℕ} where
@@ -247,24 +248,26 @@ around-is P ch d later next inner =
 
 module _ {prog : List ℕ} {k : ℕ} {st : Emit} {room ws : List ℕ} {base last d upto : ℕ} (is-upto : upto ≡ st .next) where
   pub body-walk : {a : Emit} {room₁ : List ℕ} {b : Emit} {room₂ ws₂ : List ℕ} {r : Emit} {room₃ : List ℕ} →
-      progress a room₁ ≡ scan (entriesTo ws d (d + 1) (upto - (d + 1))) (progress st room) →
+      Enters ws (entriesTo ws d (d + 1) (upto - (d + 1))) (progress st room) (progress a room₁) →
       Inner prog k a room₁ ws b room₂ ws₂ base last d →
-      progress r room₃ ≡ scan (reverse (entriesTo ws₂ d (d + 1) (upto - (d + 1)))) (progress b room₂) →
+      Enters ws₂ (reverse (entriesTo ws₂ d (d + 1) (upto - (d + 1)))) (progress b room₂) (progress r room₃) →
       Body prog k st room ws r room₃ ws₂ base last d
   body-walk {a = a} {room₁ = room₁} {b = b} {room₂ = room₂} {ws₂ = ws₂} {r = r} {room₃ = room₃} e₀ A q₀ = walks-body (λ R le lt m from O.
     let s = slotOf ws d in
     let later = laterCalls ws (st .next) d in
-    let e = rw (is-upto, entries-are ws (R .tallied) d (d + 1) (st .next - (d + 1))) at e₀ in
+    let e = rw (is-upto, entries-are ws (R .tallied) d (d + 1) (st .next - (d + 1))) at (use-enters e₀ (R .tallied)) in
     let E = allEntryGates s later in
     let only = entries-only s later in
     let same : a .next ≡ st .next = ap (λ (x : Progress). emitOf x .next) e ∙ gates-next E st room only in
     let F = follows-gates E st room ws a room₁ only e in
-    let G = use-inner A (ready-then R F) le (omega arith) m from O in
+    let R₁ = ready-then R F in
+    let G = use-inner A R₁ le (omega arith) m from O in
+    let T = ready-then R₁ G .tallied in
     let word : getD ws₂ (slotAt d) 0 ≡ getD ws (slotAt d) 0 = G .kept (slotAt d) (omega arith) in
     let slot : slotOf ws₂ d ≡ s = slot-kept ws ws₂ (a .next) (G .kept) d (omega arith) in
     let held : callsIn ws₂ (d + 1) (st .next) ≡ callsIn ws (d + 1) (st .next) =
           held-kept ws ws₂ (a .next) (G .kept) (d + 1) (st .next - (d + 1)) (omega arith) in
-    let q = rw (is-upto, entries-are ws₂ (G .tallied (R .tallied)) d (d + 1) (st .next - (d + 1))) at q₀ in
+    let q = rw (is-upto, entries-are ws₂ T d (d + 1) (st .next - (d + 1))) at (use-enters q₀ T) in
     let H = follows-gates (reverse E) b room₂ ws₂ r room₃ (only-reverse E only) (rw (slot, held, word) at q) in
     let news = bodyInvocations (programAt prog) (chainsIn prog k) s (st .next) in
     let inner = bodiesLeft prog k m from (callsIn ws base (st .next) ++ news) (st .next + length news) in
@@ -291,6 +294,11 @@ module _ (prog : List ℕ) (f i depth : ℕ) (at : i ≡ rootOf prog f) (deep : 
   body-known : WidthsKnown prog → KnownIn prog f depth i
   body-known known nz = byLt p f (λ lt. absurd (nz (body-none lt))) (λ le. rw (body-all le, at) (known f le))
 
+-- the list of a slot is of the emission's qubits
+slot-within : {prog : List ℕ} {st : Emit} (ws : List ℕ) (d : ℕ) {l : List ℕ} (site : List ℕ) → l ≡ slotList ws d → listFrom site ≡ l → Ready prog st ws →
+    Within (st .qubits) (listFrom site)
+slot-within {st = st} ws d site is-l here R = subst (Within (st .qubits)) (sym (here ∙ is-l)) (R .tallied .within d)
+
 -- the ways out of `emit_body_left` and `emit_body_right`
 module _ {prog : List ℕ} {k : ℕ} {st : Emit} {room ws : List ℕ} {d : ℕ} {r : Emit} {room₁ ws₁ : List ℕ} {f i depth w : ℕ} {l site : List ℕ}
     (is-f : f ≡ slotProcedure ws d) (is-w : w ≡ wireOf d) (is-l : l ≡ slotList ws d) (here : At site l (under w)) (at : i ≡ rootOf prog f)
@@ -298,14 +306,14 @@ module _ {prog : List ℕ} {k : ℕ} {st : Emit} {room ws : List ℕ} {d : ℕ} 
   pub body-left-walk : Left prog k st room ws r room₁ ws₁ i depth (listFrom site) (controlsFrom site) → BodyLeft prog k st room ws r room₁ ws₁ d
   unfolding slotOf
   body-left-walk A = walks-body-left (λ R h.
-    let O = use-left f A (body-known prog f i depth at deep (R .checked .widths)) R in
+    let O = use-left f A (body-known prog f i depth at deep (R .checked .widths)) R (slot-within ws d site is-l (here .list) R) in
     rw (body-is prog f i depth at deep, here .list, here .controls, is-f, is-l, is-w) at O)
 
   pub body-right-walk : {behind given : ℕ} → Right prog k st room ws r room₁ ws₁ i depth (listFrom site) (controlsFrom site) behind given →
       BodyRight prog k st room ws r room₁ ws₁ d behind
   unfolding slotOf
   body-right-walk A = walks-body-right (λ R h first Q.
-    let F = use-right f A (body-known prog f i depth at deep (R .checked .widths)) R first
+    let F = use-right f A (body-known prog f i depth at deep (R .checked .widths)) R (slot-within ws d site is-l (here .list) R) first
           (λ ok. rw (body-is prog f i depth at deep, here .list, is-f, is-l) (Q ok)) in
     rw (body-is prog f i depth at deep, here .list, here .controls, is-f, is-l, is-w) at (F .0))
 
@@ -371,67 +379,67 @@ chain-is P zero f l a h = absurd (h refl)
 chain-is P (suc k) f l a h = let e : suc k - 1 ≡ k = omega arith in rw e
 
 -- an ancilla that was taken is a wire
-taken-low : {f : ℕ} {l : List ℕ} {cs : Controls} {st : Emit} {room ws : List ℕ} {a : Emit} {room₁ ws₁ : List ℕ} →
-    Invokes f l cs st room ws a room₁ ws₁ → (length l ≡ 0 → ⊥) → slotsLength ≤ length ws → st .next ≤ wireCount → a .status ≡ 0 →
+taken-low : {prog : List ℕ} {f : ℕ} {l : List ℕ} {cs : Controls} {st : Emit} {room ws : List ℕ} {a : Emit} {room₁ ws₁ : List ℕ} →
+    Invokes f l cs st room ws a room₁ ws₁ → (length l ≡ 0 → ⊥) → Ready prog st ws → Within (st .qubits) l → a .status ≡ 0 →
     (a .next ≡ st .next + 1) × (wireOf (st .next) ≡ st .next)
-taken-low {f = f} {l = l} {cs = cs} {st = st} {a = a} A some space small ok =
-    let O = use-invokes A space in
+taken-low {f = f} {l = l} {cs = cs} {st = st} {a = a} A some R within ok =
+    let O = use-invokes A (R .space) within in
     let e : a .next ≡ st .next + 1 = follows-next (O .follows) ok ∙ one-more f l cs (st .next) some .0 in
-    let top = O .follows .low small in
+    let top = O .follows .low (R .low) in
     let le : st .next ≤ mostWires = omega arith in
     (e, rw (le-ltb mostWires (st .next) le))
 
 -- the ways out of `emit_call`
 module _ {prog : List ℕ} {k : ℕ} {st : Emit} {room ws : List ℕ} {f : ℕ} {l : List ℕ} {cs : Controls} where
   pub call-stopped : {s : ℕ} → s ≡ st .status → (s ≡ 0 → ⊥) → Call prog k st room ws st room ws f l cs
-  call-stopped e h = walks-call (λ R. follows-stopped _ st room ws (λ z. h (e ∙ z)))
+  call-stopped e h = walks-call (λ R within. follows-stopped _ st room ws (λ z. h (e ∙ z)))
 
   module _ {n : ℕ} (is : n ≡ length l) where
     pub call-empty : n ≡ 0 → Call prog k st room ws st room ws f l cs
-    call-empty e = walks-call (λ R. follows-as (no-start (chainsIn prog k) f l cs (st .next) (sym is ∙ e)) (follows-none st room ws))
+    call-empty e = walks-call (λ R within. follows-as (no-start (chainsIn prog k) f l cs (st .next) (sym is ∙ e)) (follows-none st room ws))
 
     module _ {a : Emit} {room₁ ws₁ : List ℕ} (nz : n ≡ 0 → ⊥) (A : Invokes f l cs st room ws a room₁ ws₁) where
       pub call-flat : {base : ℕ} {r : Emit} {room₂ : List ℕ} → base ≡ st .next → k ≡ 0 →
           progress r room₂ ≡ scan (places (flip cs (wireOf base)) ∷ frees base ∷ []) (progress a room₁) →
           Call prog k st room ws r room₂ ws₁ f l cs
-      call-flat is-base e u = walks-call (λ R.
+      call-flat is-base e u = walks-call (λ R within.
         let q = rw is-base at u in
-        let O = use-invokes A (R .space) in
+        let O = use-invokes A (R .space) within in
         follows-as
           (ap (λ (es : List Event). invokes l cs (st .next) ++ (es ++ (places (flip cs (st .next)) ∷ frees (st .next) ∷ [])))
               (chain-none (programAt prog) k f l (st .next) e)
             ∙ start-is (chainsIn prog k) f l cs (st .next) (λ e. nz (is ∙ e)))
           (follows-finish (flip cs (wireOf (st .next))) (flip cs (st .next)) (O .follows)
-            (λ ok. ap (flip cs) (taken-low A (λ e. nz (is ∙ e)) (R .space) (R .low) ok .1)) q))
+            (λ ok. ap (flip cs) (taken-low A (λ e. nz (is ∙ e)) R within ok .1)) q))
 
       pub call-chain : {base last : ℕ} {b : Emit} {room₂ ws₂ : List ℕ} {r : Emit} {room₃ : List ℕ} → base ≡ st .next → (k ≡ 0 → ⊥) → last ≡ 256 * n + 256 →
           Bodies prog (k - 1) a room₁ ws₁ b room₂ ws₂ base last →
           progress r room₃ ≡ scan (places (flip cs (wireOf base)) ∷ frees base ∷ []) (progress b room₂) →
           Call prog k st room ws r room₃ ws₂ f l cs
-      call-chain {b = b} {room₂ = room₂} {ws₂ = ws₂} is-base h is-last C u = walks-call (λ R.
+      call-chain {b = b} {room₂ = room₂} {ws₂ = ws₂} is-base h is-last C u = walks-call (λ R within.
         let B = rw is-base at C in
         let q = rw is-base at u in
         let P = programAt prog in
         let some : length l ≡ 0 → ⊥ = λ e. nz (is ∙ e) in
         let next = st .next in
         let end = places (flip cs next) ∷ frees next ∷ [] in
-        let O = use-invokes A (R .space) in
+        let O = use-invokes A (R .space) within in
         let F = O .follows in
         let G = use-bodies B (ready-then R F) (F .rises) n 0 (record { key = omega arith; below = omega arith }) in
         let held : a .status ≡ 0 → heldIn ws₁ next (a .next - next) ≡ invocation f l next ∷ [] = λ ok.
-              let one : a .next - next ≡ length (invoked f l next) = let z = taken-low A some (R .space) (R .low) ok .0 in
+              let one : a .next - next ≡ length (invoked f l next) = let z = taken-low A some R within ok .0 in
                     rw (one-more f l cs next some .1) (omega arith) in
               rw one (O .held ok ∙ one-more f l cs next some .1) in
         let events : a .status ≡ 0 →
               bodiesLeft prog (k - 1) n 0 (callsIn ws₁ next (a .next)) (a .next) .events
                 ≡ chainsWithin P k f l next = λ ok.
-              let up : a .next ≡ suc next = let z = taken-low A some (R .space) (R .low) ok .0 in omega arith in
+              let up : a .next ≡ suc next = let z = taken-low A some R within ok .0 in omega arith in
               rw (held ok, up, is) (ap (λ (o : Emitted). o .events) (bodies-all prog (k - 1) (length l) (invocation f l next ∷ []) (suc next))
                 ∙ chain-is P k f l next h) in
         let both = follows-append F (follows-if events G) in
         follows-as
           (append-assoc (invokes l cs next) (chainsWithin P k f l next) end ∙ start-is (chainsIn prog k) f l cs next some)
-          (follows-finish (flip cs (wireOf next)) (flip cs next) both (λ ok. ap (flip cs) (taken-low A some (R .space) (R .low) (was-ok G ok) .1)) q))
+          (follows-finish (flip cs (wireOf next)) (flip cs next) both (λ ok. ap (flip cs) (taken-low A some R within (was-ok G ok) .1)) q))
 
 pub ruleset chaining = (
     needs, call-stopped, call-empty, call-flat, call-chain, bodies-stopped, bodies-none, bodies-found, body-past, body-walk, inner-walk,

@@ -25,12 +25,13 @@ use Rattle.step.specs.declared.Step.the-variants as step
 use Rattle.step.specs.Steps.{touchedBy, stepAt}
 use Rattle.step.proofs.StatementAtARecord.{Idle, at-step, at-touches, at-branches, idle-skip, spent-skip}
 use Rattle.step.proofs.ChosenBranch.{chosen-means}
+use Rattle.lookup.specs.Plans.{Within}
 use Rattle.events.specs.Scan.{Emit, Progress, progress, emitOf, scan, heldIn}
 use Rattle.events.specs.FollowedEvents.{Follows, Opens, Invokes, fills-slot}
 use Rattle.emit.specs.WalkPromises.{Ready, chainsIn, KnownIn, Whole, Call, Left, walks-left}
 use Rattle.events.proofs.ScanOfEvents.{scan-was}
 use Rattle.events.proofs.ConsecutiveWalks.{follows-none, follows-stopped, follows-gates, follows-next, follows-if, follows-append, held-kept, held-append}
-use Rattle.emit.proofs.WalkPreconditions.{ready-then}
+use Rattle.emit.proofs.WalkPreconditions.{ready-then, within-then, within-rest}
 use Rattle.emit.proofs.KnownParts.{width-told, call-told, known-sequence, known-chosen, known-branches}
 use Rattle.emit.proofs.WholeStatement.{whole-next, left-next, use-whole, use-call}
 
@@ -52,12 +53,12 @@ module _ {st : Emit} {room ws : List ℕ} {r : Emit} {room₁ ws₁ : List ℕ} 
   opens-none F = record { follows = F; held = λ z. refl }
 
   pub use-left : (f : ℕ) {prog : List ℕ} {k i depth : ℕ} {l : List ℕ} {cs : Controls} → Left prog k st room ws r room₁ ws₁ i depth l cs →
-      KnownIn prog f depth i → Ready prog st ws →
+      KnownIn prog f depth i → Ready prog st ws → Within (st .qubits) l →
       Opens (left (chainsIn prog k) (recursive (programAt prog) f) (statementAt prog depth i) l cs (st .next))
         (invocations (recursive (programAt prog) f) (statementAt prog depth i) l (st .next)) st room ws r room₁ ws₁
   use-left f (walks-left g) = g f
 
-  pub use-invokes : {f : ℕ} {l : List ℕ} {cs : Controls} → Invokes f l cs st room ws r room₁ ws₁ → slotsLength ≤ length ws →
+  pub use-invokes : {f : ℕ} {l : List ℕ} {cs : Controls} → Invokes f l cs st room ws r room₁ ws₁ → slotsLength ≤ length ws → Within (st .qubits) l →
       Opens (invokes l cs (st .next)) (invoked f l (st .next)) st room ws r room₁ ws₁
   use-invokes (fills-slot g) = g
 
@@ -130,10 +131,12 @@ module _ (prog : List ℕ) (k : ℕ) (f : ℕ) (l : List ℕ) (cs₁ cs₂ : Con
 module _ {prog : List ℕ} {k : ℕ} {st : Emit} {room ws : List ℕ} {i depth : ℕ} {l : List ℕ} {cs : Controls} where
   left-skipped : statementAt prog depth i ≡ skip → Left prog k st room ws st room ws i depth l cs
   left-skipped e =
-    walks-left (λ f K R. let h = left-skip (chainsIn prog k) (recursive (programAt prog) f) l cs (st .next) (statementAt prog depth i) e in opens-by (h .0) (h .1) (opens-none (follows-none st room ws)))
+    walks-left (λ f K R within. let h = left-skip (chainsIn prog k) (recursive (programAt prog) f) l cs (st .next) (statementAt prog depth i) e in
+      opens-by (h .0) (h .1) (opens-none (follows-none st room ws)))
 
   pub left-stopped : {s : ℕ} → s ≡ st .status → (s ≡ 0 → ⊥) → Left prog k st room ws st room ws i depth l cs
-  left-stopped {s = s} e g = let h : st .status ≡ 0 → ⊥ = λ z. g (e ∙ z) in walks-left (λ f K R. record { follows = follows-stopped _ st room ws h; held = λ z. absurd (h z) })
+  left-stopped {s = s} e g = let h : st .status ≡ 0 → ⊥ = λ z. g (e ∙ z) in
+    walks-left (λ f K R within. record { follows = follows-stopped _ st room ws h; held = λ z. absurd (h z) })
 
   pub left-spent : depth ≡ 0 → Left prog k st room ws st room ws i depth l cs
   left-spent e = left-skipped (spent-skip prog depth i e)
@@ -147,7 +150,7 @@ module _ {prog : List ℕ} {k : ℕ} {st : Emit} {room ws : List ℕ} {i depth :
           progress r room₁ ≡ scan (places (flip cs q) ∷ []) (progress st room) → Left prog k st room ws r room₁ ws i depth l cs
       left-touches {q = q} e m g =
         let h = at-touches prog depth i l nz is m e in
-        walks-left (λ f K R.
+        walks-left (λ f K R within.
         let t = left-not (chainsIn prog k) (recursive (programAt prog) f) l cs (st .next) (statementAt prog depth i) (h .0) (h .1) q (h .2) (h .3) in
         opens-by (t .0) (t .1) (opens-none (follows-gates _ st room ws r room₁ tt g)))
 
@@ -156,12 +159,12 @@ module _ {prog : List ℕ} {k : ℕ} {st : Emit} {room ws : List ℕ} {i depth :
             Left prog k st room ws r room₁ ws₁ x (depth - 1) l cs → Left prog k st room ws r room₁ ws₁ i depth l cs
         left-chosen e q A =
           let ch = chainsIn prog k in
-          walks-left (λ f K R. let rec = recursive (programAt prog) f in opens-by
+          walks-left (λ f K R within. let rec = recursive (programAt prog) f in opens-by
             (sym (chosen-means (λ s. left ch rec s l cs (st .next)) l (left-yes ch rec l cs (st .next)) (left-no ch rec l cs (st .next))
               prog depth i nz is e q))
             (sym (chosen-means (λ s. invocations rec s l (st .next)) l (invocations-yes rec l (st .next)) (invocations-no rec l (st .next))
               prog depth i nz is e q))
-            (use-left f A (known-chosen prog l depth i f nz is e q K) R))
+            (use-left f A (known-chosen prog l depth i f nz is e q K) R within))
 
         pub left-first : {a b : ℕ} {w : Bool} → found ≡ step.Sequence a b → w ≡ ltb 0 (widthIn prog a) → w ≡ true →
             Left prog k st room ws r room₁ ws₁ a (depth - 1) l cs → Left prog k st room ws r room₁ ws₁ i depth l cs
@@ -169,32 +172,34 @@ module _ {prog : List ℕ} {k : ℕ} {st : Emit} {room ws : List ℕ} {i depth :
           let q = at-step prog depth i nz is e in
           let X = statementAt prog (depth - 1) a in
           let Y = statementAt prog (depth - 1) b in
-          walks-left (λ f K R.
+          walks-left (λ f K R within.
             let rec = recursive (programAt prog) f in
             let both = known-sequence prog l depth i f nz is e K in
             let wide = width-told rec prog (depth - 1) a (both .0) h ∙ t in
             opens-by (rw q (sym (left-wide (chainsIn prog k) rec l cs (st .next) X Y wide))) (rw q (sym (invocations-wide rec l (st .next) X Y wide)))
-              (use-left f A (λ d. both .0) R))
+              (use-left f A (λ d. both .0) R within))
 
         pub left-recurs : {g at : ℕ} {rest : List ℕ} {b : Bool} → found ≡ step.Calls g at → rest ≡ remaining (removalsIn prog at) l → b ≡ ltb 0 (widthIn prog i) →
             b ≡ true → Invokes g rest cs st room ws r room₁ ws₁ → Left prog k st room ws r room₁ ws₁ i depth l cs
         left-recurs {g = g} {at = at} {rest = rest} e d h t A =
           let q = at-step prog depth i nz is e in
-          walks-left (λ f K R.
+          walks-left (λ f K R within.
             let rec = recursive (programAt prog) f in
             let yes : rec g ≡ true = call-told prog l depth i f nz is e K h ∙ t in
             opens-by (rw (q, d) (sym (left-recursive (chainsIn prog k) rec l cs (st .next) (removalsIn prog at) g yes)))
-              (rw (q, d) (sym (invocations-recursive rec l (st .next) (removalsIn prog at) g yes))) (use-invokes A (R .space)))
+              (rw (q, d) (sym (invocations-recursive rec l (st .next) (removalsIn prog at) g yes)))
+              (use-invokes A (R .space) (within-rest (st .qubits) (removalsIn prog at) l d within)))
 
         pub left-calls : {g at : ℕ} {rest : List ℕ} {b : Bool} → found ≡ step.Calls g at → rest ≡ remaining (removalsIn prog at) l → b ≡ ltb 0 (widthIn prog i) →
             b ≡ false → Call prog k st room ws r room₁ ws₁ g rest cs → Left prog k st room ws r room₁ ws₁ i depth l cs
         left-calls {g = g} {at = at} {rest = rest} e d h t A =
           let q = at-step prog depth i nz is e in
-          walks-left (λ f K R.
+          walks-left (λ f K R within.
             let rec = recursive (programAt prog) f in
             let no : rec g ≡ false = call-told prog l depth i f nz is e K h ∙ t in
             opens-by (rw (q, d) (sym (left-other (chainsIn prog k) rec l cs (st .next) (removalsIn prog at) g no)))
-              (rw q (sym (invocations-other rec l (st .next) (removalsIn prog at) g no))) (opens-none (use-call A R)))
+              (rw q (sym (invocations-other rec l (st .next) (removalsIn prog at) g no)))
+              (opens-none (use-call A R (within-rest (st .qubits) (removalsIn prog at) l d within))))
 
         module _ {b : Emit} {room₂ ws₂ : List ℕ} where
           pub left-second : {x y : ℕ} {w : Bool} → found ≡ step.Sequence x y → w ≡ ltb 0 (widthIn prog x) → w ≡ false →
@@ -204,13 +209,13 @@ module _ {prog : List ℕ} {k : ℕ} {st : Emit} {room ws : List ℕ} {i depth :
             let q = at-step prog depth i nz is e in
             let X = statementAt prog (depth - 1) x in
             let Y = statementAt prog (depth - 1) y in
-            walks-left (λ f K R.
+            walks-left (λ f K R within.
               let rec = recursive (programAt prog) f in
               let both = known-sequence prog l depth i f nz is e K in
               let thin = width-told rec prog (depth - 1) x (both .0) h ∙ t in
-              let F = use-whole A R in
+              let F = use-whole A R within in
               opens-by (rw q (sym (left-thin (chainsIn prog k) rec l cs (st .next) X Y thin))) (rw q (sym (invocations-thin rec l (st .next) X Y thin)))
-                (whole-then-left prog k f l cs X Y R F (use-left f B (λ d. both .1) (ready-then R F))))
+                (whole-then-left prog k f l cs X Y R F (use-left f B (λ d. both .1) (ready-then R F) (within-then l F within))))
 
           pub left-branches : {at q x y : ℕ} {s₁ s₂ : List ℕ} → found ≡ step.Branches at x y → q ≡ touchedBy prog at l → q ≤ setLength →
               At s₁ l (withQubit q false cs) → Left prog k st room ws r room₁ ws₁ x (depth - 1) (listFrom s₁) (controlsFrom s₁) →
@@ -220,13 +225,14 @@ module _ {prog : List ℕ} {k : ℕ} {st : Emit} {room ws : List ℕ} {i depth :
             let X = statementAt prog (depth - 1) x in
             let Y = statementAt prog (depth - 1) y in
             let h = at-branches prog depth i l nz is u e in
-            walks-left (λ f K R.
+            walks-left (λ f K R within.
               let rec = recursive (programAt prog) f in
               let both = known-branches prog l depth i f nz is e K in
               let t = left-case (chainsIn prog k) rec l cs (st .next) (statementAt prog depth i) (h .0) (h .1) q X Y (h .2) (h .3) in
-              let O = use-left f (rw (c₁ .controls, c₁ .list, qubit-asked q false cs m) at A) (λ d. both .0) R in
+              let O = use-left f (rw (c₁ .controls, c₁ .list, qubit-asked q false cs m) at A) (λ d. both .0) R within in
               opens-by (t .0) (t .1) (left-then-left prog k f l (withControl q false cs) (withControl q true cs) X Y R O
-                (use-left f (rw (c₂ .controls, c₂ .list, qubit-asked q true cs m) at B) (λ d. both .1) (ready-then R (O .follows)))))
+                (use-left f (rw (c₂ .controls, c₂ .list, qubit-asked q true cs m) at B) (λ d. both .1) (ready-then R (O .follows))
+                  (within-then l (O .follows) within))))
 
 pub ruleset lefts = (
     needs, left-stopped, left-spent, left-idle, left-touches, left-chosen,

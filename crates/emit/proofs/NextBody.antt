@@ -67,7 +67,7 @@ module _ (ws : List ℕ) where
   in-held j (suc c) x (inl e) f = f j (omega arith) (omega arith) e
   in-held j (suc c) x (inr m) f = in-held (j + 1) c x m (λ a l h. f a (omega arith) (omega arith))
 
-module _ (ws : List ℕ) (T : Tallied ws) (base upto : ℕ) where
+module _ (ws : List ℕ) {n : ℕ} (T : Tallied n ws) (base upto : ℕ) where
   abbrev all : List Invocation
   all = callsIn ws base upto
 
@@ -76,11 +76,11 @@ module _ (ws : List ℕ) (T : Tallied ws) (base upto : ℕ) where
       ((a : ℕ) → base ≤ a → a < upto → slotListLength ws a ≡ m → slotProcedure ws a ≡ k → A) → A
   unfolding slotOf
   key-slot m k b f = keys-called m all k b (λ d mem long is. in-held ws base (upto - base) d mem (λ a l h e.
-    f a l (omega arith) (T a ∙ sym (ap (λ (v : Invocation). length (v .list)) e) ∙ long) (sym (ap (λ (v : Invocation). keyOf v) e) ∙ is)))
+    f a l (omega arith) (T .lengths a ∙ sym (ap (λ (v : Invocation). length (v .list)) e) ∙ long) (sym (ap (λ (v : Invocation). keyOf v) e) ∙ is)))
 
   slot-key : (m a : ℕ) → base ≤ a → a < upto → slotListLength ws a ≡ m → member (slotProcedure ws a) (keys m all) ≡ true
   unfolding slotOf
-  slot-key m a l h long = keys-order m all .every (slotOf ws a) (held-in ws base (upto - base) a l (omega arith)) (sym (T a) ∙ long)
+  slot-key m a l h long = keys-order m all .every (slotOf ws a) (held-in ws base (upto - base) a l (omega arith)) (sym (T .lengths a) ∙ long)
 
   -- no slot has a list of length m: no key
   no-keys : (m : ℕ) → ((a : ℕ) → base ≤ a → a < upto → slotListLength ws a ≡ m → ⊥) → keys m all ≡ []
@@ -228,7 +228,7 @@ module _ (ws : List ℕ) (T : Tallied ws) (base upto : ℕ) where
       -- it is the first call to its pair
       here : isOf long key (slotOf ws d) ≡ true
       unfolding slotOf
-      here = of-is long key (slotOf ws d) (sym (T d)) refl
+      here = of-is long key (slotOf ws d) (sym (T .lengths d)) refl
 
       other : (a : ℕ) → base ≤ a → a < d → isOf long key (slotOf ws a) ≡ false
       unfolding slotOf
@@ -237,7 +237,7 @@ module _ (ws : List ℕ) (T : Tallied ws) (base upto : ℕ) where
         let e = slot-precedence a in
         let q = slot-precedence d in
         let w = N .waits lt .1 in
-        let same : precedenceIn ws a ≡ precedenceIn ws d = e ∙ rw (T a ∙ pair .0, pair .1) (sym q) in
+        let same : precedenceIn ws a ≡ precedenceIn ws d = e ∙ rw (T .lengths a ∙ pair .0, pair .1) (sym q) in
         let z : precedenceIn ws a < precedenceIn ws d = N .first a l h lt (omega arith, omega arith) in
         omega arith)
 

@@ -29,18 +29,19 @@ use Rattle.step.specs.declared.Step.the-variants as step
 use Rattle.step.specs.Steps.{touchedBy, stepAt}
 use Rattle.step.proofs.StatementAtARecord.{Idle, at-step, at-branches, idle-skip, spent-skip}
 use Rattle.step.proofs.ChosenBranch.{chosen-means}
+use Rattle.lookup.specs.Plans.{Within}
 use Rattle.events.specs.Scan.{Emit, progress, scan, wireOf}
 use Rattle.events.specs.FollowedEvents.{Follows}
 use Rattle.emit.specs.WalkPromises.{Ready, chainsIn, KnownIn, Before, Whole, Right, walks-right}
 use Rattle.events.proofs.ConsecutiveWalks.{follows-none, follows-stopped, follows-gates, follows-next, follows-if, follows-as, follows-append}
-use Rattle.emit.proofs.WalkPreconditions.{ready-then}
+use Rattle.emit.proofs.WalkPreconditions.{ready-then, within-then}
 use Rattle.emit.proofs.WholeStatement.{right-next, use-whole}
 use Rattle.emit.proofs.LeftPart.{was-ok}
 use Rattle.emit.proofs.KnownParts.{width-told, call-told, known-sequence, known-chosen, known-branches}
 
 module _ {prog : List ℕ} {k : ℕ} {st : Emit} {room ws : List ℕ} {r : Emit} {room₁ ws₁ : List ℕ} where
   pub use-right : (f : ℕ) {i depth : ℕ} {l : List ℕ} {cs : Controls} {behind given : ℕ} → Right prog k st room ws r room₁ ws₁ i depth l cs behind given →
-      KnownIn prog f depth i → Ready prog st ws → (first : ℕ) →
+      KnownIn prog f depth i → Ready prog st ws → Within (st .qubits) l → (first : ℕ) →
       (st .status ≡ 0 → Before behind first (length (invocations (recursive (programAt prog) f) (statementAt prog depth i) l first))) →
       Follows (right (chainsIn prog k) (recursive (programAt prog) f) (statementAt prog depth i) l cs first (st .next)) st room ws r room₁ ws₁
         × (r .status ≡ 0 → given ≡ first)
@@ -155,18 +156,18 @@ none-before B e = let z = B .ends in omega arith
 -- the ways out of `emit_right`
 module _ {prog : List ℕ} {k : ℕ} {st : Emit} {room ws : List ℕ} {i depth : ℕ} {l : List ℕ} {cs : Controls} {behind : ℕ} where
   right-skipped : statementAt prog depth i ≡ skip → Right prog k st room ws st room ws i depth l cs behind behind
-  right-skipped e = walks-right (λ f K R first Q.
+  right-skipped e = walks-right (λ f K R within first Q.
     (follows-as (right-skip (chainsIn prog k) (recursive (programAt prog) f) l cs first (st .next) (statementAt prog depth i) e) (follows-none st room ws),
       λ ok. none-before (Q ok) (count-skip (chainsIn prog k) (recursive (programAt prog) f) l cs first (st .next) (statementAt prog depth i) e)))
 
   pub right-stopped : {s : ℕ} → s ≡ st .status → (s ≡ 0 → ⊥) → Right prog k st room ws st room ws i depth l cs behind behind
-  right-stopped e g = let h : st .status ≡ 0 → ⊥ = λ z. g (e ∙ z) in walks-right (λ f K R first Q. (follows-stopped _ st room ws h, λ ok. absurd (h ok)))
+  right-stopped e g = let h : st .status ≡ 0 → ⊥ = λ z. g (e ∙ z) in walks-right (λ f K R within first Q. (follows-stopped _ st room ws h, λ ok. absurd (h ok)))
 
   pub right-spent : depth ≡ 0 → Right prog k st room ws st room ws i depth l cs behind behind
   right-spent e = right-skipped (spent-skip prog depth i e)
 
   pub right-narrow : {w : Bool} → (depth ≡ 0 → ⊥) → w ≡ ltb 0 (widthIn prog i) → not w ≡ true → Right prog k st room ws st room ws i depth l cs behind behind
-  right-narrow {w = w} nz h n = let t : w ≡ false = sym (not-not w) ∙ ap not n in walks-right (λ f K R first Q.
+  right-narrow {w = w} nz h n = let t : w ≡ false = sym (not-not w) ∙ ap not n in walks-right (λ f K R within first Q.
     let rec = recursive (programAt prog) f in
     let S = statementAt prog depth i in
     let thin = thin-width rec S (width-told rec prog depth i (K nz) h ∙ t) in
@@ -178,7 +179,7 @@ module _ {prog : List ℕ} {k : ℕ} {st : Emit} {room ws : List ℕ} {i depth :
     right-idle x e o = right-skipped (idle-skip prog depth i nz is x e o)
 
     pub right-touches : {at : ℕ} → found ≡ step.Touches at → Right prog k st room ws st room ws i depth l cs behind behind
-    right-touches e = let h = at-step prog depth i nz is e in walks-right (λ f K R first Q.
+    right-touches e = let h = at-step prog depth i nz is e in walks-right (λ f K R within first Q.
       (follows-as (right-not (chainsIn prog k) (recursive (programAt prog) f) l cs first (st .next) (statementAt prog depth i) _ _ h) (follows-none st room ws),
         λ ok. none-before (Q ok) (count-not (chainsIn prog k) (recursive (programAt prog) f) l cs first (st .next) (statementAt prog depth i) _ _ h)))
 
@@ -190,7 +191,7 @@ module _ {prog : List ℕ} {k : ℕ} {st : Emit} {room ws : List ℕ} {i depth :
       right-recurs {g = g} {at = at} {rest = rest} {b = b} e h n d is-given s =
         let t : b ≡ true = sym (not-not b) ∙ ap not n in
         let q = at-step prog depth i nz is e in
-        walks-right (λ f K R first Q.
+        walks-right (λ f K R within first Q.
           let rec = recursive (programAt prog) f in
           let yes : rec g ≡ true = call-told prog l depth i f nz is e K h ∙ t in
           let all = invocations-recursive rec l first (removalsIn prog at) g yes in
@@ -207,10 +208,10 @@ module _ {prog : List ℕ} {k : ℕ} {st : Emit} {room ws : List ℕ} {i depth :
             Right prog k st room ws r room₁ ws₁ x (depth - 1) l cs behind given → Right prog k st room ws r room₁ ws₁ i depth l cs behind given
         right-chosen e q A =
           let ch = chainsIn prog k in
-          walks-right (λ f K R first Q.
+          walks-right (λ f K R within first Q.
             let rec = recursive (programAt prog) f in
             let calls = chosen-means (λ s. invocations rec s l first) l (invocations-yes rec l first) (invocations-no rec l first) prog depth i nz is e q in
-            let F = use-right f A (known-chosen prog l depth i f nz is e q K) R first (λ ok. rw calls at (Q ok)) in
+            let F = use-right f A (known-chosen prog l depth i f nz is e q K) R within first (λ ok. rw calls at (Q ok)) in
             (follows-as
               (sym (chosen-means (λ s. right ch rec s l cs first (st .next)) l
                 (λ c s t. right-yes ch rec l cs first c s t (st .next)) (λ c s t. right-no ch rec l cs first c s t (st .next)) prog depth i nz is e q))
@@ -222,11 +223,11 @@ module _ {prog : List ℕ} {k : ℕ} {st : Emit} {room ws : List ℕ} {i depth :
           let q = at-step prog depth i nz is e in
           let X = statementAt prog (depth - 1) a in
           let Y = statementAt prog (depth - 1) b in
-          walks-right (λ f K R first Q.
+          walks-right (λ f K R within first Q.
             let rec = recursive (programAt prog) f in
             let both = known-sequence prog l depth i f nz is e K in
             let thin = width-told rec prog (depth - 1) a (both .0) h ∙ t in
-            let F = use-right f A (λ d. both .1) R first (λ ok. rw (q, invocations-thin rec l first X Y thin) at (Q ok)) in
+            let F = use-right f A (λ d. both .1) R within first (λ ok. rw (q, invocations-thin rec l first X Y thin) at (Q ok)) in
             (follows-as (rw q (sym (right-thin (chainsIn prog k) rec l cs first X Y (st .next) thin))) (F .0), F .1))
 
         module _ {b : Emit} {room₂ ws₂ : List ℕ} where
@@ -237,12 +238,12 @@ module _ {prog : List ℕ} {k : ℕ} {st : Emit} {room ws : List ℕ} {i depth :
             let q = at-step prog depth i nz is e in
             let X = statementAt prog (depth - 1) x in
             let Y = statementAt prog (depth - 1) y in
-            walks-right (λ f K R first Q.
+            walks-right (λ f K R within first Q.
               let rec = recursive (programAt prog) f in
               let both = known-sequence prog l depth i f nz is e K in
               let wide = width-told rec prog (depth - 1) x (both .0) h ∙ t in
-              let F = use-right f A (λ d. both .0) R first (λ ok. rw (q, invocations-wide rec l first X Y wide) at (Q ok)) in
-              let G = use-whole B (ready-then R (F .0)) in
+              let F = use-right f A (λ d. both .0) R within first (λ ok. rw (q, invocations-wide rec l first X Y wide) at (Q ok)) in
+              let G = use-whole B (ready-then R (F .0)) (within-then l (F .0) within) in
               (follows-as (rw q (sym (right-wide (chainsIn prog k) rec l cs first X Y (st .next) wide)))
                 (right-then-whole prog k f l cs first X Y R (F .0) G), λ ok. F .1 (was-ok G ok)))
 
@@ -255,14 +256,15 @@ module _ {prog : List ℕ} {k : ℕ} {st : Emit} {room ws : List ℕ} {i depth :
             let Y = statementAt prog (depth - 1) y in
             let S = statementAt prog depth i in
             let h = at-branches prog depth i l nz is u e in
-            walks-right (λ f K R first Q.
+            walks-right (λ f K R within first Q.
               let rec = recursive (programAt prog) f in
               let known = known-branches prog l depth i f nz is e K in
               let second = first + length (invocations rec X l first) in
               let both = count-case (chainsIn prog k) rec l cs first (st .next) S (h .0) (h .1) X Y (h .2) in
-              let F = use-right f (rw (c₁ .controls, c₁ .list, qubit-asked q true cs m) at A) (λ d. known .1) R second
+              let F = use-right f (rw (c₁ .controls, c₁ .list, qubit-asked q true cs m) at A) (λ d. known .1) R within second
                     (λ ok. let z = Q ok .ends in record { ends = omega arith; wires = Q ok .wires }) in
-              let G = use-right f (rw (c₂ .controls, c₂ .list, qubit-asked q false cs m) at B) (λ d. known .0) (ready-then R (F .0)) first
+              let G = use-right f (rw (c₂ .controls, c₂ .list, qubit-asked q false cs m) at B) (λ d. known .0) (ready-then R (F .0))
+                    (within-then l (F .0) within) first
                     (λ ok. let z = Q (was-ok (F .0) ok) .ends in let v = Q (was-ok (F .0) ok) .wires in let g = F .1 ok in
                       record { ends = g; wires = omega arith }) in
               (follows-as (right-case (chainsIn prog k) rec l cs first (st .next) S (h .0) (h .1) q X Y (h .2) (h .3))

@@ -16,6 +16,7 @@ use Rattle.model.specs.Emission.{
 }
 use Rattle.decoded.specs.DecodedTable.{procedureCount, statementAt, programAt}
 use Rattle.widths.specs.KeptWidths.{Known, WidthsKnown}
+use Rattle.lookup.specs.Plans.{Within}
 use Rattle.events.specs.Scan.{Emit, progress, scan, begun, slotListLength, slotProcedure, slotOf, Tallied, heldIn}
 use Rattle.events.specs.FollowedEvents.{Follows, Opens}
 
@@ -25,13 +26,13 @@ pub record Checked (prog : List ℕ) : Type 0 where
   pub widths : WidthsKnown prog
   pub removes : anyLacksRemoval (programAt prog) ≡ false
 
--- such a program, wires within their limit, and slots for all of them, each with the length of its list
+-- such a program, wires within their limit, and slots for all of them, each with the length of its list, which is of the emission's qubits
 pub record Ready (prog : List ℕ) (st : Emit) (ws : List ℕ) : Type 0 where
   pub checked : Checked prog
   pub some : 0 < st .next
   pub low : st .next ≤ wireCount
   pub space : slotsLength ≤ length ws
-  pub tallied : Tallied ws
+  pub tallied : Tallied (st .qubits) ws
 
 -- how deep a body is: nothing where no procedure is f
 abbrev pub bodyDepth : ℕ → ℕ → ℕ
@@ -86,21 +87,21 @@ pub record Before (behind first n : ℕ) : Type 0 where
   pub ends : behind ≡ first + n
   pub wires : behind ≤ wireCount
 
--- one for each walker
+-- one for each walker. The list of a statement or a call is of the emission's qubits
 pub data Whole (prog : List ℕ) (k : ℕ) (st : Emit) (room ws : List ℕ) (r : Emit) (room₁ ws₁ : List ℕ)
     (i depth : ℕ) (l : List ℕ) (cs : Controls) : Type 0 where
-  walks-whole : (Ready prog st ws →
+  walks-whole : (Ready prog st ws → Within (st .qubits) l →
       Follows (whole (chainsIn prog k) (statementAt prog depth i) l cs (st .next)) st room ws r room₁ ws₁) →
       Whole prog k st room ws r room₁ ws₁ i depth l cs
 
 pub data Call (prog : List ℕ) (k : ℕ) (st : Emit) (room ws : List ℕ) (r : Emit) (room₁ ws₁ : List ℕ)
     (f : ℕ) (l : List ℕ) (cs : Controls) : Type 0 where
-  walks-call : (Ready prog st ws → Follows (startChain (chainsIn prog k) f l cs (st .next)) st room ws r room₁ ws₁) →
+  walks-call : (Ready prog st ws → Within (st .qubits) l → Follows (startChain (chainsIn prog k) f l cs (st .next)) st room ws r room₁ ws₁) →
       Call prog k st room ws r room₁ ws₁ f l cs
 
 pub data Left (prog : List ℕ) (k : ℕ) (st : Emit) (room ws : List ℕ) (r : Emit) (room₁ ws₁ : List ℕ)
     (i depth : ℕ) (l : List ℕ) (cs : Controls) : Type 0 where
-  walks-left : ((f : ℕ) → KnownIn prog f depth i → Ready prog st ws →
+  walks-left : ((f : ℕ) → KnownIn prog f depth i → Ready prog st ws → Within (st .qubits) l →
       Opens (left (chainsIn prog k) (recursive (programAt prog) f) (statementAt prog depth i) l cs (st .next))
         (invocations (recursive (programAt prog) f) (statementAt prog depth i) l (st .next)) st room ws r room₁ ws₁) →
       Left prog k st room ws r room₁ ws₁ i depth l cs
@@ -108,7 +109,7 @@ pub data Left (prog : List ℕ) (k : ℕ) (st : Emit) (room ws : List ℕ) (r : 
 -- the recursive calls of the right part have the ancillas before `behind`, from `first` on, which is given
 pub data Right (prog : List ℕ) (k : ℕ) (st : Emit) (room ws : List ℕ) (r : Emit) (room₁ ws₁ : List ℕ)
     (i depth : ℕ) (l : List ℕ) (cs : Controls) (behind given : ℕ) : Type 0 where
-  walks-right : ((f : ℕ) → KnownIn prog f depth i → Ready prog st ws → (first : ℕ) →
+  walks-right : ((f : ℕ) → KnownIn prog f depth i → Ready prog st ws → Within (st .qubits) l → (first : ℕ) →
       (st .status ≡ 0 → Before behind first (length (invocations (recursive (programAt prog) f) (statementAt prog depth i) l first))) →
       Follows (right (chainsIn prog k) (recursive (programAt prog) f) (statementAt prog depth i) l cs first (st .next))
         st room ws r room₁ ws₁ × (r .status ≡ 0 → given ≡ first)) →
@@ -161,6 +162,6 @@ pub data Body (prog : List ℕ) (k : ℕ) (st : Emit) (room ws : List ℕ) (r : 
 
 -- main emitted, from its start
 pub data Emits (prog : List ℕ) (n : ℕ) (room ws : List ℕ) (r : Emit) (room₁ ws₁ : List ℕ) : Type 0 where
-  walks-main : (Checked prog → n ≤ mostQubits → slotsLength ≤ length ws → Tallied ws →
+  walks-main : (Checked prog → n ≤ mostQubits → slotsLength ≤ length ws → Tallied n ws →
       (progress r room₁ ≡ scan (emission (programAt prog) n) (progress (begun n) room)) × (length ws₁ ≡ length ws)) →
       Emits prog n room ws r room₁ ws₁

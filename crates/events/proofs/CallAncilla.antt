@@ -19,6 +19,7 @@ use Rattle.model.proofs.BooleanLaws.{byBool, byLt, byEq, not-zero}
 use Rattle.sets.specs.Sets.{membersOf}
 use Rattle.sets.proofs.Members.{members-empty}
 use Rattle.sets.proofs.Readings.{members-split}
+use Rattle.lookup.specs.Plans.{Within}
 use Rattle.events.specs.Scan.{Emit, Progress, progress, emitOf, roomOf, stopped, taken, freed, scan, wireOf, slotOf, heldIn}
 use Rattle.events.specs.Slots.{filled, ancillaTaken, returned}
 use Rattle.events.specs.FollowedEvents.{Opens, Invokes, fills-slot}
@@ -87,9 +88,10 @@ one-held slots a d e = rw e
 module _ (f : ℕ) (cs : Controls) (st : Emit) (room slots : List ℕ) where
   pub invoke-none : (w : ℕ) → w ≡ 0 → Invokes f (membersOf w) cs st room slots st room slots
   unfolding invokes invoked heldIn
-  invoke-none w e = rw (e, members-empty) (fills-slot (λ space. record { follows = follows-none st room slots; held = λ z. refl }))
+  invoke-none w e = rw (e, members-empty) (fills-slot (λ space within. record { follows = follows-none st room slots; held = λ z. refl }))
 
-  module _ (w q : ℕ) (l : List ℕ) (is : membersOf w ≡ q ∷ l) (byte : Fits w8 f) (space : slotsLength ≤ length slots) where
+  module _ (w q : ℕ) (l : List ℕ) (is : membersOf w ≡ q ∷ l) (byte : Fits w8 f) (space : slotsLength ≤ length slots)
+      (within : Within (st .qubits) (membersOf w)) where
     refused-before : (a r : Emit) (room₁ slots₁ : List ℕ) → (st .status ≡ 0 → ⊥) → progress a slots₁ ≡ progress st slots →
         progress r room₁ ≡ scan (places (flip cs (wireOf (st .next))) ∷ []) (progress a room) →
         Opens (invokes (q ∷ l) cs (st .next)) (invoked f (q ∷ l) (st .next)) st room slots r room₁ slots₁
@@ -126,7 +128,7 @@ module _ (f : ℕ) (cs : Controls) (st : Emit) (room slots : List ℕ) where
           long = filled-length slots n f w;
           rises = omega arith; low = λ k. omega arith;
           kept = λ i k. filled-before slots n f w i k;
-          tallied = filled-tallied slots n f w space h byte };
+          tallied = filled-tallied slots n f w space h byte (st .qubits) within };
         held = λ z. one-held (filled slots n f w) n (invocation f (q ∷ l) n)
           (filled-is slots n f w space h byte ∙ ap (λ (m : List ℕ). invocation f m n) is) })
 
@@ -145,6 +147,7 @@ module _ (f : ℕ) (cs : Controls) (st : Emit) (room slots : List ℕ) where
       Invokes f (membersOf w) cs st room slots r room₁ slots₁
   invoke-some w n t a r room₁ slots₁ fits byte h is v e p =
     let split = members-split w fits h in
-    fills-slot (λ space. rw split (invoked-slot w (entry (membersOf w) 1) (drop 1 (membersOf w)) split byte space a r room₁ slots₁ e (rw (v, is) at p)))
+    fills-slot (λ space within.
+      rw split (invoked-slot w (entry (membersOf w) 1) (drop 1 (membersOf w)) split byte space within a r room₁ slots₁ e (rw (v, is) at p)))
 
 pub ruleset invoking = (needs, invoke-none, invoke-some)

@@ -20,12 +20,13 @@ use Rattle.model.proofs.BooleanLaws.{byBool, byLt, byEq}
 use Rattle.agreement.proofs.AncillaStack.{OnlyGates}
 use Rattle.sets.specs.Sets.{membersOf}
 use Rattle.sets.proofs.Members.{members-length}
+use Rattle.lookup.specs.Plans.{Within}
 use Rattle.events.specs.Scan.{Emit, 
   Progress, progress, emitOf, placed, scan, slotAt, slotList, slotOf, Tallied, heldIn,
 }
 use Rattle.events.specs.Slots.{filled}
 use Rattle.events.specs.FollowedEvents.{Follows}
-use Rattle.events.proofs.ScanOfEvents.{scan-append, scan-stopped, scan-places, scan-no-gate, scan-many, scan-next, nextAfter}
+use Rattle.events.proofs.ScanOfEvents.{scan-append, scan-stopped, scan-places, scan-no-gate, scan-many, scan-next, scan-qubits, nextAfter}
 use Rattle.events.proofs.GatesAndSlots.{gate-stopped}
 use Rattle.events.proofs.EntryGates.{scan-nothing}
 
@@ -75,6 +76,10 @@ module _ {st : Emit} {room slots : List ℕ} {a : Emit} {room₁ slots₁ : List
       scanned = F .scanned ∙ scan-stopped es st room (ne-eqb (st .status) 0 z) ∙ sym (scan-stopped es₁ st room (ne-eqb (st .status) 0 z));
       long = F .long; rises = F .rises; low = F .low; kept = F .kept; tallied = F .tallied })
 
+  -- the number of qubits stays
+  pub follows-qubits : {es : List Event} → Follows es st room slots a room₁ slots₁ → a .qubits ≡ st .qubits
+  follows-qubits {es = es} F = ap (λ (s : Progress). emitOf s .qubits) (F .scanned) ∙ scan-qubits es (progress st room)
+
   pub follows-as : {es es₁ : List Event} → es ≡ es₁ → Follows es st room slots a room₁ slots₁ → Follows es₁ st room slots a room₁ slots₁
   follows-as e F = subst (λ (v : List Event). Follows v st room slots a room₁ slots₁) e F
 
@@ -82,13 +87,13 @@ module _ {st : Emit} {room slots : List ℕ} {a : Emit} {room₁ slots₁ : List
     -- one after the other
     pub follows-append : {xs ys : List Event} → Follows xs st room slots a room₁ slots₁ → Follows ys a room₁ slots₁ b room₂ slots₂ →
         Follows (xs ++ ys) st room slots b room₂ slots₂
-    follows-append {xs = xs} {ys = ys} F G = let up = F .rises in let more = G .rises in record {
+    follows-append {xs = xs} {ys = ys} F G = let up = F .rises in let more = G .rises in let same = follows-qubits F in record {
       scanned = G .scanned ∙ ap (scan ys) (F .scanned) ∙ sym (scan-append xs ys (progress st room));
       long = G .long ∙ F .long;
       rises = omega arith;
       low = λ h. G .low (F .low h);
       kept = λ i h. G .kept i (omega arith) ∙ F .kept i h;
-      tallied = λ T. G .tallied (F .tallied T) }
+      tallied = λ T. rw (← same) (G .tallied (rw same (F .tallied T))) }
 
 -- slots below a wire that nothing changes
 module _ (slots slots₁ : List ℕ) (top : ℕ) (same : (i : ℕ) → i < slotAt top → getD slots₁ i 0 ≡ getD slots i 0) where
@@ -131,10 +136,14 @@ module _ (slots : List ℕ) (a f w : ℕ) where
     unfolding slotOf
     filled-is = let e : 255 - word % 256 ≡ f = omega (arith, byte .fits) in rw (filled-word, e, filled-list, le-ltb mostWires a low)
 
-    pub filled-tallied : Tallied slots → Tallied (filled slots a f w)
-    filled-tallied T b = byEq b a
-      (λ e. let n : word / 256 % 256 ≡ length (membersOf w) = omega (arith, byte .fits, members-length w) in rw (e, filled-word, filled-list, n))
-      (λ ne. rw (other b (slotAt b) (omega arith) (omega arith), other b (slotAt b + 1) (omega arith) (omega arith)) (T b))
+    pub filled-tallied : (n : ℕ) → Within n (membersOf w) → Tallied n slots → Tallied n (filled slots a f w)
+    filled-tallied n d T = record {
+      lengths = λ b. byEq b a
+        (λ e. let n : word / 256 % 256 ≡ length (membersOf w) = omega (arith, byte .fits, members-length w) in rw (e, filled-word, filled-list, n))
+        (λ ne. rw (other (slotAt b) (omega arith) (omega arith), other (slotAt b + 1) (omega arith) (omega arith)) (T .lengths b));
+      within = λ b. byEq b a
+        (λ e. subst (Within n) (sym (ap (slotList (filled slots a f w)) e ∙ filled-list)) d)
+        (λ ne. subst (Within n) (sym (ap membersOf (other (slotAt b + 1) (omega arith) (omega arith)))) (T .within b)) }
       where
-        other : (b j : ℕ) → j ≢ slotAt a → j ≢ slotAt a + 1 → getD (filled slots a f w) j 0 ≡ getD slots j 0
-        other b j x y = getD-set-other (set slots (slotAt a) word) (slotAt a + 1) j w 0 y ∙ getD-set-other slots (slotAt a) j word 0 x
+        other : (j : ℕ) → j ≢ slotAt a → j ≢ slotAt a + 1 → getD (filled slots a f w) j 0 ≡ getD slots j 0
+        other j x y = getD-set-other (set slots (slotAt a) word) (slotAt a + 1) j w 0 y ∙ getD-set-other slots (slotAt a) j word 0 x

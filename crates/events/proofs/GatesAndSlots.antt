@@ -151,7 +151,8 @@ pub begins : (n : ℕ) → Fits w8 n → emitIn (0 ∷ headerLength ∷ 0 ∷ (n
 begins n byte =
     let up : (n + 1) % 2 ^ 16 ≡ n + 1 = omega (arith, byte .fits) in
     let low : n % 2 ^ 16 ≡ n = omega (arith, byte .fits) in
-    rw (up, low)
+    let few : n % 2 ^ 8 ≡ n = omega (arith, byte .fits) in
+    rw (up, low, few)
 
 pub ruleset takings = (needs, back-stopped, back-given, take-stopped, take-past, take-one, begins)
 

@@ -8,7 +8,7 @@ use native.Mathlib.Omega.{arith}
 use borrow.Author.Tests.{lt-ltb, le-ltb, le-leb, lt-leb, eq-eqb, eqb-true}
 use lib.ListN.{length, length-append}
 use lib.Seq.{sets, length-sets}
-use lib.Dec.{eqb, leb}
+use lib.Dec.{eqb, ltb, leb}
 use Rattle.model.specs.Limits.{mostWires, mostCircuit, headerLength, manyWires, noRoom}
 use Rattle.model.specs.Syntax.{Program}
 use Rattle.model.specs.Gates.{Gate}
@@ -85,7 +85,7 @@ highestAfter h (frees b ∷ es) = highestAfter h es
 abbrev pub ended : Emit → List Event → Emit
 ended st es = record {
   status = 0; used = st .used + length (encodeAll (gates es)); gates = st .gates + length (gates es);
-  next = nextAfter (st .next) es; highest = highestAfter (st .highest) es }
+  next = nextAfter (st .next) es; highest = highestAfter (st .highest) es; qubits = st .qubits }
 
 -- nothing was refused, and the room holds what was placed
 pub record Sound (st : Emit) (room : List ℕ) : Type 0 where
@@ -198,6 +198,24 @@ scan-next (places g ∷ es) st room h =
 scan-next (frees a ∷ es) st room h =
     let ok = scan-was (frees a ∷ es) st room h in
     rw (scan-frees es st room ok a) (scan-next es (freed st a) room (rw (scan-frees es st room ok a) at h))
+
+-- the number of qubits stays
+gate-qubits : (room : ℕ) (st : Emit) (n : ℕ) → withGate room st n .qubits ≡ st .qubits
+unfolding withGate
+gate-qubits room st n = byBool (leb (st .used + n) (usable room))
+    (λ t. byBool (ltb (st .gates) mostCircuit) (λ u. rw (t, u)) (λ u. rw (t, u)))
+    (λ t. rw t)
+
+event-qubits : (e : Event) (st : Emit) (room : List ℕ) → emitOf (afterEvent e st room) .qubits ≡ st .qubits
+unfolding afterEvent
+event-qubits (takes w) st room = byBool (ltb mostWires w) (λ t. rw t) (λ t. rw t)
+event-qubits (places g) st room = gate-qubits (length room) st (length (encode g))
+event-qubits (frees a) st room = refl
+
+pub scan-qubits : (es : List Event) (x : Progress) → emitOf (scan es x) .qubits ≡ emitOf x .qubits
+unfolding scan
+scan-qubits [] x = refl
+scan-qubits (e ∷ es) (progress st room) = scan-qubits es _ ∙ byBool (eqb (st .status) 0) (λ z. rw z (event-qubits e st room)) (λ z. rw z)
 
 -- The emission from its start: the number of the definitions; and where that is 0, bytes, gates and the highest wire as the definitions have them.
 module _ (P : Program) (n : ℕ) (room : List ℕ) (header : headerLength ≤ usable (length room)) where

@@ -6,27 +6,29 @@ use mathlib.Core.List.{List, [], _∷_}
 use lib.ListN.{length, getD}
 use lib.Seq.{sets}
 use lib.Dec.{eqb, ltb, leb}
-use Rattle.limits.specs.Sizes.{slotLength, statusWord, usedWord, gatesWord, nextWord, highestWord}
+use Rattle.limits.specs.Sizes.{slotLength, statusWord, usedWord, gatesWord, nextWord, highestWord, qubitsWord}
 use Rattle.model.specs.Limits.{mostWires, mostCircuit, manyWires, noRoom, headerLength}
 use Rattle.model.specs.Syntax.{Program}
 use Rattle.model.specs.Emission.{Event, takes, places, frees, Invocation, invocation, emission, gates, peak}
 use Rattle.model.specs.Circuit.{encode, encodeAll}
 use Rattle.model.specs.Answers.{usable}
 use Rattle.sets.specs.Sets.{membersOf}
+use Rattle.lookup.specs.Plans.{Within}
 
--- where an emission is: 0 or the number that refuses it, bytes used, gates placed, the next wire, and the highest wire taken
+-- where an emission is: 0 or the number that refuses it, bytes used, gates placed, the next wire, the highest wire taken, and the number of qubits
 pub record Emit : Type 0 where
   pub status : ℕ
   pub used : ℕ
   pub gates : ℕ
   pub next : ℕ
   pub highest : ℕ
+  pub qubits : ℕ
 
 -- as the code keeps it, in words: of a word that holds less than 64 bits, the low ones
 abbrev pub emitIn : List ℕ → Emit
 emitIn words = record {
   status = getD words statusWord 0 % 2 ^ 8; used = getD words usedWord 0; gates = getD words gatesWord 0 % 2 ^ 32;
-  next = getD words nextWord 0 % 2 ^ 16; highest = getD words highestWord 0 % 2 ^ 16 }
+  next = getD words nextWord 0 % 2 ^ 16; highest = getD words highestWord 0 % 2 ^ 16; qubits = getD words qubitsWord 0 % 2 ^ 8 }
 
 -- what is seen of an emission: where it is, and the room
 pub data Progress : Type 0 where
@@ -38,18 +40,18 @@ emitOf (progress st room) = st
 abbrev pub roomOf : Progress → List ℕ
 roomOf (progress st room) = room
 
--- the state behind a refusal, an ancilla taken, ancillas given back from one on, and a gate of some bytes
+-- the state behind a refusal, an ancilla taken, ancillas given back from one on, and a gate of some bytes: the number of qubits stays
 abbrev pub stopped : Emit → ℕ → Emit
-stopped st k = record { status = k; used = st .used; gates = st .gates; next = st .next; highest = st .highest }
+stopped st k = record { status = k; used = st .used; gates = st .gates; next = st .next; highest = st .highest; qubits = st .qubits }
 
 abbrev pub taken : Emit → ℕ → Emit
-taken st w = record { status = 0; used = st .used; gates = st .gates; next = w + 1; highest = max (st .highest) w }
+taken st w = record { status = 0; used = st .used; gates = st .gates; next = w + 1; highest = max (st .highest) w; qubits = st .qubits }
 
 abbrev pub freed : Emit → ℕ → Emit
-freed st a = record { status = 0; used = st .used; gates = st .gates; next = a; highest = st .highest }
+freed st a = record { status = 0; used = st .used; gates = st .gates; next = a; highest = st .highest; qubits = st .qubits }
 
 abbrev pub placed : Emit → ℕ → Emit
-placed st n = record { status = 0; used = st .used + n; gates = st .gates + 1; next = st .next; highest = st .highest }
+placed st n = record { status = 0; used = st .used + n; gates = st .gates + 1; next = st .next; highest = st .highest; qubits = st .qubits }
 
 -- behind a gate of n bytes, or refused: "23 header or next gate would pass the room's end". A room holds fewer than 65,536 gates.
 unfoldable pub withGate : ℕ → Emit → ℕ → Emit
@@ -70,13 +72,13 @@ scan (e ∷ es) (progress st room) = scan es (cond (eqb (st .status) 0) (afterEv
 
 -- an emission with n qubits starts behind the header, with wire n + 1
 abbrev pub begun : ℕ → Emit
-begun n = record { status = 0; used = headerLength; gates = 0; next = n + 1; highest = n }
+begun n = record { status = 0; used = headerLength; gates = 0; next = n + 1; highest = n; qubits = n }
 
 -- where one ends that fits
 abbrev pub emissionEnd : Program → ℕ → Emit
 emissionEnd P n = record {
   status = 0; used = headerLength + length (encodeAll (gates (emission P n))); gates = length (gates (emission P n));
-  next = n + 1; highest = n + peak [] (emission P n) }
+  next = n + 1; highest = n + peak [] (emission P n); qubits = n }
 
 -- an ancilla's slot holds the invocation that took it: a word for the length of its list and the procedure, counted down from 255, and the set of the list
 abbrev pub slotAt : ℕ → ℕ
@@ -91,9 +93,10 @@ slotList slots a = membersOf (getD slots (slotAt a + 1) 0)
 abbrev pub slotListLength : List ℕ → ℕ → ℕ
 slotListLength slots a = getD slots (slotAt a) 0 / 256 % 256
 
--- each slot has the length of its list
-abbrev pub Tallied : List ℕ → Type 0
-Tallied slots = (a : ℕ) → slotListLength slots a ≡ length (slotList slots a)
+-- each slot has the length of its list, a list of the emission's qubits 1 to n
+pub record Tallied (n : ℕ) (slots : List ℕ) : Type 0 where
+  pub lengths : (a : ℕ) → slotListLength slots a ≡ length (slotList slots a)
+  pub within : (a : ℕ) → Within n (slotList slots a)
 
 -- the wire of an ancilla. None is above the limit: for such the code has 0.
 abbrev pub wireOf : ℕ → ℕ

@@ -1,5 +1,6 @@
 -- What the code does with the slots of ancillas: they are filled, compared, and sought for the next body.
 use Prim.Native.Nat.{ℕ, zero, suc, _+_, _-_, _*_, _%_, _≤_, _<_}
+use mathlib.Core.Path.{_≡_}
 use mathlib.Core.Bool.{Bool, true, false, cond}
 use mathlib.Core.List.{List, [], _∷_, _++_, reverse}
 use lib.ListN.{length, getD, set}
@@ -8,7 +9,9 @@ use Rattle.sets.specs.Sets.{membersOf}
 use Rattle.model.specs.Limits.{mostWires, manyWires}
 use Rattle.model.specs.Gates.{swapOf}
 use Rattle.model.specs.Emission.{Event, places, under, entryGates}
-use Rattle.events.specs.Scan.{Emit, Progress, progress, stopped, taken, freed, slotAt, slotOf}
+use Rattle.lookup.specs.declared.Plan.{Plan}
+use Rattle.lookup.specs.Plans.{pairsOf, PlansSwaps, entriesTouched}
+use Rattle.events.specs.Scan.{Emit, Progress, progress, emitOf, stopped, taken, freed, scan, slotAt, slotOf, Tallied}
 
 -- an invocation put into the slot of its ancilla, its list as a set
 abbrev pub filled : List ℕ → ℕ → ℕ → ℕ → List ℕ
@@ -43,6 +46,15 @@ pub record NextSlot (slots : List ℕ) (base last upto d : ℕ) : Type 0 where
 abbrev pub turned : Bool → List Event → List Event
 turned true es = reverse es
 turned false es = es
+
+-- gates of entries are scanned, where the slots' lists are of the emission's qubits
+pub data Enters (slots : List ℕ) (es : List Event) (x y : Progress) : Type 0 where
+  scans-entries : (Tallied (emitOf x .qubits) slots → y ≡ scan es x) → Enters slots es x y
+
+-- how many entries of the lookup are read and written for an entry from a later list: none where that is the first one, or as many as its plan has
+pub data EntryTouched (n : ℕ) (first later : List ℕ) (touched : ℕ) : Type 0 where
+  no-plan : first ≡ later → touched ≡ 0 → EntryTouched n first later touched
+  by-plan : (r : Plan) → PlansSwaps n first later r → touched ≡ entriesTouched n first later (length (pairsOf r)) → EntryTouched n first later touched
 
 -- the entry gates from slot e to the body of slot d, if they are of one pair
 unfoldable pub entryAt : List ℕ → ℕ → ℕ → List Event

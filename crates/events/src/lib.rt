@@ -17,7 +17,7 @@ ghost use Rattle.sets.specs.Sets.{membersOf};
 ghost use Rattle.events.specs.Scan.{
   emitIn, progress, stopped, withGate, scan, begun, slotProcedure, slotList, wireOf, slotOf,
 };
-ghost use Rattle.events.specs.Slots.{filled, ancillaTaken, returned, precedenceIn, NextSlot, turned, entryAt, entriesTo, swapsIn};
+ghost use Rattle.events.specs.Slots.{filled, ancillaTaken, returned, precedenceIn, NextSlot, turned, Enters, EntryTouched, entryAt, entriesTo, swapsIn};
 ghost use Rattle.events.specs.FollowedEvents.{Invokes};
 use controls::{Site, flip_length, high_wire, put_flip, put_swap, swap_length, under};
 use limits::{
@@ -66,6 +66,13 @@ pub fn highest(state: &State) -> u16
     ensures { λ r. ⌜ r ≡ emitIn (now (state .entry)) .highest ⌝ }
 {
     (state[HIGHEST_WORD] % 65536) as u16
+}
+
+// The number of qubits.
+fn qubits(state: &State) -> u8
+    ensures { λ r. ⌜ r ≡ emitIn (now (state .entry)) .qubits ⌝ }
+{
+    (state[QUBITS_WORD] % 256) as u8
 }
 
 // An emission on n qubits begins behind the header.
@@ -289,11 +296,13 @@ fn emit_back(e: u8, from: &[u8; SET_LENGTH], to: &[u8; SET_LENGTH], count: u8, r
     }
 }
 
-// "flip the body's ancilla under the entry ancilla; then" the swaps: from slot e to the body of slot d, in order or reversed.
-fn emit_gates(slots: &Slots, d: u16, e: u16, reversed: bool, room: &mut [u8], state: &mut State)
-    ensures { λ r. ⌜ progress (emitIn (now (state .exit))) (now (room .exit)) ≡
-        scan (turned reversed (entryGates (slotOf (now (slots .entry)) d) (slotOf (now (slots .entry)) e)))
-          (progress (emitIn (now (state .entry))) (now (room .entry))) ⌝ }
+// "flip the body's ancilla under the entry ancilla; then" the swaps: from slot e to the body of slot d, in order or reversed. Given is how many entries of the
+// lookup were read and written: "at most 4 × n + 8 × m of its entries for a later list of length m".
+fn emit_gates(slots: &Slots, d: u16, e: u16, reversed: bool, room: &mut [u8], state: &mut State) -> u16
+    ensures { λ r. ⌜ r ≤ 4 * emitIn (now (state .entry)) .qubits + 8 * length (slotList (now (slots .entry)) e) ⌝ }
+    ensures { λ r. ⌜ EntryTouched (emitIn (now (state .entry)) .qubits) (slotList (now (slots .entry)) d) (slotList (now (slots .entry)) e) r ⌝ }
+    ensures { λ r. ⌜ Enters (now (slots .entry)) (turned reversed (entryGates (slotOf (now (slots .entry)) d) (slotOf (now (slots .entry)) e)))
+        (progress (emitIn (now (state .entry))) (now (room .entry))) (progress (emitIn (now (state .exit))) (now (room .exit))) ⌝ }
 {
     let first = load(slots, d);
     let later = load(slots, e);
@@ -303,25 +312,27 @@ fn emit_gates(slots: &Slots, d: u16, e: u16, reversed: bool, room: &mut [u8], st
     // a list that is the first one stays where it is
     if first == later {
         emit_flip(&site, target, room, state);
-        return;
+        return 0;
     }
-    let plan = plan_swaps((state[QUBITS_WORD] % 256) as u8, first, later);
+    let n = qubits(state);
+    let plan = plan_swaps(n, first, later);
     let count = pair_count(plan);
     let from = plan.from;
     let to = plan.to;
     if reversed {
         emit_back(a, &from, &to, count, room, state);
         emit_flip(&site, target, room, state);
-        return;
+        return plan.touched;
     }
     emit_flip(&site, target, room, state);
     emit_forth(a, &from, &to, count, room, state);
+    plan.touched
 }
 
 // These, if the slots are of one pair.
 fn emit_entry(slots: &Slots, d: u16, e: u16, reversed: bool, room: &mut [u8], state: &mut State)
-    ensures { λ r. ⌜ progress (emitIn (now (state .exit))) (now (room .exit)) ≡
-        scan (turned reversed (entryAt (now (slots .entry)) d e)) (progress (emitIn (now (state .entry))) (now (room .entry))) ⌝ }
+    ensures { λ r. ⌜ Enters (now (slots .entry)) (turned reversed (entryAt (now (slots .entry)) d e))
+        (progress (emitIn (now (state .entry))) (now (room .entry))) (progress (emitIn (now (state .exit))) (now (room .exit))) ⌝ }
 {
     if precedence(slots, e) == precedence(slots, d) {
         emit_gates(slots, d, e, reversed, room, state);
@@ -330,8 +341,8 @@ fn emit_entry(slots: &Slots, d: u16, e: u16, reversed: bool, room: &mut [u8], st
 
 // "Before the shared body's left part, for each such call in order" the entry gates: to the body of slot d, from the slots from e on, before `upto`.
 pub fn emit_entries(slots: &Slots, d: u16, e: u16, upto: u16, room: &mut [u8], state: &mut State)
-    ensures { λ r. ⌜ progress (emitIn (now (state .exit))) (now (room .exit)) ≡
-        scan (entriesTo (now (slots .entry)) d e (upto - e)) (progress (emitIn (now (state .entry))) (now (room .entry))) ⌝ }
+    ensures { λ r. ⌜ Enters (now (slots .entry)) (entriesTo (now (slots .entry)) d e (upto - e))
+        (progress (emitIn (now (state .entry))) (now (room .entry))) (progress (emitIn (now (state .exit))) (now (room .exit))) ⌝ }
 {
     let mut a = e;
     while a < upto {
@@ -342,8 +353,8 @@ pub fn emit_entries(slots: &Slots, d: u16, e: u16, upto: u16, room: &mut [u8], s
 
 // "After its right part the same gates come in reverse."
 pub fn emit_entries_back(slots: &Slots, d: u16, e: u16, upto: u16, room: &mut [u8], state: &mut State)
-    ensures { λ r. ⌜ progress (emitIn (now (state .exit))) (now (room .exit)) ≡
-        scan (reverse (entriesTo (now (slots .entry)) d e (upto - e))) (progress (emitIn (now (state .entry))) (now (room .entry))) ⌝ }
+    ensures { λ r. ⌜ Enters (now (slots .entry)) (reverse (entriesTo (now (slots .entry)) d e (upto - e)))
+        (progress (emitIn (now (state .entry))) (now (room .entry))) (progress (emitIn (now (state .exit))) (now (room .exit))) ⌝ }
 {
     if upto <= e {
         return;

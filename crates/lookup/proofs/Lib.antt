@@ -1,4 +1,3 @@
 pub mod CountedEntries
 pub mod TrackedWires
 pub mod PlannedSwaps
-pub mod EntriesTouched

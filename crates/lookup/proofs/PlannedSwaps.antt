@@ -1,58 +1,42 @@
 -- The plan of an entry's swaps, made by one loop over k: its pairs are the definition's swaps.
 use mathlib.Core.Path.{_≡_, refl, sym, ap, _∙_}
-use mathlib.Core.Bool.{true}
 use mathlib.Core.List.{List, [], _∷_, _++_, map, append-nil}
-use Prim.Native.Nat.{ℕ, zero, suc, _+_, _*_, _≤_, _<_, min, max}
+use Prim.Native.Nat.{ℕ, zero, suc, _+_, _*_, _≤_, _<_, min}
 use native.Mathlib.Numerals.{add-one}
 use native.Mathlib.Omega.{arith}
 use mir.Syntax.{w8}
 use mir.Val.{Fits}
 use borrow.Author.Needs.{needs}
 use borrow.Author.Tests.{eq-eqb, ne-eqb}
-use lib.ListN.{length, getD, set, take, drop, length-append, length-set, length-take, drop-of-length-le}
+use lib.ListN.{length, getD, set, take, drop, length-take, drop-of-length-le}
 use lib.Seq.{drop-cons, drop-drop, getD-drop, getD-take, take-suc-set, take-set-le, append-snoc}
-use Rattle.limits.specs.Sizes.{setLength, lookupLength, mostCount}
+use Rattle.limits.specs.Sizes.{setLength, lookupLength}
 use Rattle.model.specs.Limits.{mostWires}
 use Rattle.model.specs.Lists.{entry}
 use Rattle.model.specs.Gates.{swapOf, exchange}
 use Rattle.model.specs.Emission.{Event, places, under, swaps}
-use Rattle.model.specs.Circuit.{ascends}
 use Rattle.model.proofs.BooleanLaws.{byEq, byLt}
-use Rattle.model.proofs.ListLaws.{member-head}
-use Rattle.model.proofs.AscendingWires.{ascends-tail, ascends-larger}
 use Rattle.sets.specs.Sets.{membersOf}
-use Rattle.sets.proofs.Members.{members-ascend, members-length}
+use Rattle.sets.proofs.Filtering.{getD-in}
+use Rattle.sets.proofs.Members.{members-length}
 use Rattle.lookup.specs.declared.Plan.{Plan}
-use Rattle.lookup.specs.Entries.{counted, wireAt, qubitAt, built, pushed, tracked, accesses}
+use Rattle.lookup.specs.Entries.{counted, wireAt, qubitAt, built, tracked, accesses}
 use Rattle.lookup.specs.Plans.{
-  pairs, pairsOf, swapsAlong, PlansSwaps, same-swaps, holder, Names, highest, covered, swapCount, entriesTouched,
+  pairs, planned, pairsOf, swapsAlong, Within, PlansSwaps, same-swaps, holder, Names, pairOf, PlansSwap, names-again, swapCount, entriesTouched,
 }
-use Rattle.lookup.proofs.CountedEntries.{counted-sum, built-length}
-use Rattle.lookup.proofs.TrackedWires.{Inside, holder-next, inside-none, names-built, names-pushed, inside-pushed, pushed-length}
+use Rattle.lookup.proofs.CountedEntries.{counted-sum}
+use Rattle.lookup.proofs.TrackedWires.{holder-next, names-built, names-pushed}
 
 -- the ways out of `swap_count`
 pub count-equal : (from to : ℕ) → from ≡ to → 0 ≡ swapCount from to
+unfolding swapCount
 count-equal from to e = rw (eq-eqb from to e)
 
 pub count-apart : (from to : ℕ) → (from ≡ to → ⊥) → 1 ≡ swapCount from to
+unfolding swapCount
 count-apart from to h = rw (ne-eqb from to h)
 
 pub ruleset counting = (needs, count-equal, count-apart)
-
--- the highest wire of a list that ascends is its last
-last-highest : (l : List ℕ) → ascends l ≡ true → entry l (length l) ≡ highest l
-unfolding highest
-last-highest [] a = refl
-last-highest (x ∷ []) a = omega arith
-last-highest (x ∷ y ∷ l) a =
-    let less : x < y = ascends-larger x (y ∷ l) a y (member-head y l) in
-    last-highest (y ∷ l) (ascends-tail x (y ∷ l) a) ∙ omega arith
-
--- the way out of `covered`
-pub covers : (n f l a b c r : ℕ) → a ≡ entry (membersOf f) (length (membersOf f)) → b ≡ entry (membersOf l) (length (membersOf l)) → c ≡ max a b → r ≡ max n c →
-    r ≡ covered n (membersOf f) (membersOf l)
-covers n f l a b c r p q s t =
-    rw (t, s, p, q, last-highest (membersOf f) (members-ascend f), last-highest (membersOf l) (members-ascend l))
 
 -- a set that has what is left of a list behind i entries: its lowest member, and the set without that
 pub data Rest (l : List ℕ) (i w : ℕ) : Type 0 where
@@ -67,12 +51,9 @@ rest-first l i w q (left-behind is) e = e ∙ rw is (getD-drop i l 0 0 ∙ ap (�
 pub rest-next : (l : List ℕ) (i w r : ℕ) → Rest l i w → membersOf r ≡ drop 1 (membersOf w) → Rest l (i + 1) r
 rest-next l i w r (left-behind is) e = left-behind (e ∙ rw is (drop-drop 1 i l))
 
--- no entry of a list is above the highest
-entry-low : (l : List ℕ) (i : ℕ) → getD l i 0 ≤ highest l
-unfolding highest
-entry-low [] i = omega arith
-entry-low (x ∷ l) zero = omega arith
-entry-low (x ∷ l) (suc i) = omega (arith, entry-low l i)
+-- an entry of a list of qubits 1 to n is at most n
+entry-within : (n : ℕ) (l : List ℕ) (i q : ℕ) → Within n l → i < length l → q ≡ getD l i 0 → q ≤ n
+entry-within n l i q d h e = rw e (d (getD l i 0) (getD-in l i h) .1)
 
 -- pairs side by side, and one pair more
 pairs-length : (xs ys : List ℕ) → length xs ≡ length ys → length (pairs xs ys) ≡ length xs
@@ -92,11 +73,6 @@ along-next : (e : ℕ) (ps : List (ℕ × ℕ)) (u v : ℕ) → swapsAlong e (ps
 unfolding swapsAlong
 along-next e [] u v = refl
 along-next e (p ∷ ps) u v = ap (λ (t : List Event). places (swapOf (under e) (p .0) (p .1)) ∷ t) (along-next e ps u v)
-
-along-length : (e : ℕ) (ps : List (ℕ × ℕ)) → length (swapsAlong e ps) ≡ length ps
-unfolding swapsAlong
-along-length e [] = refl
-along-length e (p ∷ ps) = ap suc (along-length e ps)
 
 -- the definition's tracking is by the wires that hold the qubits
 holders-none : (l : List ℕ) → map (holder []) l ≡ l
@@ -123,89 +99,100 @@ swaps-apart : (e k w : ℕ) (ks ws : List ℕ) → (w ≡ k → ⊥) →
 unfolding swaps
 swaps-apart e k w ks ws h = rw (ne-eqb w k h, swaps)
 
--- before each k: the lookup names the wire that holds each qubit, and the pairs so far with what the definition still has to swap, the later list's
--- qubits where they are now, are all its swaps. So far 2 entries for each qubit covered, 1 for each k and 5 for each pair were touched.
-pub record BeforeK (last : ℕ) (first later l : List ℕ) (ps : List (ℕ × ℕ)) (count i : ℕ) : Type 0 where
-  pub long : length l ≡ lookupLength
-  pub names : Names last l ps
-  pub inside : Inside last ps
-  pub few : length ps ≤ i
-  pub touched : count ≡ 2 * last + i + 5 * length ps
-  pub tracking : (e : ℕ) → swaps e first later ≡ swapsAlong e ps ++ swaps e (drop i first) (map (holder ps) (drop i later))
-
--- before the first k
-before-first : (last : ℕ) (first later l₀ l : List ℕ) (count : ℕ) → last ≤ mostWires → length l₀ ≡ lookupLength → wireAt l₀ 0 ≡ 0 → qubitAt l₀ 0 ≡ 0 →
-    l ≡ built l₀ last → count ≡ counted 0 (2 * last) → BeforeK last first later l [] count 0
-unfolding swapsAlong
-before-first last first later l₀ l count h long w q e c = record {
-  long = rw e (built-length l₀ last ∙ long);
-  names = rw e (names-built l₀ long w q last h);
-  inside = inside-none last;
-  few = omega arith;
-  touched = let t = counted-sum 0 (2 * last) (omega arith) in omega arith;
-  tracking = λ e. rw (holders-none later) }
-
--- one k more
-module _ (last : ℕ) (first later l : List ℕ) (ps : List (ℕ × ℕ)) (count i q to from : ℕ) (B : BeforeK last first later l ps count i) (h : last ≤ mostWires)
-    (lf : i < length first) (ll : i < length later) (is-to : to ≡ getD first i 0) (is-q : q ≡ getD later i 0) (hq : q ≤ last) (ht : to ≤ last)
-    (is : from ≡ wireAt l q) where
-  -- the definition's next swap is of the wire that the lookup names
-  at-k : (e : ℕ) → swaps e (drop i first) (map (holder ps) (drop i later)) ≡ swaps e (to ∷ drop (suc i) first) (from ∷ map (holder ps) (drop (suc i) later))
-  at-k e = rw (drop-cons first i 0 lf, drop-cons later i 0 ll, ← is-to, ← is-q, is, B .names .wires q hq)
-
-  room : count + 6 ≤ mostCount → (a : ℕ) → a ≤ 6 → counted count a ≡ count + a
-  room k a m = counted-sum count a (omega arith)
-
-  after-equal : from ≡ to → (count₁ : ℕ) → count₁ ≡ count + 1 → BeforeK last first later l ps count₁ (suc i)
-  after-equal s count₁ c = record {
-    long = B .long;
-    names = B .names;
-    inside = B .inside;
-    few = omega (arith, B .few);
-    touched = omega (arith, B .touched);
-    tracking = λ e. B .tracking e ∙ ap (λ (t : List Event). swapsAlong e ps ++ t)
-      (at-k e ∙ swaps-equal e to from (drop (suc i) first) (map (holder ps) (drop (suc i) later)) s) }
-
-  after-swap : (from ≡ to → ⊥) → (count₁ : ℕ) → count₁ ≡ count + 6 →
-      BeforeK last first later (pushed l q from to) (ps ++ ((from, to) ∷ [])) count₁ (suc i)
-  after-swap s count₁ c =
-    let more : length (ps ++ ((from, to) ∷ [])) ≡ length ps + 1 = length-append ps ((from, to) ∷ []) in
-    record {
-      long = pushed-length last l ps q from to (B .long) h (B .names) (B .inside) hq ht is s;
-      names = names-pushed last l ps q from to (B .long) h (B .names) (B .inside) hq ht is s;
-      inside = inside-pushed last l ps q from to (B .long) h (B .names) (B .inside) hq ht is s;
-      few = omega (arith, B .few);
-      touched = omega (arith, B .touched);
-      tracking = λ e.
-        let rest = swaps e (drop (suc i) first) (map (holder (ps ++ ((from, to) ∷ []))) (drop (suc i) later)) in
-        let next : swaps e (drop i first) (map (holder ps) (drop i later)) ≡ places (swapOf (under e) from to) ∷ rest =
-              at-k e ∙ swaps-apart e to from (drop (suc i) first) (map (holder ps) (drop (suc i) later)) s
-                ∙ rw (holders-next ps from to (drop (suc i) later)) in
-        B .tracking e ∙ rw (next, along-next e ps from to)
-          (sym (append-snoc (swapsAlong e ps) (places (swapOf (under e) from to)) rest)) }
-
--- the pairs kept so far
-abbrev pub planned : List ℕ → List ℕ → ℕ → List (ℕ × ℕ)
-planned from to len = pairs (take len from) (take len to)
-
-pub data Planning (last : ℕ) (first later l from to : List ℕ) (count len i : ℕ) : Type 0 where
-  before-k : length from ≡ setLength → length to ≡ setLength → len ≤ i → BeforeK last first later l (planned from to len) count i →
-      Planning last first later l from to count len i
-
 -- the arrays with one pair more in them, or with a store behind the pairs
-module _ (from to : List ℕ) (len u v : ℕ) (lf : length from ≡ setLength) (lt : length to ≡ setLength) (h : len < setLength) where
+module _ (from to : List ℕ) (len : ℕ) (lf : length from ≡ setLength) (lt : length to ≡ setLength) where
   sides : length (take len from) ≡ length (take len to)
   sides = length-take len from ∙ rw (lf, ← lt) (sym (length-take len to))
 
-  planned-length : length (planned from to len) ≡ len
-  planned-length = pairs-length (take len from) (take len to) sides ∙ (length-take len from ∙ omega arith)
+  planned-length : len ≤ setLength → length (planned from to len) ≡ len
+  planned-length h = pairs-length (take len from) (take len to) sides ∙ (length-take len from ∙ omega arith)
 
-  planned-same : planned (set from len u) (set to len v) len ≡ planned from to len
-  planned-same = rw (take-set-le len from len u (omega arith), take-set-le len to len v (omega arith))
+  module _ (u v : ℕ) (h : len < setLength) where
+    planned-same : planned (set from len u) (set to len v) len ≡ planned from to len
+    planned-same = rw (take-set-le len from len u (omega arith), take-set-le len to len v (omega arith))
 
-  planned-next : planned (set from len u) (set to len v) (len + 1) ≡ planned from to len ++ ((u, v) ∷ [])
-  planned-next = rw (add-one len, take-suc-set from len u (omega arith), take-suc-set to len v (omega arith))
-    (pairs-next (take len from) (take len to) u v sides)
+    planned-next : planned (set from len u) (set to len v) (len + 1) ≡ planned from to len ++ ((u, v) ∷ [])
+    planned-next = rw (add-one len, take-suc-set from len u (omega arith), take-suc-set to len v (omega arith))
+      (pairs-next (take len from) (take len to) u v sides)
+
+-- the ways out of `plan_swap`
+-- one pair more at most
+pub pairs-few : (len i k from to : ℕ) → len ≤ i → k ≡ len + swapCount from to → k ≤ i + 1
+unfolding swapCount
+pairs-few len i k from to h e = byEq from to
+    (λ s. let z : k ≡ len + 0 = rw (e, eq-eqb from to s) in omega arith)
+    (λ s. let z : k ≡ len + 1 = rw (e, ne-eqb from to s) in omega arith)
+
+pub pairs-fit : (len k from to : ℕ) → len < setLength → k ≡ swapCount from to → Fits w8 (len + k)
+pairs-fit len k from to less e =
+    let t = pairs-few len len (len + k) from to (omega arith) (ap (λ (v : ℕ). len + v) e) in record { fits = omega arith }
+
+module _ (l l₁ from to : List ℕ) (q wire len held k : ℕ) (is-h : held ≡ wireAt l q) (is-k : k ≡ swapCount held wire) where
+  pub plan-more : len + k ≡ len + swapCount (wireAt l q) wire
+  plan-more = rw (is-k, is-h)
+
+  pub swap-planned : length l ≡ lookupLength → length from ≡ setLength → length to ≡ setLength → len < setLength → l₁ ≡ tracked l q wire →
+      PlansSwap q wire l (planned from to len) l₁ (planned (set from len held) (set to len wire) (len + k))
+  unfolding tracked swapCount
+  swap-planned long lf lt room is-l = names-again (λ n few hq hw N.
+    let ps = planned from to len in
+    let there : held ≡ holder ps q = is-h ∙ N .wires q hq in
+    byEq held wire
+      (λ e.
+        let same = eq-eqb (wireAt l q) wire (sym is-h ∙ e) in
+        let none : len + k ≡ len = rw (is-k, eq-eqb held wire e) (omega arith) in
+        rw (none, is-l, same, ← there, eq-eqb held wire e, planned-same from to len lf lt held wire room) (sym (append-nil ps), N))
+      (λ e.
+        let apart = ne-eqb (wireAt l q) wire (λ x. e (is-h ∙ x)) in
+        let one : len + k ≡ len + 1 = rw (is-k, ne-eqb held wire e) in
+        rw (one, is-l, apart, ← is-h, ← there, ne-eqb held wire e, planned-next from to len lf lt held wire room)
+          (refl, names-pushed n l ps q held wire long few N hq hw is-h e)))
+
+pub ruleset swapping = (needs, pairs-fit, plan-more, swap-planned)
+
+-- before each k: the lookup names the wire that holds each qubit, and the pairs so far with what the definition still has to swap, the later list's
+-- qubits where they are now, are all its swaps
+pub record BeforeK (n : ℕ) (first later l : List ℕ) (ps : List (ℕ × ℕ)) (i : ℕ) : Type 0 where
+  pub names : Names n l ps
+  pub tracking : (e : ℕ) → swaps e first later ≡ swapsAlong e ps ++ swaps e (drop i first) (map (holder ps) (drop i later))
+
+before-first : (n : ℕ) (first later l : List ℕ) → Names n l [] → BeforeK n first later l [] 0
+unfolding swapsAlong
+before-first n first later l N = record { names = N; tracking = λ e. rw (holders-none later) }
+
+-- one k more, by what is promised of it
+module _ (n : ℕ) (first later l l₁ : List ℕ) (ps ps₁ : List (ℕ × ℕ)) (i q to : ℕ) (lf : i < length first) (ll : i < length later)
+    (is-to : to ≡ getD first i 0) (is-q : q ≡ getD later i 0) where
+  -- the definition's next swap is of the wire that holds the qubit
+  at-k : (e : ℕ) → swaps e (drop i first) (map (holder ps) (drop i later)) ≡
+      swaps e (to ∷ drop (suc i) first) (holder ps q ∷ map (holder ps) (drop (suc i) later))
+  at-k e = rw (drop-cons first i 0 lf, drop-cons later i 0 ll, ← is-to, ← is-q)
+
+  -- with its pair, unless equal, come those behind it
+  next-swaps : (e : ℕ) → ps₁ ≡ ps ++ pairOf (holder ps q) to →
+      swapsAlong e ps ++ swaps e (drop i first) (map (holder ps) (drop i later)) ≡
+        swapsAlong e ps₁ ++ swaps e (drop (suc i) first) (map (holder ps₁) (drop (suc i) later))
+  next-swaps e is = byEq (holder ps q) to
+    (λ s.
+      let same : ps₁ ≡ ps = is ∙ rw (eq-eqb (holder ps q) to s) (append-nil ps) in
+      rw (same, at-k e, swaps-equal e to (holder ps q) (drop (suc i) first) (map (holder ps) (drop (suc i) later)) s))
+    (λ s.
+      let u = holder ps q in
+      let rest = map (holder ps) (drop (suc i) later) in
+      let more : ps₁ ≡ ps ++ ((u, to) ∷ []) = is ∙ rw (ne-eqb u to s) in
+      rw (more, at-k e, swaps-apart e to u (drop (suc i) first) rest s, holders-next ps u to (drop (suc i) later), along-next e ps u to)
+        (sym (append-snoc (swapsAlong e ps) (places (swapOf (under e) u to))
+          (swaps e (drop (suc i) first) (map (holder (ps ++ ((u, to) ∷ []))) (drop (suc i) later))))))
+
+  before-next : n ≤ mostWires → Within n first → Within n later → PlansSwap q to l ps l₁ ps₁ → BeforeK n first later l ps i →
+      BeforeK n first later l₁ ps₁ (suc i)
+  before-next few df dl (names-again step) B =
+    let both = step n few (entry-within n later i q dl ll is-q) (entry-within n first i to df lf is-to) (B .names) in
+    record { names = both .1; tracking = λ e. B .tracking e ∙ next-swaps e (both .0) }
+
+-- that is so for lists of qubits 1 to n
+pub data Planning (n : ℕ) (first later l from to : List ℕ) (len i : ℕ) : Type 0 where
+  before-k : (Within n first → Within n later → BeforeK n first later l (planned from to len) i) → Planning n first later l from to len i
 
 -- the way out of `pair_count`, and the pair at a place
 pub count-pairs : (r : Plan) (n : ℕ) → length (r .from) ≡ setLength → length (r .to) ≡ setLength → n ≡ min (r .len) setLength → n ≡ length (pairsOf r)
@@ -239,89 +226,57 @@ pair-at r i h =
       ∙ rw (getD-take (r .len) (r .from) i 0 (omega arith), getD-take (r .len) (r .to) i 0 (omega arith))
 
 -- the ways out of `plan_swaps`
-pub plan-starts : (n last : ℕ) (first later l₀ l from to : List ℕ) (count : ℕ) → last ≡ covered n first later → last ≤ mostWires → length l₀ ≡ lookupLength →
-    wireAt l₀ 0 ≡ 0 → qubitAt l₀ 0 ≡ 0 → length from ≡ setLength → length to ≡ setLength → l ≡ built l₀ last → count ≡ counted 0 (2 * last) →
-    Planning (covered n first later) first later l from to count 0 0
+pub plan-starts : (n : ℕ) (first later l₀ l from to : List ℕ) → n ≤ mostWires → length l₀ ≡ lookupLength → wireAt l₀ 0 ≡ 0 → qubitAt l₀ 0 ≡ 0 →
+    l ≡ built l₀ n → Planning n first later l from to 0 0
 unfolding pairs
-plan-starts n last first later l₀ l from to count is h long w q lf lt e c =
-    rw (← is) (before-k lf lt (omega arith) (before-first last first later l₀ l count h long w q e c))
+plan-starts n first later l₀ l from to few long w q e = before-k (λ df dl. before-first n first later l (rw e (names-built l₀ long w q n few)))
 
-module _ (n m : ℕ) (first later l from to : List ℕ) (count len i : ℕ) (is-m : m ≡ min (length first) (length later)) (few : m ≤ setLength)
-    (h : covered n first later ≤ mostWires) where
-  pub plan-room : Planning (covered n first later) first later l from to count len i → i < m → len < setLength
-  plan-room (before-k lf lt le B) k = omega arith
+pub built-touched : (n count : ℕ) → n ≤ mostWires → count ≡ counted 0 (2 * n) → count ≡ 2 * n + 0 + 5 * 0
+built-touched n count few c = let t = counted-sum 0 (2 * n) (omega arith) in omega arith
 
-  pub plan-next : (q wire held k count₁ : ℕ) (l₁ : List ℕ) → Planning (covered n first later) first later l from to count len i → i < m →
-      wire ≡ getD first i 0 → q ≡ getD later i 0 → held ≡ wireAt l q → l₁ ≡ tracked l q wire → count₁ ≡ counted count (accesses l q wire) →
-      k ≡ swapCount held wire → Planning (covered n first later) first later l₁ (set from len held) (set to len wire) count₁ (len + k) (i + 1)
-  unfolding tracked accesses
-  plan-next q wire held k count₁ l₁ (before-k lf lt le B) less is-w is-q is-h is-l is-c is-k =
-    let last = covered n first later in
-    let hq : q ≤ last = rw is-q (omega (arith, entry-low later i)) in
-    let hw : wire ≤ last = rw is-w (omega (arith, entry-low first i)) in
-    let room : len < setLength = omega arith in
-    let pairs-are : length (planned from to len) ≡ len = planned-length from to len held wire lf lt room in
-    let low : count + 6 ≤ mostCount = let t = B .touched in omega arith in
-    let lf₁ : length (set from len held) ≡ setLength = length-set from len held ∙ lf in
-    let lt₁ : length (set to len wire) ≡ setLength = length-set to len wire ∙ lt in
-    byEq held wire
-      (λ e.
-        let same = eq-eqb (wireAt l q) wire (sym is-h ∙ e) in
-        let count-is : count₁ ≡ count + 1 = is-c ∙ rw same (counted-sum count 1 (omega arith)) in
-        let none : len + k ≡ len = rw (is-k, eq-eqb held wire e) (omega arith) in
-        rw (none, add-one i, is-l, same) (before-k lf₁ lt₁ (omega arith)
-          (rw (planned-same from to len held wire lf lt room)
-            (after-equal last first later l (planned from to len) count i q wire held B h (omega arith) (omega arith) is-w is-q hq hw is-h e count₁ count-is))))
-      (λ e.
-        let apart = ne-eqb (wireAt l q) wire (λ x. e (is-h ∙ x)) in
-        let count-is : count₁ ≡ count + 6 = is-c ∙ rw apart (counted-sum count 6 low) in
-        let one : len + k ≡ len + 1 = rw (is-k, ne-eqb held wire e) in
-        rw (one, add-one i, is-l, apart, ← is-h) (before-k lf₁ lt₁ (omega arith)
-          (rw (planned-next from to len held wire lf lt room)
-            (after-swap last first later l (planned from to len) count i q wire held B h (omega arith) (omega arith) is-w is-q hq hw is-h e count₁ count-is))))
+pub plan-next : (n m i q wire : ℕ) (first later l l₁ from to from₁ to₁ : List ℕ) (len len₁ : ℕ) → m ≡ min (length first) (length later) → i < m → n ≤ mostWires →
+    wire ≡ getD first i 0 → q ≡ getD later i 0 → PlansSwap q wire l (planned from to len) l₁ (planned from₁ to₁ len₁) → Planning n first later l from to len i →
+    Planning n first later l₁ from₁ to₁ len₁ (i + 1)
+plan-next n m i q wire first later l l₁ from to from₁ to₁ len len₁ is-m less few is-w is-q S (before-k B) = rw (add-one i) (before-k (λ df dl.
+    before-next n first later l l₁ (planned from to len) (planned from₁ to₁ len₁) i q wire (omega arith) (omega arith) is-w is-q few df dl S (B df dl)))
 
-  -- at the end the definition has nothing left to swap
-  module _ (P : Planning (covered n first later) first later l from to count len i) (le : i ≤ m) (ge : m ≤ i) where
-    ended : (e : ℕ) (ps : List (ℕ × ℕ)) → swaps e (drop i first) (map (holder ps) (drop i later)) ≡ []
-    unfolding swaps
-    ended e ps = byLt i (length first)
-      (λ lt. let k : length later ≤ i = omega arith in rw (drop-of-length-le later k) (swaps-nil e (drop i first)))
-      (λ ge. rw (drop-of-length-le first ge))
+-- one entry for each k and five for each swap
+pub touched-next : (n m i q wire : ℕ) (l : List ℕ) (count count₁ len len₁ : ℕ) → i < m → n ≤ mostWires → m ≤ setLength → len ≤ i →
+    count ≡ 2 * n + i + 5 * len → count₁ ≡ counted count (accesses l q wire) → len₁ ≡ len + swapCount (wireAt l q) wire → count₁ ≡ 2 * n + (i + 1) + 5 * len₁
+unfolding accesses swapCount
+touched-next n m i q wire l count count₁ len len₁ less few short low is is-c is-l = byEq (wireAt l q) wire
+    (λ e.
+      let c : count₁ ≡ count + 1 = is-c ∙ rw (eq-eqb (wireAt l q) wire e) (counted-sum count 1 (omega arith)) in
+      let k : len₁ ≡ len + 0 = is-l ∙ rw (eq-eqb (wireAt l q) wire e) in
+      omega arith)
+    (λ e.
+      let c : count₁ ≡ count + 6 = is-c ∙ rw (ne-eqb (wireAt l q) wire e) (counted-sum count 6 (omega arith)) in
+      let k : len₁ ≡ len + 1 = is-l ∙ rw (ne-eqb (wireAt l q) wire e) in
+      omega arith)
 
-    pub plan-swaps : PlansSwaps first later (record { from = from; to = to; len = len; touched = count })
-    plan-swaps = all P
-      where
-        all : Planning (covered n first later) first later l from to count len i → PlansSwaps first later (record { from = from; to = to; len = len; touched = count })
-        all (before-k lf lt low B) = same-swaps (λ e. sym (B .tracking e ∙ rw (ended e (planned from to len)) (append-nil (swapsAlong e (planned from to len)))))
+-- at the end the definition has nothing left to swap
+module _ (n m i : ℕ) (first later l from to : List ℕ) (count len : ℕ) (is-m : m ≡ min (length first) (length later)) (le : i ≤ m) (ge : m ≤ i) where
+  ended : (e : ℕ) (ps : List (ℕ × ℕ)) → swaps e (drop i first) (map (holder ps) (drop i later)) ≡ []
+  unfolding swaps
+  ended e ps = byLt i (length first)
+    (λ lt. let k : length later ≤ i = omega arith in rw (drop-of-length-le later k) (swaps-nil e (drop i first)))
+    (λ ge. rw (drop-of-length-le first ge))
 
-    swaps-length : {ps : List (ℕ × ℕ)} → BeforeK (covered n first later) first later l ps count i → length (swaps 0 first later) ≡ length ps
-    swaps-length {ps = ps} B = rw (B .tracking 0, ended 0 ps, append-nil (swapsAlong 0 ps)) (along-length 0 ps)
+  pub plan-swaps : Planning n first later l from to len i → PlansSwaps n first later (record { from = from; to = to; len = len; touched = count })
+  plan-swaps (before-k B) = same-swaps (λ df dl e.
+    let ps = planned from to len in sym (B df dl .tracking e ∙ rw (ended e ps) (append-nil (swapsAlong e ps))))
 
-    pub plan-touched : count ≡ entriesTouched n first later
-    unfolding entriesTouched
-    plan-touched = all P
-      where
-        all : Planning (covered n first later) first later l from to count len i →
-            count ≡ 2 * covered n first later + min (length first) (length later) + 5 * length (swaps 0 first later)
-        all (before-k lf lt low B) = rw (swaps-length B) (omega (arith, B .touched))
+  module _ (low : len ≤ i) (is : count ≡ 2 * n + i + 5 * len) where
+    pub plan-touched : m ≤ setLength → length from ≡ setLength → length to ≡ setLength → count ≡ entriesTouched n first later (length (planned from to len))
+    plan-touched short lf lt = rw (planned-length from to len lf lt (omega arith)) (omega arith)
 
-    pub plan-bounded : count ≤ 4 * covered n first later + 8 * length later
-    plan-bounded = all P
-      where
-        all : Planning (covered n first later) first later l from to count len i → count ≤ 4 * covered n first later + 8 * length later
-        all (before-k lf lt low B) = omega (arith, B .touched, B .few)
-
--- one pair more at most for each k
-pub pairs-few : (len i k from to : ℕ) → len ≤ i → k ≡ swapCount from to → len + k ≤ i + 1
-pairs-few len i k from to h e = byEq from to
-    (λ s. let z : k ≡ 0 = rw (e, eq-eqb from to s) in omega arith)
-    (λ s. let z : k ≡ 1 = rw (e, ne-eqb from to s) in omega arith)
-
-pub pairs-fit : (len i m k from to : ℕ) → len ≤ i → i < m → m ≤ setLength → k ≡ swapCount from to → Fits w8 (len + k)
-pairs-fit len i m k from to h less few e = let t = pairs-few len i k from to h e in record { fits = omega arith }
+    pub plan-bounded : count ≤ 4 * n + 8 * length later
+    plan-bounded = omega arith
 
 -- no k is past the end of an array
 pub turns-few : (w m a b : ℕ) → a ≡ length (membersOf w) → m ≡ min a b → m ≤ setLength
 turns-few w m a b is h = omega (arith, members-length w)
 
-pub ruleset planning = (needs, plan-starts, plan-room, plan-next, plan-swaps, plan-touched, plan-bounded, pairs-few, pairs-fit, turns-few, rest-starts, rest-next)
+pub ruleset planning = (
+    needs, plan-starts, built-touched, plan-next, touched-next, plan-swaps, plan-touched, plan-bounded, pairs-few, turns-few, rest-starts, rest-next
+  )

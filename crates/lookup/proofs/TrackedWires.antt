@@ -13,7 +13,7 @@ use Rattle.model.specs.Gates.{noControls, Gate, swapOf, exchange, renamed, acts
 use Rattle.model.proofs.BooleanLaws.{byEq}
 use Rattle.model.proofs.GateLaws.{exchange-left, exchange-right, exchange-other, exchange-twice, fires-none, swapOf-fires}
 use Rattle.lookup.specs.Entries.{wireAt, qubitAt, kept, built, pushed}
-use Rattle.lookup.specs.Plans.{holder, held, Names}
+use Rattle.lookup.specs.Plans.{holder, held, Inside, Names}
 use Rattle.lookup.proofs.CountedEntries.{kept-length, built-length}
 
 -- one swap more
@@ -51,11 +51,7 @@ holder-holds (p ∷ ps) s q =
     ap (λ (t : State). acts (swapped ps) t (holder ps to)) (swapOf-fires noControls (p .0) (p .1) s (fires-none s))
       ∙ (holder-holds ps (renamed (exchange (p .0) (p .1)) s) to ∙ ap s (exchange-twice (p .0) (p .1) q))
 
--- swaps of wires that are covered leave the qubits on wires that are covered
-pub record Inside (last : ℕ) (ps : List (ℕ × ℕ)) : Type 0 where
-  pub wires : (q : ℕ) → q ≤ last → holder ps q ≤ last
-  pub qubits : (w : ℕ) → w ≤ last → held ps w ≤ last
-
+-- swaps of the first wires leave the qubits on them
 exchange-inside : (last u v w : ℕ) → u ≤ last → v ≤ last → w ≤ last → exchange u v w ≤ last
 exchange-inside last u v w hu hv hw = byEq w u
     (λ e. rw (e, exchange-left u v) hv)
@@ -63,11 +59,11 @@ exchange-inside last u v w hu hv hw = byEq w u
       (λ e. rw (e, exchange-right u v) hu)
       (λ nv. rw (exchange-other u v w nu nv) hw))
 
-pub inside-none : (last : ℕ) → Inside last []
+inside-none : (last : ℕ) → Inside last []
 unfolding holder held
 inside-none last = record { wires = λ q h. h; qubits = λ w h. h }
 
-pub inside-next : (last : ℕ) (ps : List (ℕ × ℕ)) (u v : ℕ) → u ≤ last → v ≤ last → Inside last ps → Inside last (ps ++ ((u, v) ∷ []))
+inside-next : (last : ℕ) (ps : List (ℕ × ℕ)) (u v : ℕ) → u ≤ last → v ≤ last → Inside last ps → Inside last (ps ++ ((u, v) ∷ []))
 inside-next last ps u v hu hv I = record {
   wires = λ q h. rw (holder-next ps u v q) (exchange-inside last u v (holder ps q) hu hv (I .wires q h));
   qubits = λ w h. rw (held-next ps u v w) (I .qubits (exchange u v w) (exchange-inside last u v w hu hv h)) }
@@ -114,16 +110,16 @@ module _ (l : List ℕ) (long : length l ≡ lookupLength) (none : wireAt l 0 �
 
   pub names-built : (last : ℕ) → last ≤ mostWires → Names last (built l last) []
   unfolding holder held
-  names-built last h = record { wires = λ q k. built-wire last q h k; qubits = λ w k. built-qubit last w h k }
+  names-built last h = record { wires = λ q k. built-wire last q h k; qubits = λ w k. built-qubit last w h k; inside = inside-none last }
 
 -- a lookup after one swap more: qubit q goes to wire `to`, and the qubit that it pushes away to the wire where q was
 module _ (last : ℕ) (l : List ℕ) (ps : List (ℕ × ℕ)) (q from to : ℕ) (long : length l ≡ lookupLength) (few : last ≤ mostWires)
-    (N : Names last l ps) (I : Inside last ps) (hq : q ≤ last) (ht : to ≤ last) (is : from ≡ wireAt l q) (apart : from ≢ to) where
+    (N : Names last l ps) (hq : q ≤ last) (ht : to ≤ last) (is : from ≡ wireAt l q) (apart : from ≢ to) where
   holds-q : from ≡ holder ps q
   holds-q = is ∙ N .wires q hq
 
   low : from ≤ last
-  low = rw holds-q (I .wires q hq)
+  low = rw holds-q (N .inside .wires q hq)
 
   abbrev other : ℕ
   other = qubitAt l to
@@ -132,7 +128,7 @@ module _ (last : ℕ) (l : List ℕ) (ps : List (ℕ × ℕ)) (q from to : ℕ) 
   is-other = N .qubits to ht
 
   other-low : other ≤ last
-  other-low = rw is-other (I .qubits to ht)
+  other-low = rw is-other (N .inside .qubits to ht)
 
   other-there : holder ps other ≡ to
   other-there = rw is-other (holder-held ps to)
@@ -164,11 +160,5 @@ module _ (last : ℕ) (l : List ℕ) (ps : List (ℕ × ℕ)) (q from to : ℕ) 
   pub names-pushed : Names last (pushed l q from to) (ps ++ ((from, to) ∷ []))
   names-pushed = record {
     wires = λ x h. pushed-wire x h ∙ sym (holder-next ps from to x);
-    qubits = λ w h. pushed-qubit w h ∙ sym (held-next ps from to w) }
-
-  pub inside-pushed : Inside last (ps ++ ((from, to) ∷ []))
-  inside-pushed = inside-next last ps from to low ht I
-
-  pub pushed-length : length (pushed l q from to) ≡ lookupLength
-  unfolding pushed
-  pushed-length = kept-length (kept l q to) other from ∙ first-kept
+    qubits = λ w h. pushed-qubit w h ∙ sym (held-next ps from to w);
+    inside = inside-next last ps from to low ht (N .inside) }

@@ -1,13 +1,14 @@
 // Document 02, S-3: the swaps of an entry, planned. A lookup says for each qubit which wire holds it, and for each wire which qubit it holds. It is built before
 // the loop over k and updated at each swap, so no list is searched; and every entry of it that is read or written is counted.
 ghost use mathlib.Core.Path.{_≡_};
-ghost use Prim.Native.Nat.{_+_, _*_, _≤_, min, max};
+ghost use Prim.Native.Nat.{_+_, _*_, _≤_, _<_, min};
 ghost use lib.ListN.{length, getD, set};
+ghost use Rattle.limits.specs.Sizes.{setLength, lookupLength};
 ghost use Rattle.sets.specs.Sets.{membersOf};
 ghost use Rattle.lookup.specs.Entries.{raised, counted, wireAt, kept, built, pushed, tracked, accesses};
-ghost use Rattle.lookup.specs.Plans.{pairsOf, covered, swapCount, entriesTouched, PlansSwaps};
+ghost use Rattle.lookup.specs.Plans.{planned, pairsOf, swapCount, entriesTouched, PlansSwap, PlansSwaps};
 use limits::{LOOKUP_LENGTH, MOST_COUNT, MOST_MEMBERS, SET_LENGTH, WIRE_COUNT};
-use sets::{QubitSet, last_member, next_member, size, without_lowest};
+use sets::{QubitSet, next_member, size, without_lowest};
 
 // The swaps of an entry as pairs of wires, in order: the wire that holds the qubit, and the one that it goes to. `touched` is how many entries of the lookup
 // were read and written for them.
@@ -94,23 +95,10 @@ fn track(entries: &mut [u8], count: &mut u16, q: u8, to: u8) -> u8
     from
 }
 
-fn larger(a: u8, b: u8) -> u8
-    ensures { λ r. ⌜ r ≡ max a b ⌝ }
-{
-    if a < b { b } else { a }
-}
-
 fn smaller(a: u8, b: u8) -> u8
     ensures { λ r. ⌜ r ≡ min a b ⌝ }
 {
     if a < b { a } else { b }
-}
-
-// The last qubit that a lookup covers: n, for lists of qubits 1 to n, as those of an accepted table are.
-fn covered(n: u8, first: QubitSet, later: QubitSet) -> u8
-    ensures { λ r. ⌜ r ≡ covered n (membersOf first) (membersOf later) ⌝ }
-{
-    larger(n, larger(last_member(first), last_member(later)))
 }
 
 // One swap where the wires differ, none where they are equal.
@@ -120,17 +108,35 @@ fn swap_count(from: u8, to: u8) -> u8
     if from == to { 0 } else { 1 }
 }
 
+// One k: qubit q, the k-th of the later list, goes to the wire that it has in the first. The pair is planned unless equal; how many are planned then is given.
+// "Build that lookup before the loop and update it at each swap: before each k it names exactly the wire that holds each qubit."
+fn plan_swap(entries: &mut [u8], count: &mut u16, q: u8, wire: u8, from: &mut [u8], to: &mut [u8], len: u8) -> u8
+    requires { ⌜ length (now entries) ≡ lookupLength ⌝ }
+    requires { ⌜ length (now from) ≡ setLength ⌝ }
+    requires { ⌜ length (now to) ≡ setLength ⌝ }
+    requires { ⌜ len < setLength ⌝ }
+    ensures { λ r. ⌜ PlansSwap q wire (now (entries .entry)) (planned (now (from .entry)) (now (to .entry)) len)
+        (now (entries .exit)) (planned (now (from .exit)) (now (to .exit)) r) ⌝ }
+    ensures { λ r. ⌜ r ≡ len + swapCount (wireAt (now (entries .entry)) q) wire ⌝ }
+    ensures { λ r. ⌜ now (count .exit) ≡ counted (now (count .entry)) (accesses (now (entries .entry)) q wire) ⌝ }
+{
+    let holder = track(entries, count, q, wire);
+    from[len as usize] = holder;
+    to[len as usize] = wire;
+    len + swap_count(holder, wire)
+}
+
 // "for k = 1 up to the length, swap, under the entry ancilla, the wire now holding the k-th qubit of the later list with the k-th wire of the first list,
-// unless equal": the pairs of wires, on n qubits.
+// unless equal": the pairs of wires, for lists of qubits 1 to n. The lookup covers exactly these.
 pub fn plan_swaps(n: u8, first: QubitSet, later: QubitSet) -> Plan
-    ensures { λ r. ⌜ PlansSwaps (membersOf first) (membersOf later) r ⌝ }
-    ensures { λ r. ⌜ r .touched ≡ entriesTouched n (membersOf first) (membersOf later) ⌝ }
-    ensures { λ r. ⌜ r .touched ≤ 4 * covered n (membersOf first) (membersOf later) + 8 * length (membersOf later) ⌝ }
+    ensures { λ r. ⌜ PlansSwaps n (membersOf first) (membersOf later) r ⌝ }
+    ensures { λ r. ⌜ r .touched ≡ entriesTouched n (membersOf first) (membersOf later) (length (pairsOf r)) ⌝ }
+    ensures { λ r. ⌜ r .touched ≤ 4 * n + 8 * length (membersOf later) ⌝ }
 {
     let m = smaller(size(first), size(later));
     let mut entries = [0u8; LOOKUP_LENGTH];
     let mut count = 0u16;
-    build(&mut entries[..], &mut count, covered(n, first, later));
+    build(&mut entries[..], &mut count, n);
     let mut from = [0u8; SET_LENGTH];
     let mut to = [0u8; SET_LENGTH];
     let mut len = 0u8;
@@ -138,12 +144,7 @@ pub fn plan_swaps(n: u8, first: QubitSet, later: QubitSet) -> Plan
     let mut qubits = later;
     let mut i = 0u8;
     while i < m {
-        let wire = next_member(wires);
-        let holder = track(&mut entries[..], &mut count, next_member(qubits), wire);
-        let place = len as usize;
-        from[place] = holder;
-        to[place] = wire;
-        len += swap_count(holder, wire);
+        len = plan_swap(&mut entries[..], &mut count, next_member(qubits), next_member(wires), &mut from[..], &mut to[..], len);
         wires = without_lowest(wires);
         qubits = without_lowest(qubits);
         i += 1;
