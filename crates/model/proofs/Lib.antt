@@ -2,7 +2,6 @@ pub mod BooleanLaws
 pub mod OutcomeLaws
 pub mod ListLaws
 pub mod SizeOfWhatIsLeft
-pub mod BasesZeroAndOne
 pub mod AscendingWires
 pub mod ByteAtAPlace
 pub mod GateLaws

@@ -1,0 +1,5 @@
+pub mod ReadersAlike
+pub mod WaysAlike
+pub mod AnswersAlike
+pub mod TodaysWays
+pub mod BasesZeroAndOne
