@@ -3,3 +3,4 @@ pub mod WaysAlike
 pub mod AnswersAlike
 pub mod TodaysWays
 pub mod BasesZeroAndOne
+pub mod PlainInsertion

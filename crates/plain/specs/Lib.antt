@@ -5,3 +5,4 @@ pub mod MeaningBy
 pub mod EmissionBy
 pub mod AnswersBy
 pub mod OldBases
+pub mod PlainControls
