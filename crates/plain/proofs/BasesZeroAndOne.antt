@@ -80,11 +80,12 @@ base-stays (suc (suc zero)) j = let R : Number → Input → Type 0 = λ a i. No
 base-stays (suc (suc (suc base))) j = let b = suc (suc (suc base)) in
     rw (lt-leb b 1 (omega arith), lt-leb b mostBase (omega arith)) (broken-off tt tt)
 
+-- so the reader of numbers reads as the old one did, or the old one broke off, and so the reader of tables
 pub number-stays : (i : Input) → Alike (Unit {0}) Old (λ a. Not (Old a)) (λ m. numberOr m i) (number i)
 unfolding numberOr number
 number-stays i = alike-same (Unit {0}) Old (λ a. Not (Old a)) (byte i) _ _ base-stays
 
-table-stays : (table : List ℕ) → Alike (Unit {0}) OldProgram (λ P. Not (OldProgram P)) (λ m. readTableBy (numberOr m) table) (readTable table)
+pub table-stays : (table : List ℕ) → Alike (Unit {0}) OldProgram (λ P. Not (OldProgram P)) (λ m. readTableBy (numberOr m) table) (readTable table)
 table-stays table = tables-alike (Unit {0}) Old numberOr tt number-stays table
 
 -- what was read is no refusal

@@ -4,3 +4,4 @@ pub mod AnswersAlike
 pub mod TodaysWays
 pub mod BasesZeroAndOne
 pub mod PlainInsertion
+pub mod WorkedBases
