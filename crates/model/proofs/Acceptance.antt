@@ -5,7 +5,7 @@ use mathlib.Core.Bool.{Bool, true, false, not, _&&_}
 use mathlib.Core.List.{List, [], _∷_}
 use Prim.Native.Nat.{ℕ, zero, suc, _+_, _^_, _≤_, _<_}
 use native.Mathlib.Omega.{arith}
-use borrow.Author.Tests.{ltb-true, leb-true, lt-ltb, le-leb, not-true}
+use borrow.Author.Tests.{ltb-true, leb-true, lt-ltb, le-ltb, le-leb, not-true}
 use lib.ListN.{length}
 use lib.Dec.{ltb, leb}
 use Rattle.model.specs.Limits.{
@@ -29,6 +29,19 @@ use Rattle.model.proofs.BooleanLaws.{byBool, and-left, and-right}
 use Rattle.model.proofs.OutcomeLaws.{not-both, gives-same, required, gave}
 use Rattle.model.proofs.ReadingLaws.{WasRead, outcome-read}
 use Rattle.model.proofs.RoundTrip.{Bytes, WellFormed, read-write, read-wellFormed, write-read}
+
+-- Where two refusals apply, the first in order is answered.
+
+-- "13; 21": a word that is too large, whatever the workspace
+pub word-first : (table : List ℕ) (n word workspace : ℕ) (P : Program) → accepted table n ≡ gives P → 2 ^ n ≤ word →
+    run table n word workspace ≡ refuses highBit
+unfolding run after require
+word-first table n word workspace P e high = rw (e, le-ltb word (2 ^ n) high)
+
+-- document 02, S-5: "24 .. after 12": a table that is not accepted, whatever the room
+pub table-first : (table : List ℕ) (n room k : ℕ) → accepted table n ≡ refuses k → inverseTable table n room ≡ refuses k
+unfolding inverseTable after
+table-first table n room k e = rw e
 
 -- a number that document 01 or 02 has for a refusal
 abbrev pub Refusal : ℕ → Type 0

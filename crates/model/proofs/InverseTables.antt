@@ -9,6 +9,11 @@ use Rattle.model.specs.Writing.{headBytes, statementBytes, statementsByt
 use Rattle.model.specs.Inverse.{inverse, inverseProgram}
 use Rattle.model.proofs.WrittenTables.{StatementFits, StatementsFit, statementRecords, statementsRecords, ProgramFits}
 
+-- "sequences turned round", those within a sequence too: the last statement comes first
+pub turned-within : (s t u : Statement) → inverse (sequence (sequence s t) u) ≡ sequence (inverse u) (sequence (inverse t) (inverse s))
+unfolding inverse
+turned-within s t u = refl
+
 -- The inverse of a statement fits a tree of the same depth,
 statement-fits : (p depth : ℕ) (s : Statement) → StatementFits p depth s → StatementFits p depth (inverse s)
 unfolding inverse StatementFits

@@ -140,7 +140,12 @@ remove-no-longer (suc i) [] = byBool (ltb i 0)
 remove-no-longer zero (x ∷ l) = zero-le
 remove-no-longer (suc i) (x ∷ l) = omega (arith, remove-shorter (suc i) (x ∷ l) (omega arith))
 
--- several removals
+-- several removals: one row after the other
+pub removeAll-append : (l : List ℕ) (rs more : List Number) (now : List ℕ) → removeAll l (rs ++ more) now ≡ removeAll l more (removeAll l rs now)
+unfolding removeAll
+removeAll-append l [] more now = refl
+removeAll-append l (a ∷ rs) more now = removeAll-append l rs more (remove (position (value a (sizes l now))) now)
+
 removeAll-map : (π : ℕ → ℕ) (l : List ℕ) (rs : List Number) (now : List ℕ) → map π (removeAll l rs now) ≡ removeAll (map π l) rs (map π now)
 unfolding removeAll
 removeAll-map π l [] now = refl

@@ -75,14 +75,14 @@ below-sound P (suc v) f g h = or-cases (reachesBelow P v f g) (reachesBelow P v 
       (below-sound P v f v (and-left (reachesBelow P v f v) (reachesBelow P v v g) x))
       (below-sound P v v g (and-right (reachesBelow P v f v) (reachesBelow P v v g) x)))
 
--- what is computed is "one or more calls": it reaches only what calls lead to, and all of it
-pub reach-sound : (P : Program) (f g : ℕ) → reaches P f g ≡ true → Reaches P f g
-reach-sound P f g h = below-sound P (suc (count P)) f g h
-
+-- what is computed is "one or more calls": it reaches all that calls lead to, and only that
 pub reach-complete : (P : Program) → Named P → {f g : ℕ} → Reaches P f g → reaches P f g ≡ true
 reach-complete P N {f} {g} (direct c) = direct-reach P (suc (count P)) f g c
 reach-complete P N (onward {f = f} {h = h} {g = g} c r) =
     onward-reach P (suc (count P)) f h g (suc-le-suc (N f h c .1)) (direct-reach P (suc (count P)) f h c) (reach-complete P N r)
+
+pub reach-sound : (P : Program) (f g : ℕ) → reaches P f g ≡ true → Reaches P f g
+reach-sound P f g h = below-sound P (suc (count P)) f g h
 
 pub reach-trans : (P : Program) (f h g : ℕ) → h ≤ count P → reaches P f h ≡ true → reaches P h g ≡ true → reaches P f g ≡ true
 reach-trans P f h g le a b = onward-reach P (suc (count P)) f h g (suc-le-suc le) a b

@@ -11,13 +11,7 @@ use lib.IntN.{ℤ, pos, negsuc}
 use Rattle.model.specs.Syntax.{Number, sizePlus, leftPlus}
 use Rattle.model.specs.Lists.{sizes, value, comparedValue, position, delete, remove, removeAll, remaining}
 use Rattle.model.proofs.BooleanLaws.{byBool}
-use Rattle.model.proofs.ListLaws.{remove-in, remove-out}
-
--- removals one row after the other
-removeAll-append : (l : List ℕ) (rs more : List Number) (now : List ℕ) → removeAll l (rs ++ more) now ≡ removeAll l more (removeAll l rs now)
-unfolding removeAll
-removeAll-append l [] more now = refl
-removeAll-append l (a ∷ rs) more now = removeAll-append l rs more (remove (position (value a (sizes l now))) now)
+use Rattle.model.proofs.ListLaws.{remove-in, remove-out, removeAll-append}
 
 -- "the size of the list left by the removals already done in that record": a removal takes the size of what those before it left, whatever comes behind it
 pub removal-takes : (done : List Number) (a : Number) (rest : List Number) (l : List ℕ) →
