@@ -10,9 +10,10 @@ ghost use Rattle.emit.specs.WalkPromises.{Emits};
 ghost use Rattle.compile.specs.EmissionAnswer.{EmitsText, delivered, Compiles};
 ghost use Rattle.compile.specs.AnswerAndRoom.{answered, answeredOf};
 use circuit::write::put_header;
+use decoded::{PROGRAM_LENGTH, Program};
 use events::{Slots, State, gates, highest, status, usable, used, wire};
 use emit::emit_main;
-use limits::{HEADER_LENGTH, LEAST_WORKSPACE, MOST_CIRCUIT, MOST_N, NO_ROOM, PROGRAM_LENGTH, SHORT_WORKSPACE, SLOTS_LENGTH, WRONG_QUBITS};
+use limits::{HEADER_LENGTH, LEAST_WORKSPACE, MOST_CIRCUIT, MOST_N, NO_ROOM, SHORT_WORKSPACE, SLOTS_LENGTH, WRONG_QUBITS};
 use verdict::check_table;
 
 // What compile answers: 0 or the number that refuses, and the circuit's length in bytes.
@@ -60,7 +61,7 @@ fn put_circuit(n: u8, state: &State, text: &mut [u8; MOST_CIRCUIT], room: &mut [
 }
 
 // An emission into the front of a text.
-fn emit_front(program: &[u32; PROGRAM_LENGTH], n: u8, end: usize, text: &mut [u8], slots: &mut Slots) -> State
+fn emit_front(program: &Program, n: u8, end: usize, text: &mut [u8], slots: &mut Slots) -> State
     requires { ⌜ end ≤ length (now text) ⌝ }
     ensures { λ r. ⌜ Emits (now (program .entry)) n (take end (now (text .entry))) (now (slots .entry))
         (emitIn r) (take end (now (text .exit))) (now (slots .exit)) ⌝ }
@@ -69,7 +70,7 @@ fn emit_front(program: &[u32; PROGRAM_LENGTH], n: u8, end: usize, text: &mut [u8
 }
 
 // An emission into a text, of which as much is used as a room of that length has of use. Its slots are its own: nobody reads them afterwards.
-fn emit_text(program: &[u32; PROGRAM_LENGTH], n: u8, room: usize, text: &mut [u8; MOST_CIRCUIT]) -> State
+fn emit_text(program: &Program, n: u8, room: usize, text: &mut [u8; MOST_CIRCUIT]) -> State
     ensures { λ r. ⌜ EmitsText (now (program .entry)) n room (emitIn r) (now (text .exit)) ⌝ }
 {
     let mut slots = [0u64; SLOTS_LENGTH];
@@ -77,7 +78,7 @@ fn emit_text(program: &[u32; PROGRAM_LENGTH], n: u8, room: usize, text: &mut [u8
 }
 
 // An emission goes into a text of its own, and from there into the room where it fits. "The room is written only on success, its rest unchanged."
-fn compile_emission(program: &[u32; PROGRAM_LENGTH], n: u8, room: &mut [u8]) -> Compiled
+fn compile_emission(program: &Program, n: u8, room: &mut [u8]) -> Compiled
     ensures { λ r. ⌜ Compiles (now (program .entry)) n (now (room .entry)) r (now (room .exit)) ⌝ }
 {
     if room.len() < HEADER_LENGTH {

@@ -1,17 +1,16 @@
--- What the words of a record say is the record that is written in the table.
-use Prim.Native.Nat.{ℕ, zero, suc, _+_, _-_, _*_, _/_, _%_, _≤_, _<_, min}
-use native.Mathlib.Numerals.{add-one}
+-- What the words of a record say is the record that was read, with its removals.
+use Prim.Native.Nat.{ℕ, zero, suc, _+_, _-_, _*_, _/_, _%_, _≤_, _<_}
 use native.Mathlib.Omega.{arith}
 use mathlib.Core.Path.{_≡_, refl, sym, ap, _∙_}
-use mathlib.Core.Bool.{Bool, true, false, _||_}
-use mathlib.Core.List.{List, [], _∷_}
-use borrow.Author.Tests.{lt-ltb, le-ltb, eq-eqb, ne-eqb}
-use lib.Dec.{eqb}
+use mathlib.Core.Bool.{Bool, true, false, cond}
+use mathlib.Core.List.{List, [], _∷_, _++_}
+use borrow.Author.Tests.{lt-ltb, le-ltb, eq-eqb, ne-eqb, ltb-false}
+use lib.Dec.{eqb, ltb}
 use lib.ListN.{length, getD}
-use Rattle.limits.specs.Sizes.{placeCount, kindCount, recordLength, endField, placeField}
+use Rattle.limits.specs.Sizes.{placeCount}
 use Rattle.model.specs.Limits.{mostRemovals}
-use Rattle.model.specs.Reading.{permitted, stands, requiredMap}
-use Rattle.model.proofs.BooleanLaws.{byEq, byLt, byBool, or-cases, clash}
+use Rattle.model.specs.Reading.{signed16, requiredMap}
+use Rattle.model.proofs.BooleanLaws.{byBool, byEq}
 use Rattle.model.proofs.RoundTrip.{Bytes}
 use Rattle.records.specs.declared.Number.{Number}
 use Rattle.records.specs.declared.Record.{Record}
@@ -19,49 +18,129 @@ use Rattle.records.specs.declared.Record.the-variants as kind
 use Rattle.records.specs.Fields.{
   byteAt, based, writtenAt, numberOf, numbersFrom, removalsOf, placeOf, afterRemovals, plainRecord, touchRecord, comparisonRecord, callRecord, recordOf,
 }
-use Rattle.records.proofs.ReadingAtAPlace.{kindOf, by-kinds, only}
-use Rattle.decoded.specs.RecordWords.{rowAt, wordAt, wordsFrom, wordNumber, placeWord, plainWords, removingWords, recordWords}
-use Rattle.decoded.specs.DecodedTable.{wordIn, startOf, numbersIn, removalsIn, recordIn}
+use Rattle.decoded.specs.Layout.{endField, rowAt}
+use Rattle.decoded.specs.RecordWords.{
+  lowBits, packed, wordOf, wordsFrom, wordNumber, placeWord, headOf, headWords, removalCount, wordsOf, recordWords,
+}
+use Rattle.decoded.specs.DecodedTable.{wordIn, startOf, removalsFrom, removalsIn, recordIn}
+use Rattle.decoded.specs.declared.write.Head.{Head}
 
--- the words of record i are those of the record at a place, but for the record behind its subtree
-abbrev pub Row : List ℕ → List ℕ → ℕ → ℕ → Type 0
-Row bs g i at = (k : ℕ) → k < length (recordWords bs at) → (k ≡ endField → ⊥) → wordIn g (rowAt i + k) ≡ getD (recordWords bs at) k 0
+-- a number that comes back from its word
+abbrev pub Kept : Number → Type 0
+Kept a = wordNumber (wordOf a) ≡ a
 
--- a word of three bytes says the number that they write
-word-base : (a b c : ℕ) → a < 256 → b < 256 → c < 256 → (a + 256 * b + 65536 * c) % 256 ≡ a
-word-base a b c l m n = omega arith
+-- "a signed 16-bit constant": its low bits are the bytes that write it
+constant-bits : (low high : ℕ) → low < 256 → high < 256 → lowBits (signed16 low high) ≡ low + 256 * high
+unfolding lowBits signed16
+constant-bits low high l h =
+    byBool (ltb (low + 256 * high) 32768)
+    (λ t. rw (t, le-ltb 65535 (low + 256 * high) (omega arith)))
+    (λ f.
+    let big : 32768 ≤ low + 256 * high = ltb-false (low + 256 * high) 32768 f in
+    rw (f, le-ltb 65535 (65535 - (low + 256 * high)) (omega arith)) (omega arith))
 
-word-low : (a b c : ℕ) → a < 256 → b < 256 → c < 256 → (a + 256 * b + 65536 * c) / 256 % 256 ≡ b
-word-low a b c l m n = omega arith
+word-parts : (b low high : ℕ) → b < 256 → low < 256 → high < 256 →
+    ((b + 256 * (low + 256 * high)) % 256 ≡ b) × ((b + 256 * (low + 256 * high)) / 256 % 256 ≡ low) × ((b + 256 * (low + 256 * high)) / 65536 % 256 ≡ high)
+word-parts b low high l m n = (omega arith, omega arith, omega arith)
 
-word-high : (a b c : ℕ) → a < 256 → b < 256 → c < 256 → (a + 256 * b + 65536 * c) / 65536 % 256 ≡ c
-word-high a b c l m n = omega arith
+packed-back : (b low high : ℕ) → b < 256 → low < 256 → high < 256 → wordNumber (packed b (signed16 low high)) ≡ based b (signed16 low high)
+packed-back b low high l m n =
+    let p = word-parts b low high l m n in
+    rw (constant-bits low high m n, p .0, p .1, p .2)
 
-pub word-number : (bs : List ℕ) (at : ℕ) → Bytes bs → wordNumber (wordAt bs at) ≡ writtenAt bs at
-word-number bs at ok =
-    let a = byteAt bs at in
-    let b = byteAt bs (at + 1) in
-    let c = byteAt bs (at + 2) in
-    rw (word-base a b c (ok at) (ok (at + 1)) (ok (at + 2)), word-low a b c (ok at) (ok (at + 1)) (ok (at + 2)),
-      word-high a b c (ok at) (ok (at + 1)) (ok (at + 2)))
+-- every number of a table does
+pub number-kept : (b low high : ℕ) → low < 256 → high < 256 → Kept (based b (signed16 low high))
+unfolding based wordOf
+number-kept zero low high l h = packed-back 0 low high (omega arith) l h
+number-kept (suc zero) low high l h = packed-back 1 low high (omega arith) l h
+number-kept (suc (suc b)) low high l h = packed-back 2 low high (omega arith) l h
+
+written-kept : (bs : List ℕ) → Bytes bs → (at : ℕ) → Kept (writtenAt bs at)
+written-kept bs ok at = number-kept (byteAt bs at) _ _ (ok (at + 1)) (ok (at + 2))
+
+-- the place of a record's removals in the table, 0 where it has none
+abbrev pub removalsPlace : Record → ℕ
+removalsPlace kind.Skip = 0
+removalsPlace (kind.Not q a) = q
+removalsPlace kind.Sequence = 0
+removalsPlace kind.If = 0
+removalsPlace (kind.Qcase q a) = q
+removalsPlace (kind.Call q f) = q
+removalsPlace (kind.Greater a b) = 0
+removalsPlace (kind.AtLeast a b) = 0
+removalsPlace (kind.Equal a b) = 0
+removalsPlace kind.And = 0
+removalsPlace kind.Or = 0
+removalsPlace kind.Negation = 0
+
+-- a record whose numbers come back from their words, and whose procedure is a byte
+abbrev pub Sound : Record → Type 0
+Sound kind.Skip = Unit {0}
+Sound (kind.Not q a) = Kept a
+Sound kind.Sequence = Unit {0}
+Sound kind.If = Unit {0}
+Sound (kind.Qcase q a) = Kept a
+Sound (kind.Call q f) = f < 256
+Sound (kind.Greater a b) = Kept a × Kept b
+Sound (kind.AtLeast a b) = Kept a × Kept b
+Sound (kind.Equal a b) = Kept a × Kept b
+Sound kind.And = Unit {0}
+Sound kind.Or = Unit {0}
+Sound kind.Negation = Unit {0}
+
+-- what holds of two records holds of the one that is chosen
+either : (P : Record → Type 0) (b : Bool) (x y : Record) → P x → P y → P (cond b x y)
+either P true x y p q = p
+either P false x y p q = q
+
+-- a record as it is written in the table is sound, and its removals stand behind its kind, if anywhere
+module _ (p k : ℕ) (b : Bool) (bs : List ℕ) (at : ℕ) where
+  by-fields : (P : Record → Type 0) → ((a : Number) → Kept a → P (kind.Not (placeOf b at) a)) → ((a : Number) → Kept a → P (kind.Qcase (placeOf b at) a)) →
+      ((f : ℕ) → f < 256 → P (kind.Call (placeOf b at) f)) → ((a c : Number) → Kept a → Kept c → P (kind.Greater a c) × P (kind.AtLeast a c) × P (kind.Equal a c)) →
+      P kind.Skip → P kind.Sequence → P kind.If → P kind.And → P kind.Or → P kind.Negation → Bytes bs → P (recordOf p k b bs at)
+  unfolding recordOf touchRecord comparisonRecord callRecord plainRecord
+  by-fields P not qcase call compare skip sequence if and or negation ok =
+      let a = writtenAt bs (afterRemovals b bs at) in
+      let f = byteAt bs (afterRemovals b bs at) in
+      let c = compare (writtenAt bs at) (writtenAt bs (at + 3)) (written-kept bs ok at) (written-kept bs ok (at + 3)) in
+      let kept = written-kept bs ok (afterRemovals b bs at) in
+      either P (eqb (requiredMap k) 2) _ _ (either P (eqb k 1) _ _ (not a kept) (qcase a kept))
+      (either P (eqb (requiredMap k) 6) _ _ (either P (eqb k 6) _ _ (c .0) (either P (eqb k 7) _ _ (c .1) (c .2)))
+      (either P (eqb (requiredMap k) 8) _ _ (either P (eqb f 0) _ _ skip (either P (ltb p f) _ _ skip (call f (ok (afterRemovals b bs at)))))
+      (either P (eqb k 2) _ _ sequence (either P (eqb k 3) _ _ if (either P (eqb k 9) _ _ and (either P (eqb k 10) _ _ or (either P (eqb k 11) _ _ negation skip)))))))
+
+  pub written-sound : Bytes bs → Sound (recordOf p k b bs at)
+  written-sound = by-fields Sound (λ a h. h) (λ a h. h) (λ f h. h) (λ a c h i. ((h, i), (h, i), (h, i))) tt tt tt tt tt tt
+
+  pub written-place : Bytes bs → 0 < removalsPlace (recordOf p k b bs at) → removalsPlace (recordOf p k b bs at) ≡ placeOf b at
+  written-place =
+      by-fields (λ r. 0 < removalsPlace r → removalsPlace r ≡ placeOf b at) (λ a h l. refl) (λ a h l. refl) (λ f h l. refl)
+      (λ a c h i. ((λ l. none l), (λ l. none l), (λ l. none l))) none none none none none none
+    where
+      none : 0 < 0 → 0 ≡ placeOf b at
+      none l = absurd (omega arith)
+
+-- the words of record i are those of a record that stands at a place, but for the record behind its subtree
+abbrev pub Row : List ℕ → Record → List ℕ → ℕ → ℕ → Type 0
+Row bs r g i at = (k : ℕ) → k < length (recordWords bs r at) → (k ≡ endField → ⊥) → wordIn g (rowAt i + k) ≡ getD (recordWords bs r at) k 0
 
 -- n words of numbers are these numbers, wherever they stand
-numbers-moved : (n : ℕ) (bs g : List ℕ) (from to : ℕ) → Bytes bs → ((j : ℕ) → j < n → wordIn g (to + j) ≡ wordAt bs (from + 3 * j)) →
-    numbersIn n g to ≡ numbersFrom n bs from
-unfolding numbersIn numbersFrom
-numbers-moved zero bs g from to ok h = refl
-numbers-moved (suc n) bs g from to ok h =
-    let e : to + 0 ≡ to = omega arith in
+numbers-moved : (n : ℕ) (bs g : List ℕ) (from row k : ℕ) → Bytes bs → ((j : ℕ) → j < n → wordIn g (row + 6 + (k + j)) ≡ wordOf (writtenAt bs (from + 3 * j))) →
+    removalsFrom n g row k ≡ numbersFrom n bs from
+unfolding removalsFrom numbersFrom
+numbers-moved zero bs g from row k ok h = refl
+numbers-moved (suc n) bs g from row k ok h =
+    let e : k + 0 ≡ k = omega arith in
     let f : from + 3 * 0 ≡ from = omega arith in
-    let first : wordIn g to ≡ wordAt bs from = rw (e, f) at (h 0 (omega arith)) in
-    rw (first, word-number bs from ok)
+    let first : wordIn g (row + 6 + k) ≡ wordOf (writtenAt bs from) = rw (e, f) at (h 0 (omega arith)) in
+    rw (first, written-kept bs ok from)
     (ap (λ l. numberOf (writtenAt bs from) ∷ l)
-    (numbers-moved n bs g (from + 3) (to + 1) ok λ j l.
-    let a : to + 1 + j ≡ to + suc j = omega arith in
+    (numbers-moved n bs g (from + 3) row (k + 1) ok λ j l.
+    let a : k + 1 + j ≡ k + suc j = omega arith in
     let b : from + 3 + 3 * j ≡ from + 3 * suc j = omega arith in
     rw (a, b) (h (suc j) (omega arith))))
 
-words-at : (n : ℕ) (bs : List ℕ) (from j : ℕ) → j < n → getD (wordsFrom n bs from) j 0 ≡ wordAt bs (from + 3 * j)
+words-at : (n : ℕ) (bs : List ℕ) (from j : ℕ) → j < n → getD (wordsFrom n bs from) j 0 ≡ wordOf (writtenAt bs (from + 3 * j))
 unfolding wordsFrom
 words-at zero bs from j h = absurd (omega arith)
 words-at (suc n) bs from zero h = let e : from + 3 * 0 ≡ from = omega arith in rw e
@@ -72,84 +151,91 @@ unfolding wordsFrom
 words-length zero bs from = refl
 words-length (suc n) bs from = ap suc (words-length n bs (from + 3))
 
-removals-there : (bs : List ℕ) (at : ℕ) → removalsOf bs (at + 2) ≡ numbersFrom (byteAt bs (at + 2)) bs (at + 3)
-unfolding removalsOf
-removals-there bs at =
-    let a : at + 2 ≡ suc (suc at) = omega arith in
-    let b : at + 3 ≡ suc (suc (suc at)) = omega arith in
-    rw (a, b)
-
 -- the fields of a record, by its words
-record FieldsIn (bs g : List ℕ) (at i : ℕ) (b : Bool) : Type 0 where
-  kind-word : wordIn g (rowAt i) ≡ byteAt bs (at + 1)
+record FieldsIn (bs g : List ℕ) (h : Head) (at i : ℕ) : Type 0 where
+  kind-word : wordIn g (rowAt i) ≡ h .kind
   place-word : wordIn g (rowAt i + 2) ≡ placeWord at
-  procedure-word : wordIn g (rowAt i + 3) ≡ byteAt bs (afterRemovals b bs (at + 2))
-  number-a : wordNumber (wordIn g (rowAt i + 5)) ≡ writtenAt bs (afterRemovals b bs (at + 2))
-  number-b : b ≡ false → wordNumber (wordIn g (rowAt i + 6)) ≡ writtenAt bs (at + 2 + 3)
-  removals-are : removalsIn g (rowAt i) ≡ removalsOf bs (placeOf b (at + 2))
+  procedure-word : wordIn g (rowAt i + 3) ≡ h .procedure
+  number-a : wordIn g (rowAt i + 5) ≡ h .a
+  number-b : h .removals ≡ 0 → wordIn g (rowAt i + 6) ≡ h .b
+  removals-are : removalsIn g (rowAt i) ≡ removalsOf bs (h .removals)
 
-module _ (bs g : List ℕ) (at i : ℕ) (ok : Bytes bs) (row : Row bs g i at) where
+module _ (bs g : List ℕ) (h : Head) (at i : ℕ) (ok : Bytes bs)
+    (row : (k : ℕ) → k < length (wordsOf bs (placeWord at) h) → (k ≡ endField → ⊥) → wordIn g (rowAt i + k) ≡ getD (wordsOf bs (placeWord at) h) k 0)
+    (few : 0 < h .removals → byteAt bs (h .removals) ≤ mostRemovals) where
   here : rowAt i + 0 ≡ rowAt i
   here = omega arith
 
-  plain-is : stands 0 (byteAt bs at) ≡ false → recordWords bs at ≡ plainWords (byteAt bs (at + 1)) (placeWord at) bs (at + 2)
-  unfolding recordWords
-  plain-is e = rw e
+  -- without removals
+  module _ (z : h .removals ≡ 0) where
+    abbrev plain : List ℕ
+    plain = headWords h (placeWord at) 0 ++ (h .b ∷ [])
 
-  removing-is : stands 0 (byteAt bs at) ≡ true → at + 2 < length bs → recordWords bs at ≡ removingWords (byteAt bs (at + 1)) (placeWord at) bs (at + 2)
-  unfolding recordWords
-  removing-is e l = rw (e, lt-ltb (at + 2) (length bs) l)
+    plain-is : wordsOf bs (placeWord at) h ≡ plain
+    plain-is = rw (eq-eqb (h .removals) 0 z)
 
-  plain-fields : stands 0 (byteAt bs at) ≡ false → FieldsIn bs g at i false
-  unfolding afterRemovals placeOf removalsOf numbersIn
-  plain-fields e =
-      record {
-        kind-word = rw here at (word 0 (omega arith) (λ q. omega arith));
-        place-word = word 2 (omega arith) (λ q. omega arith);
-        procedure-word = word 3 (omega arith) (λ q. omega arith);
-        number-a = rw (word 5 (omega arith) (λ q. omega arith)) (word-number bs (at + 2) ok);
-        number-b = λ q. rw (word 6 (omega arith) (λ q. omega arith)) (word-number bs (at + 2 + 3) ok);
-        removals-are = rw (word 4 (omega arith) (λ q. omega arith));
-      }
-    where
-      word : (k : ℕ) → k < 7 → (k ≡ 1 → ⊥) → wordIn g (rowAt i + k) ≡ getD (plainWords (byteAt bs (at + 1)) (placeWord at) bs (at + 2)) k 0
-      word k l n = rw (plain-is e) at (row k (rw (plain-is e) l) n)
+    plain-word : (k : ℕ) → k < 7 → (k ≡ 1 → ⊥) → wordIn g (rowAt i + k) ≡ getD plain k 0
+    plain-word k l n = rw plain-is at (row k (rw plain-is l) n)
 
-  module _ (e : stands 0 (byteAt bs at) ≡ true) (l : at + 2 < length bs) (few : byteAt bs (at + 2) ≤ mostRemovals) (fits : at + 2 < placeCount) where
-    abbrev words : List ℕ
-    words = removingWords (byteAt bs (at + 1)) (placeWord at) bs (at + 2)
-
-    long : length words ≡ 6 + min (byteAt bs (at + 2)) mostRemovals
-    long = rw (words-length (min (byteAt bs (at + 2)) mostRemovals) bs (at + 2 + 1)) (omega arith)
-
-    word : (k : ℕ) → k < 6 + byteAt bs (at + 2) → (k ≡ 1 → ⊥) → wordIn g (rowAt i + k) ≡ getD words k 0
-    word k m n =
-        let z : min (byteAt bs (at + 2)) mostRemovals ≡ byteAt bs (at + 2) = omega arith in
-        rw (removing-is e l) at (row k (rw (removing-is e l, long, z) m) n)
-
-    removal : (j : ℕ) → j < byteAt bs (at + 2) → wordIn g (rowAt i + 6 + j) ≡ wordAt bs (at + 3 + 3 * j)
-    removal j m =
-        let z : min (byteAt bs (at + 2)) mostRemovals ≡ byteAt bs (at + 2) = omega arith in
-        let a : rowAt i + 6 + j ≡ rowAt i + suc (suc (suc (suc (suc (suc j))))) = omega arith in
-        let b : at + 2 + 1 ≡ at + 3 = omega arith in
-        let n : j < min (byteAt bs (at + 2)) mostRemovals = omega arith in
-        rw a (word (suc (suc (suc (suc (suc (suc j)))))) (omega arith) (λ q. omega arith) ∙ rw b (words-at (min (byteAt bs (at + 2)) mostRemovals) bs (at + 3) j n))
-
-    removing-fields : FieldsIn bs g at i true
-    unfolding afterRemovals placeOf
-    removing-fields =
-        let z : min (byteAt bs (at + 2)) mostRemovals ≡ byteAt bs (at + 2) = omega arith in
+    plain-fields : FieldsIn bs g h at i
+    unfolding removalsOf removalsFrom
+    plain-fields =
         record {
-          kind-word = rw here at (word 0 (omega arith) (λ q. omega arith));
-          place-word = word 2 (omega arith) (λ q. omega arith);
-          procedure-word = word 3 (omega arith) (λ q. omega arith);
-          number-a = rw (word 5 (omega arith) (λ q. omega arith)) (word-number bs _ ok);
-          number-b = λ q. clash {b = true} refl q;
-          removals-are = rw (word 4 (omega arith) (λ q. omega arith), z, lt-ltb (at + 2) placeCount fits)
-              (numbers-moved (byteAt bs (at + 2)) bs g (at + 3) (rowAt i + 6) ok removal ∙ sym (removals-there bs at));
+          kind-word = rw here at (plain-word 0 (omega arith) (λ q. omega arith));
+          place-word = plain-word 2 (omega arith) (λ q. omega arith);
+          procedure-word = plain-word 3 (omega arith) (λ q. omega arith);
+          number-a = plain-word 5 (omega arith) (λ q. omega arith);
+          number-b = λ q. plain-word 6 (omega arith) (λ q. omega arith);
+          removals-are = rw (z, plain-word 4 (omega arith) (λ q. omega arith));
         }
 
--- a record that words say is the one that is written in the table, with its removals
+  -- with removals
+  module _ (n : h .removals ≡ 0 → ⊥) where
+    abbrev count : ℕ
+    count = removalCount bs (h .removals)
+
+    abbrev removing : List ℕ
+    removing = headWords h (placeWord at) count ++ wordsFrom count bs (h .removals + 1)
+
+    removing-is : wordsOf bs (placeWord at) h ≡ removing
+    removing-is = rw (ne-eqb (h .removals) 0 n)
+
+    all-of-them : count ≡ byteAt bs (h .removals)
+    all-of-them = let l = few (omega (arith, n)) in omega arith
+
+    long : length removing ≡ 6 + count
+    long = rw (words-length count bs (h .removals + 1)) (omega arith)
+
+    removing-word : (k : ℕ) → k < 6 + count → (k ≡ 1 → ⊥) → wordIn g (rowAt i + k) ≡ getD removing k 0
+    removing-word k l m = rw removing-is at (row k (rw (removing-is, long) l) m)
+
+    removal : (j : ℕ) → j < count → wordIn g (rowAt i + 6 + (0 + j)) ≡ wordOf (writtenAt bs (h .removals + 1 + 3 * j))
+    removal j m =
+        let a : rowAt i + 6 + (0 + j) ≡ rowAt i + suc (suc (suc (suc (suc (suc j))))) = omega arith in
+        rw a (removing-word (suc (suc (suc (suc (suc (suc j)))))) (omega arith) (λ q. omega arith) ∙ words-at count bs (h .removals + 1) j m)
+
+    there : (q : ℕ) → (q ≡ 0 → ⊥) → removalsOf bs q ≡ numbersFrom (byteAt bs q) bs (q + 1)
+    unfolding removalsOf
+    there zero f = absurd (f refl)
+    there (suc q) f = let e : suc q + 1 ≡ suc (suc q) = omega arith in rw e
+
+    removing-fields : FieldsIn bs g h at i
+    removing-fields =
+        record {
+          kind-word = rw here at (removing-word 0 (omega arith) (λ q. omega arith));
+          place-word = removing-word 2 (omega arith) (λ q. omega arith);
+          procedure-word = removing-word 3 (omega arith) (λ q. omega arith);
+          number-a = removing-word 5 (omega arith) (λ q. omega arith);
+          number-b = λ q. absurd (n q);
+          removals-are =
+              rw (removing-word 4 (omega arith) (λ q. omega arith))
+              (numbers-moved count bs g (h .removals + 1) (rowAt i) 0 ok removal ∙ rw all-of-them (sym (there (h .removals) n)));
+        }
+
+  fields-in : FieldsIn bs g h at i
+  fields-in = byEq (h .removals) 0 plain-fields removing-fields
+
+-- a record that words say is the one that was read, with its removals
 abbrev pub Carried : List ℕ → List ℕ → ℕ → Record → Record → Type 0
 Carried bs g row kind.Skip r = r ≡ kind.Skip
 Carried bs g row (kind.Not q a) r = (r ≡ kind.Not row a) × (removalsIn g row ≡ removalsOf bs q)
@@ -164,86 +250,46 @@ Carried bs g row kind.And r = r ≡ kind.And
 Carried bs g row kind.Or r = r ≡ kind.Or
 Carried bs g row kind.Negation r = r ≡ kind.Negation
 
-call-is : (p q f : ℕ) → kindOf (callRecord p q f) ≡ 5 → callRecord p q f ≡ kind.Call q f
-unfolding callRecord kindOf
-call-is p q f e =
-    byEq f 0 (λ z. absurd (no (rw (eq-eqb f 0 z) at e))) λ n.
-    byLt p f (λ l. absurd (no (rw (ne-eqb f 0 n, lt-ltb p f l) at e))) λ l.
-    rw (ne-eqb f 0 n, le-ltb p f l)
-  where
-    no : _≡_ {A = ℕ} 0 5 → ⊥
-    no z = omega arith
+-- what the words of record i say
+pub record Decoded (bs g : List ℕ) (i at : ℕ) (r : Record) : Type 0 where
+  pub carries : Carried bs g (rowAt i) r (recordIn g (rowAt i))
+  pub starts : startOf g i ≡ at
 
-module _ (p : ℕ) (bs g : List ℕ) (at i : ℕ) (ok : Bytes bs) where
-  abbrev CarriedKind : Bool → ℕ → Type 0
-  CarriedKind b j = wordIn g (rowAt i) ≡ j → kindOf (recordOf p j b bs (at + 2)) ≡ j →
-      Carried bs g (rowAt i) (recordOf p j b bs (at + 2)) (recordIn g (rowAt i))
+module _ (bs g : List ℕ) (at i : ℕ) where
+  carried : (r : Record) → Sound r → FieldsIn bs g (headOf r) at i → Carried bs g (rowAt i) r (recordIn g (rowAt i))
+  unfolding headOf recordIn touchRecord comparisonRecord plainRecord
+  carried kind.Skip s f = rw (f .kind-word)
+  carried (kind.Not q a) s f = (rw (f .kind-word, f .number-a, s), f .removals-are)
+  carried kind.Sequence s f = rw (f .kind-word)
+  carried kind.If s f = rw (f .kind-word)
+  carried (kind.Qcase q a) s f = (rw (f .kind-word, f .number-a, s), f .removals-are)
+  carried (kind.Call q p) s f = let same : p % 256 ≡ p = omega arith in (rw (f .kind-word, f .procedure-word, same), f .removals-are)
+  carried (kind.Greater a b) s f = rw (f .kind-word, f .number-a, f .number-b refl, s .0, s .1)
+  carried (kind.AtLeast a b) s f = rw (f .kind-word, f .number-a, f .number-b refl, s .0, s .1)
+  carried (kind.Equal a b) s f = rw (f .kind-word, f .number-a, f .number-b refl, s .0, s .1)
+  carried kind.And s f = rw (f .kind-word)
+  carried kind.Or s f = rw (f .kind-word)
+  carried kind.Negation s f = rw (f .kind-word)
 
-  module _ (b : Bool) (fields : FieldsIn bs g at i b) where
-    -- NOT and qcase
-    touching : CarriedKind b 1 × CarriedKind b 4
-    unfolding recordOf recordIn touchRecord plainRecord comparisonRecord
-    touching =
-        ((λ k e. (rw (k, fields .number-a), fields .removals-are)), (λ k e. (rw (k, fields .number-a), fields .removals-are)))
+  place-of : (r : Record) → headOf r .removals ≡ removalsPlace r
+  unfolding headOf
+  place-of kind.Skip = refl
+  place-of (kind.Not q a) = refl
+  place-of kind.Sequence = refl
+  place-of kind.If = refl
+  place-of (kind.Qcase q a) = refl
+  place-of (kind.Call q p) = refl
+  place-of (kind.Greater a b) = refl
+  place-of (kind.AtLeast a b) = refl
+  place-of (kind.Equal a b) = refl
+  place-of kind.And = refl
+  place-of kind.Or = refl
+  place-of kind.Negation = refl
 
-    -- the kinds without fields
-    plain : CarriedKind b 0 × CarriedKind b 2 × CarriedKind b 3 × CarriedKind b 9 × CarriedKind b 10 × CarriedKind b 11
-    unfolding recordOf recordIn touchRecord plainRecord comparisonRecord
-    plain = ((λ k e. rw k), (λ k e. rw k), (λ k e. rw k), (λ k e. rw k), (λ k e. rw k), (λ k e. rw k))
-
-    -- comparisons
-    comparing : b ≡ false → CarriedKind b 6 × CarriedKind b 7 × CarriedKind b 8
-    unfolding recordOf recordIn touchRecord plainRecord comparisonRecord afterRemovals
-    comparing f =
-        let a : wordNumber (wordIn g (rowAt i + 5)) ≡ writtenAt bs (at + 2) = rw f at (fields .number-a) in
-        let o : wordNumber (wordIn g (rowAt i + 6)) ≡ writtenAt bs (at + 2 + 3) = fields .number-b f in
-        ((λ k e. rw (k, a, o)), (λ k e. rw (k, a, o)), (λ k e. rw (k, a, o)))
-
-    -- a call
-    calling : CarriedKind b 5
-    unfolding recordOf recordIn touchRecord plainRecord comparisonRecord
-    calling k e =
-        let f = byteAt bs (afterRemovals b bs (at + 2)) in
-        let small : f < 256 = ok (afterRemovals b bs (at + 2)) in
-        let same : f % 256 ≡ f = omega arith in
-        rw (call-is p (placeOf b (at + 2)) f e) ((rw (k, fields .procedure-word, same)), fields .removals-are)
-
-    -- the record of a kind whose map is permitted
-    carried-kind : (j map : ℕ) → j < kindCount → permitted j map ≡ true → stands 0 map ≡ b → CarriedKind b j
-    carried-kind j map l t q =
-        by-kinds (λ (j : ℕ). permitted j map ≡ true → CarriedKind b j)
-        (λ t. plain .0) (λ t. touching .0) (λ t. plain .1) (λ t. plain .2) (λ t. touching .1) (λ t. calling)
-        (λ t. comparing (compares t) .0) (λ t. comparing (compares t) .1) (λ t. comparing (compares t) .2)
-        (λ t. plain .3) (λ t. plain .4) (λ t. plain .5) j l t
-      where
-        compares : eqb map 6 || eqb map 6 ≡ true → b ≡ false
-        compares t = sym q ∙ rw (only map 6 t)
-
--- the record that the words of record i say is the one that stands at a place of the table, where its fields were read
-pub carried :
-    (p : ℕ) (bs g : List ℕ) (at i : ℕ) → Bytes bs → at + 2 ≤ length bs → at + 2 < placeCount → byteAt bs (at + 1) < kindCount →
-    permitted (byteAt bs (at + 1)) (byteAt bs at) ≡ true → (stands 0 (byteAt bs at) ≡ true → (at + 2 < length bs) × (byteAt bs (at + 2) ≤ mostRemovals)) →
-    (r : Record) → recordOf p (byteAt bs (at + 1)) (stands 0 (byteAt bs at)) bs (at + 2) ≡ r → kindOf r ≡ byteAt bs (at + 1) →
-    Row bs g i at → Carried bs g (rowAt i) r (recordIn g (rowAt i))
-carried p bs g at i ok inside fits small permits removing r e is row =
-    byBool (stands 0 (byteAt bs at))
-    (λ t. let fields = removing-fields bs g at i ok row t (removing t .0) (removing t .1) fits in by true t fields)
-    (λ f. by false f (plain-fields bs g at i ok row f))
-  where
-    by : (b : Bool) → stands 0 (byteAt bs at) ≡ b → FieldsIn bs g at i b → Carried bs g (rowAt i) r (recordIn g (rowAt i))
-    by b s fields =
-        let q : recordOf p (byteAt bs (at + 1)) b bs (at + 2) ≡ r = rw s at e in
-        rw (← q) (carried-kind p bs g at i ok b fields (byteAt bs (at + 1)) (byteAt bs at) small permits s (fields .kind-word) (ap kindOf q ∙ is))
-
--- its place in the table
-pub row-starts : (bs g : List ℕ) (at i : ℕ) → Bytes bs → Row bs g i at → at < placeCount → (stands 0 (byteAt bs at) ≡ true → at + 2 < length bs) →
-    startOf g i ≡ at
-unfolding placeWord
-row-starts bs g at i ok row l removing =
-    byBool (stands 0 (byteAt bs at))
-    (λ t.
-    let is = removing-is bs g at i ok row t (removing t) in
-    row 2 (rw is (omega arith)) (λ q. omega arith) ∙ rw (is, lt-ltb at placeCount l))
-    (λ f.
-    let is = plain-is bs g at i ok row f in
-    row 2 (rw is (omega arith)) (λ q. omega arith) ∙ rw (is, lt-ltb at placeCount l))
+  -- the record that the words of record i say is the one that was read, and its place in the table stands with them
+  pub decoded : (r : Record) → Bytes bs → Sound r → (0 < removalsPlace r → byteAt bs (removalsPlace r) ≤ mostRemovals) → at < placeCount → Row bs r g i at →
+      Decoded bs g i at r
+  unfolding recordWords placeWord
+  decoded r ok sound few l row =
+      let fields = fields-in bs g (headOf r) at i ok row (rw (place-of r) few) in
+      record { carries = carried r sound fields; starts = fields .place-word ∙ rw (lt-ltb at placeCount l) }

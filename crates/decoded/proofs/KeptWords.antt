@@ -1,18 +1,15 @@
 -- The program while it fills: a record's words stand where they were put down, and what was put down of earlier records stays.
-use Prim.Native.Nat.{ℕ, zero, suc, _+_, _*_, _≤_, _<_, min}
+use Prim.Native.Nat.{ℕ, zero, suc, _+_, _≤_, _<_}
 use native.Mathlib.Omega.{arith}
 use mathlib.Core.Path.{_≡_, refl, _∙_}
-use mathlib.Core.Bool.{Bool, true, false}
 use mathlib.Core.List.{List, [], _∷_}
-use borrow.Author.Tests.{lt-ltb, le-ltb}
+use borrow.Author.Tests.{lt-ltb, eq-eqb, ne-eqb}
 use lib.ListN.{length, getD, set, length-set}
 use lib.Seq.{sets, length-sets, getD-set-same, getD-set-other}
-use Rattle.limits.specs.Sizes.{recordsAt, recordCount, recordLength, programLength}
-use Rattle.model.specs.Limits.{mostRemovals}
-use Rattle.model.specs.Reading.{stands}
-use Rattle.model.proofs.BooleanLaws.{byBool, byLt}
-use Rattle.records.specs.Fields.{byteAt}
-use Rattle.decoded.specs.RecordWords.{rowAt, wordsFrom, plainWords, removingWords, recordWords, recorded}
+use Rattle.decoded.specs.Layout.{recordsAt, recordCount, recordLength, programLength, rowAt}
+use Rattle.model.proofs.BooleanLaws.{byEq, byLt}
+use Rattle.records.specs.declared.Record.{Record}
+use Rattle.decoded.specs.RecordWords.{headOf, removalCount, recordWords, recorded}
 use Rattle.decoded.specs.DecodedTable.{wordIn}
 use Rattle.decoded.proofs.DecodedRecords.{Row, words-length}
 
@@ -33,37 +30,35 @@ sets-there (w ∷ ws) g at (suc k) h l =
     let e : at + suc k ≡ suc at + k = omega arith in rw e (sets-there ws (set g at w) (suc at) k (omega arith) (rw (length-set g at w) (omega arith)))
 
 -- a record has no more words than there is room for
-pub words-few : (bs : List ℕ) (at : ℕ) → length (recordWords bs at) ≤ recordLength
+pub words-few : (bs : List ℕ) (r : Record) (at : ℕ) → length (recordWords bs r at) ≤ recordLength
 unfolding recordWords
-words-few bs at =
-    byBool (stands 0 (byteAt bs at))
-    (λ t. byLt (at + 2) (length bs)
-    (λ l. rw (t, lt-ltb (at + 2) (length bs) l, words-length (min (byteAt bs (at + 2)) mostRemovals) bs (at + 2 + 1)) (omega arith))
-    (λ l. rw (t, le-ltb (at + 2) (length bs) l) (omega arith)))
-    (λ f. rw f (omega arith))
+words-few bs r at =
+    byEq (headOf r .removals) 0
+    (λ z. rw (eq-eqb (headOf r .removals) 0 z) (omega arith))
+    (λ n. rw (ne-eqb (headOf r .removals) 0 n, words-length (removalCount bs (headOf r .removals)) bs (headOf r .removals + 1)) (omega arith))
 
-module _ (bs : List ℕ) (at i : ℕ) (g : List ℕ) (few : i < recordCount) (inside : at < length bs) where
-  put-down : recorded bs at i g ≡ sets g (rowAt i) (recordWords bs at)
+module _ (bs : List ℕ) (r : Record) (at i : ℕ) (g : List ℕ) (few : i < recordCount) where
+  put-down : recorded bs r at i g ≡ sets g (rowAt i) (recordWords bs r at)
   unfolding recorded
-  put-down = rw (lt-ltb i recordCount few, lt-ltb at (length bs) inside)
+  put-down = rw (lt-ltb i recordCount few)
 
   -- the words of the record stand there
-  pub recorded-there : length g ≡ programLength → Row bs (recorded bs at i g) i at
+  pub recorded-there : length g ≡ programLength → Row bs r (recorded bs r at i g) i at
   recorded-there long k h n =
-      let m = words-few bs at in
-      rw put-down (sets-there (recordWords bs at) g (rowAt i) k h (omega arith))
+      let m = words-few bs r at in
+      rw put-down (sets-there (recordWords bs r at) g (rowAt i) k h (omega arith))
 
   -- the words of every other record, and what stands before them all, are as they were
-  pub recorded-other : (q k : ℕ) → (q ≡ i → ⊥) → k < recordLength → wordIn (recorded bs at i g) (rowAt q + k) ≡ wordIn g (rowAt q + k)
+  pub recorded-other : (q k : ℕ) → (q ≡ i → ⊥) → k < recordLength → wordIn (recorded bs r at i g) (rowAt q + k) ≡ wordIn g (rowAt q + k)
   recorded-other q k n h =
-      let m = words-few bs at in
+      let m = words-few bs r at in
       rw put-down
       (byLt q i
-      (λ l. sets-before (recordWords bs at) g (rowAt i) (rowAt q + k) (omega arith))
-      (λ l. let o : i < q = omega arith in sets-behind (recordWords bs at) g (rowAt i) (rowAt q + k) (omega arith)))
+      (λ l. sets-before (recordWords bs r at) g (rowAt i) (rowAt q + k) (omega arith))
+      (λ l. let o : i < q = omega arith in sets-behind (recordWords bs r at) g (rowAt i) (rowAt q + k) (omega arith)))
 
-  pub recorded-head : (k : ℕ) → k < recordsAt → wordIn (recorded bs at i g) k ≡ wordIn g k
-  recorded-head k h = rw put-down (sets-before (recordWords bs at) g (rowAt i) k (omega arith))
+  pub recorded-head : (k : ℕ) → k < recordsAt → wordIn (recorded bs r at i g) k ≡ wordIn g k
+  recorded-head k h = rw put-down (sets-before (recordWords bs r at) g (rowAt i) k (omega arith))
 
-  pub recorded-long : length (recorded bs at i g) ≡ length g
-  recorded-long = rw put-down (length-sets g (rowAt i) (recordWords bs at))
+  pub recorded-long : length (recorded bs r at i g) ≡ length g
+  recorded-long = rw put-down (length-sets g (rowAt i) (recordWords bs r at))

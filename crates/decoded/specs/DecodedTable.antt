@@ -1,17 +1,24 @@
 -- What reading leaves of a table: the words of its records. With them it is the tree of its statements.
-use Prim.Native.Nat.{ℕ, zero, suc, _+_, _%_}
+use Prim.Native.Nat.{ℕ, zero, suc, _+_, _%_, _≤_, _<_}
+use mathlib.Core.Path.{_≡_}
+use mathlib.Core.Bool.{cond}
 use mathlib.Core.List.{List, [], _∷_, map}
-use lib.ListN.{getD}
+use lib.ListN.{getD, set}
+use lib.Dec.{ltb}
 use lib.IntN.{pos}
-use Rattle.limits.specs.Sizes.{rootsAt, widthsAt, endField, placeField, procedureField, countField, numberField, removalsField}
-use Rattle.model.specs.Limits.{mostDepth}
+use Rattle.limits.specs.Sizes.{placeCount}
+use Rattle.model.specs.Limits.{mostDepth, mostRecords}
 use Rattle.model.specs.Syntax.{Number, constant, Condition, greater, atLeast, equal, conjunction, disjunction, negation}
 use Rattle.model.specs.Syntax.{Statement, skip, NOT, sequence, if, qcase, call, Program}
 use Rattle.model.specs.Lists.{range}
+use Rattle.records.specs.declared.Number as code
 use Rattle.records.specs.declared.Record.{Record}
 use Rattle.records.specs.declared.Record.the-variants as kind
 use Rattle.records.specs.Fields.{numberOf, byFields, plainRecord, touchRecord, comparisonRecord}
-use Rattle.decoded.specs.RecordWords.{rowAt, wordNumber}
+use Rattle.decoded.specs.Layout.{
+  rootsAt, widthsAt, recordsAt, endField, placeField, procedureField, countField, numberField, removalsField, programLength, rowAt,
+}
+use Rattle.decoded.specs.RecordWords.{wordNumber}
 
 -- the word at a place, 0 past the end
 abbrev pub wordIn : List ℕ → ℕ → ℕ
@@ -37,21 +44,30 @@ rootOf g f = wordIn g (rootsAt + f)
 abbrev pub procedureCount : List ℕ → ℕ
 procedureCount g = wordIn g 0 % 256
 
--- n numbers whose words stand one after the other
-unfoldable pub numbersIn : ℕ → List ℕ → ℕ → List Number
-numbersIn zero g at = []
-numbersIn (suc n) g at = numberOf (wordNumber (wordIn g at)) ∷ numbersIn n g (at + 1)
+-- of the record whose words begin at a place: numbers a and b, and its removals, the first being number 0
+abbrev pub firstNumber : List ℕ → ℕ → code.Number
+firstNumber g at = wordNumber (wordIn g (at + numberField))
 
--- the removals of the record whose words stand from a place on
+abbrev pub secondNumber : List ℕ → ℕ → code.Number
+secondNumber g at = wordNumber (wordIn g (at + removalsField))
+
+abbrev pub removalNumber : List ℕ → ℕ → ℕ → code.Number
+removalNumber g at k = wordNumber (wordIn g (at + removalsField + k))
+
+-- n of its removals, from number k on; and all of them
+unfoldable pub removalsFrom : ℕ → List ℕ → ℕ → ℕ → List Number
+removalsFrom zero g at k = []
+removalsFrom (suc n) g at k = numberOf (removalNumber g at k) ∷ removalsFrom n g at (k + 1)
+
 abbrev pub removalsIn : List ℕ → ℕ → List Number
-removalsIn g at = numbersIn (wordIn g (at + countField)) g (at + removalsField)
+removalsIn g at = removalsFrom (wordIn g (at + countField)) g at 0
 
--- the record whose words stand from a place on, by its kind; it has its removals there too
+-- the record whose words begin at a place, by its kind; it has its removals there too
 unfoldable pub recordIn : List ℕ → ℕ → Record
 recordIn g at =
     byFields (wordIn g at)
-    (touchRecord (wordIn g at) at (wordNumber (wordIn g (at + numberField))))
-    (comparisonRecord (wordIn g at) (wordNumber (wordIn g (at + numberField))) (wordNumber (wordIn g (at + removalsField))))
+    (touchRecord (wordIn g at) at (firstNumber g at))
+    (comparisonRecord (wordIn g at) (firstNumber g at) (secondNumber g at))
     (kind.Call at (wordIn g (at + procedureField) % 256))
     (plainRecord (wordIn g at))
 
@@ -108,3 +124,23 @@ bodyAt g f = statementAt g mostDepth (rootOf g f)
 -- the program
 abbrev pub programAt : List ℕ → Program
 programAt g = record { main = bodyAt g 0; procedures = map (bodyAt g) (range (procedureCount g) 1) }
+
+-- the program with a value noted at a slot. A slot outside, or a value past 65535, would be passed over: reading comes to neither.
+unfoldable pub noted : List ℕ → ℕ → ℕ → List ℕ
+noted g slot value = cond (ltb slot programLength) (cond (ltb value placeCount) (set g slot value) g) g
+
+-- so the root of the body of f, main at 0, and the record behind the subtree of record i
+abbrev pub withRoot : ℕ → ℕ → List ℕ → List ℕ
+withRoot f i g = noted g (rootsAt + f) i
+
+abbrev pub withEnd : ℕ → ℕ → List ℕ → List ℕ
+withEnd i end g = noted g (rowAt i + endField) end
+
+-- the width of record i, kept; there is no record past the last
+unfoldable pub withWidth : ℕ → ℕ → List ℕ → List ℕ
+withWidth i w g = cond (ltb mostRecords i) g (set g (widthsAt + i) w)
+
+-- two programs differ in the widths that they keep, and in nothing else
+pub record Unseen (g h : List ℕ) : Type 0 where
+  pub head : (k : ℕ) → k < widthsAt → wordIn h k ≡ wordIn g k
+  pub rows : (k : ℕ) → recordsAt ≤ k → wordIn h k ≡ wordIn g k

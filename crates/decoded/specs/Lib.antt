@@ -1,2 +1,4 @@
+pub mod Layout
 pub mod RecordWords
 pub mod DecodedTable
+pub mod Steps

@@ -27,7 +27,7 @@ use Rattle.agreement.proofs.KeysOfALength.{keys-shorter, calls-shorter}
 use Rattle.agreement.proofs.AncillaStack.{only-reverse, entries-only, bodies-stacked, bodiesFrom-stacked, chains-stacked}
 use Rattle.decoded.specs.DecodedTable.{procedureCount, rootOf, statementAt, programAt}
 use Rattle.reach.proofs.MatrixOfAProgram.{count-at, body-at}
-use Rattle.step.proofs.StatementAtARecord.{spent-skip}
+use Rattle.decoded.proofs.StatementAtARecord.{spent-skip}
 use Rattle.controls.specs.ControlWords.{controlsFrom, listFrom, At}
 use Rattle.widths.specs.KeptWidths.{WidthsKnown}
 use Rattle.lookup.specs.Plans.{Within}

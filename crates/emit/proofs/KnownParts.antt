@@ -14,13 +14,13 @@ use Rattle.model.specs.Reach.{recursive, width}
 use Rattle.model.specs.Emission.{isWide}
 use Rattle.model.proofs.BooleanLaws.{byLt, byBool}
 use Rattle.decoded.specs.DecodedTable.{widthIn, removalsIn, testAt, statementAt, programAt}
-use Rattle.step.specs.declared.Step.{Step}
-use Rattle.step.specs.declared.Step.the-variants as step
-use Rattle.step.specs.Steps.{stepAt}
-use Rattle.step.proofs.StatementAtARecord.{at-step}
-use Rattle.reach.specs.declared.Parts.{Parts}
-use Rattle.reach.specs.declared.Parts.the-variants as parts
-use Rattle.reach.specs.CallsInATable.{partsOf, partsAt}
+use Rattle.decoded.specs.declared.Step.{Step}
+use Rattle.decoded.specs.declared.Step.the-variants as step
+use Rattle.decoded.specs.Steps.{stepAt}
+use Rattle.decoded.proofs.StatementAtARecord.{at-step}
+use Rattle.decoded.specs.declared.Parts.{Parts}
+use Rattle.decoded.specs.declared.Parts.the-variants as parts
+use Rattle.decoded.specs.Steps.{partsOf, partsAt}
 use Rattle.widths.specs.KeptWidths.{OfParts, Known}
 use Rattle.emit.specs.WalkPromises.{KnownIn}
 

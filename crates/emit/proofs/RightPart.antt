@@ -24,10 +24,10 @@ use Rattle.agreement.proofs.EmissionClauses.{
 use Rattle.controls.specs.ControlWords.{withQubit, controlsFrom, listFrom, At}
 use Rattle.controls.proofs.ControlSets.{qubit-asked}
 use Rattle.decoded.specs.DecodedTable.{widthIn, removalsIn, testAt, statementAt, programAt}
-use Rattle.step.specs.declared.Step.{Step}
-use Rattle.step.specs.declared.Step.the-variants as step
-use Rattle.step.specs.Steps.{touchedBy, stepAt}
-use Rattle.step.proofs.StatementAtARecord.{Idle, at-step, at-branches, idle-skip, spent-skip}
+use Rattle.decoded.specs.declared.Step.{Step}
+use Rattle.decoded.specs.declared.Step.the-variants as step
+use Rattle.decoded.specs.Steps.{touchedBy, stepAt}
+use Rattle.decoded.proofs.StatementAtARecord.{Idle, at-step, at-branches, idle-skip, spent-skip}
 use Rattle.step.proofs.ChosenBranch.{chosen-means}
 use Rattle.lookup.specs.Plans.{Within}
 use Rattle.events.specs.Scan.{Emit, progress, scan, wireOf}

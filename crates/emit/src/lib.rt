@@ -7,21 +7,21 @@ ghost use Rattle.decoded.specs.DecodedTable.{procedureCount};
 ghost use Rattle.events.specs.Scan.{emitIn};
 ghost use Rattle.emit.specs.WalkPromises.{bodyDepth, Whole, Call, Left, Right, BodyLeft, BodyRight, Bodies, Rest, Inner, Body, Emits};
 use controls::{Site, free_site, under, with_control};
+use decoded::{Program, Step, is_wide, procedures, root, step_at};
 use events::{Slots, State, above_length, begin, emit_entries, emit_entries_back, emit_flip, finish, flip_again, invoke, load, next, precedence, procedure, seek, status, wire};
-use limits::{LIST_WORD, MOST_DEPTH, PROGRAM_LENGTH};
+use limits::{LIST_WORD, MOST_DEPTH};
 use sets::{QubitSet, size};
-use step::{Step, all, chosen, procedures, remaining, root, step_at, touched};
-use widths::is_wide;
+use step::{all, chosen, remaining, touched};
 
 // How deep is the body of f: nothing where no procedure is f.
-fn body_depth(program: &[u32; PROGRAM_LENGTH], f: u8) -> u8
+fn body_depth(program: &Program, f: u8) -> u8
     ensures { λ r. ⌜ r ≡ bodyDepth (procedureCount (now (program .entry))) f ⌝ }
 {
     if procedures(program) < f { 0 } else { MOST_DEPTH }
 }
 
 // A statement emitted whole, in order.
-fn emit_whole(program: &[u32; PROGRAM_LENGTH], k: u8, i: u32, depth: u8, site: &Site, room: &mut [u8], slots: &mut Slots, state: &mut State)
+fn emit_whole(program: &Program, k: u8, i: u32, depth: u8, site: &Site, room: &mut [u8], slots: &mut Slots, state: &mut State)
     ensures { λ r. ⌜ Whole (now (program .entry)) k (emitIn (now (state .entry))) (now (room .entry)) (now (slots .entry))
         (emitIn (now (state .exit))) (now (room .exit)) (now (slots .exit)) i depth (listFrom (now (site .entry))) (controlsFrom (now (site .entry))) ⌝ }
 {
@@ -59,7 +59,7 @@ fn emit_whole(program: &[u32; PROGRAM_LENGTH], k: u8, i: u32, depth: u8, site: &
 }
 
 // "A non-recursive call with a nonempty list starts a chain."
-fn emit_call(program: &[u32; PROGRAM_LENGTH], k: u8, f: u8, list: QubitSet, site: &Site, room: &mut [u8], slots: &mut Slots, state: &mut State)
+fn emit_call(program: &Program, k: u8, f: u8, list: QubitSet, site: &Site, room: &mut [u8], slots: &mut Slots, state: &mut State)
     ensures { λ r. ⌜ Call (now (program .entry)) k (emitIn (now (state .entry))) (now (room .entry)) (now (slots .entry))
         (emitIn (now (state .exit))) (now (room .exit)) (now (slots .exit)) f (membersOf list) (controlsFrom (now (site .entry))) ⌝ }
 {
@@ -81,7 +81,7 @@ fn emit_call(program: &[u32; PROGRAM_LENGTH], k: u8, f: u8, list: QubitSet, site
 }
 
 // The bodies of a chain whose precedence is below `last`: the longest list goes first, and of equal lengths the lowest procedure.
-fn emit_bodies(program: &[u32; PROGRAM_LENGTH], k: u8, base: u16, last: u64, room: &mut [u8], slots: &mut Slots, state: &mut State)
+fn emit_bodies(program: &Program, k: u8, base: u16, last: u64, room: &mut [u8], slots: &mut Slots, state: &mut State)
     ensures { λ r. ⌜ Bodies (now (program .entry)) k (emitIn (now (state .entry))) (now (room .entry)) (now (slots .entry))
         (emitIn (now (state .exit))) (now (room .exit)) (now (slots .exit)) base last ⌝ }
 {
@@ -96,7 +96,7 @@ fn emit_bodies(program: &[u32; PROGRAM_LENGTH], k: u8, base: u16, last: u64, roo
 }
 
 // The body of slot d around all bodies that follow it, between its entry gates.
-fn emit_body(program: &[u32; PROGRAM_LENGTH], k: u8, base: u16, last: u64, d: u16, room: &mut [u8], slots: &mut Slots, state: &mut State)
+fn emit_body(program: &Program, k: u8, base: u16, last: u64, d: u16, room: &mut [u8], slots: &mut Slots, state: &mut State)
     ensures { λ r. ⌜ Body (now (program .entry)) k (emitIn (now (state .entry))) (now (room .entry)) (now (slots .entry))
         (emitIn (now (state .exit))) (now (room .exit)) (now (slots .exit)) base last d ⌝ }
 {
@@ -110,7 +110,7 @@ fn emit_body(program: &[u32; PROGRAM_LENGTH], k: u8, base: u16, last: u64, d: u1
 }
 
 // Its left part, then the rest.
-fn emit_inner(program: &[u32; PROGRAM_LENGTH], k: u8, base: u16, last: u64, d: u16, room: &mut [u8], slots: &mut Slots, state: &mut State)
+fn emit_inner(program: &Program, k: u8, base: u16, last: u64, d: u16, room: &mut [u8], slots: &mut Slots, state: &mut State)
     ensures { λ r. ⌜ Inner (now (program .entry)) k (emitIn (now (state .entry))) (now (room .entry)) (now (slots .entry))
         (emitIn (now (state .exit))) (now (room .exit)) (now (slots .exit)) base last d ⌝ }
 {
@@ -119,7 +119,7 @@ fn emit_inner(program: &[u32; PROGRAM_LENGTH], k: u8, base: u16, last: u64, d: u
 }
 
 // The bodies that follow, then its right part, whose recursive calls have the ancillas before the next wire.
-fn emit_rest(program: &[u32; PROGRAM_LENGTH], k: u8, base: u16, last: u64, d: u16, room: &mut [u8], slots: &mut Slots, state: &mut State)
+fn emit_rest(program: &Program, k: u8, base: u16, last: u64, d: u16, room: &mut [u8], slots: &mut Slots, state: &mut State)
     ensures { λ r. ⌜ Rest (now (program .entry)) k (emitIn (now (state .entry))) (now (room .entry)) (now (slots .entry))
         (emitIn (now (state .exit))) (now (room .exit)) (now (slots .exit)) base last d ⌝ }
 {
@@ -129,7 +129,7 @@ fn emit_rest(program: &[u32; PROGRAM_LENGTH], k: u8, base: u16, last: u64, d: u1
 }
 
 // The left part of the body of slot d.
-fn emit_body_left(program: &[u32; PROGRAM_LENGTH], k: u8, d: u16, room: &mut [u8], slots: &mut Slots, state: &mut State)
+fn emit_body_left(program: &Program, k: u8, d: u16, room: &mut [u8], slots: &mut Slots, state: &mut State)
     ensures { λ r. ⌜ BodyLeft (now (program .entry)) k (emitIn (now (state .entry))) (now (room .entry)) (now (slots .entry))
         (emitIn (now (state .exit))) (now (room .exit)) (now (slots .exit)) d ⌝ }
 {
@@ -139,7 +139,7 @@ fn emit_body_left(program: &[u32; PROGRAM_LENGTH], k: u8, d: u16, room: &mut [u8
 }
 
 // Its right part.
-fn emit_body_right(program: &[u32; PROGRAM_LENGTH], k: u8, d: u16, behind: u16, room: &mut [u8], slots: &mut Slots, state: &mut State)
+fn emit_body_right(program: &Program, k: u8, d: u16, behind: u16, room: &mut [u8], slots: &mut Slots, state: &mut State)
     ensures { λ r. ⌜ BodyRight (now (program .entry)) k (emitIn (now (state .entry))) (now (room .entry)) (now (slots .entry))
         (emitIn (now (state .exit))) (now (room .exit)) (now (slots .exit)) d behind ⌝ }
 {
@@ -149,7 +149,7 @@ fn emit_body_right(program: &[u32; PROGRAM_LENGTH], k: u8, d: u16, behind: u16, 
 }
 
 // The left part of the statement at record i. A call there is recursive where it is wide.
-fn emit_left(program: &[u32; PROGRAM_LENGTH], k: u8, i: u32, depth: u8, site: &Site, room: &mut [u8], slots: &mut Slots, state: &mut State)
+fn emit_left(program: &Program, k: u8, i: u32, depth: u8, site: &Site, room: &mut [u8], slots: &mut Slots, state: &mut State)
     ensures { λ r. ⌜ Left (now (program .entry)) k (emitIn (now (state .entry))) (now (room .entry)) (now (slots .entry))
         (emitIn (now (state .exit))) (now (room .exit)) (now (slots .exit)) i depth (listFrom (now (site .entry))) (controlsFrom (now (site .entry))) ⌝ }
 {
@@ -198,7 +198,7 @@ fn emit_left(program: &[u32; PROGRAM_LENGTH], k: u8, i: u32, depth: u8, site: &S
 }
 
 // The right part of the statement at record i; its recursive calls have the ancillas before `behind`, the last one first. The first of them is given.
-fn emit_right(program: &[u32; PROGRAM_LENGTH], k: u8, i: u32, depth: u8, site: &Site, behind: u16, room: &mut [u8], slots: &mut Slots, state: &mut State) -> u16
+fn emit_right(program: &Program, k: u8, i: u32, depth: u8, site: &Site, behind: u16, room: &mut [u8], slots: &mut Slots, state: &mut State) -> u16
     ensures { λ r. ⌜ Right (now (program .entry)) k (emitIn (now (state .entry))) (now (room .entry)) (now (slots .entry))
         (emitIn (now (state .exit))) (now (room .exit)) (now (slots .exit)) i depth (listFrom (now (site .entry))) (controlsFrom (now (site .entry))) behind r ⌝ }
 {
@@ -244,7 +244,7 @@ fn emit_right(program: &[u32; PROGRAM_LENGTH], k: u8, i: u32, depth: u8, site: &
 }
 
 // "Wires 1 to n are data; ancillas follow": main is emitted whole, under no control.
-pub fn emit_main(program: &[u32; PROGRAM_LENGTH], n: u8, room: &mut [u8], slots: &mut Slots) -> State
+pub fn emit_main(program: &Program, n: u8, room: &mut [u8], slots: &mut Slots) -> State
     ensures { λ r. ⌜ Emits (now (program .entry)) n (now (room .entry)) (now (slots .entry))
         (emitIn r) (now (room .exit)) (now (slots .exit)) ⌝ }
 {

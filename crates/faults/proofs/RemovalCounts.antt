@@ -11,11 +11,11 @@ use lib.ListN.{length}
 use Rattle.model.specs.Limits.{mostDepth, mostQubits}
 use Rattle.model.specs.Syntax.{Statement}
 use Rattle.decoded.specs.DecodedTable.{procedureCount, rootOf, removalsIn, statementAt}
-use Rattle.reach.specs.declared.Parts.{Parts}
-use Rattle.reach.specs.declared.Parts.the-variants as parts
-use Rattle.reach.specs.CallsInATable.{partsAt}
+use Rattle.decoded.specs.declared.Parts.{Parts}
+use Rattle.decoded.specs.declared.Parts.the-variants as parts
+use Rattle.decoded.specs.Steps.{partsAt}
 use Rattle.reach.proofs.MatrixOperations.{left-never}
-use Rattle.reach.proofs.PartsOfARecord.{ArePartsOf, as-skip, as-not, as-sequence, as-if, as-qcase, as-call, parts-here}
+use Rattle.decoded.proofs.PartsOfARecord.{ArePartsOf, as-skip, as-not, as-sequence, as-if, as-qcase, as-call, parts-here}
 use Rattle.faults.specs.TouchedPositions.{Touched, touchesNone, touchesOne, joined}
 use Rattle.faults.specs.Rows.{rowOf, rowIs, marked}
 use Rattle.faults.specs.CallLengths.{removalCounts, countsBelow, sumsBelow}

@@ -11,10 +11,10 @@ use Rattle.model.specs.Syntax.{Statement, skip}
 use Rattle.model.specs.Lists.{qubits, remaining, holds}
 use Rattle.model.proofs.BooleanLaws.{or-false}
 use Rattle.decoded.specs.DecodedTable.{removalsIn, testAt, statementAt}
-use Rattle.step.specs.declared.Step.{Step}
-use Rattle.step.specs.declared.Step.the-variants as step
-use Rattle.step.specs.Steps.{touchedBy, stepAt}
-use Rattle.step.proofs.StatementAtARecord.{Idle, at-step, idle-skip, spent-skip}
+use Rattle.decoded.specs.declared.Step.{Step}
+use Rattle.decoded.specs.declared.Step.the-variants as step
+use Rattle.decoded.specs.Steps.{touchedBy, stepAt}
+use Rattle.decoded.proofs.StatementAtARecord.{Idle, at-step, idle-skip, spent-skip}
 use Rattle.step.proofs.ChosenBranch.{chosen-means}
 use Rattle.faults.specs.TouchedPositions.{CallTouches, joined, closes, callTouches, touches}
 use Rattle.faults.specs.Rows.{rowOf, marked, closedRow, knownTouches}

@@ -11,10 +11,11 @@ ghost use Rattle.faults.specs.Rows.{rowOf, rowIs, marked, closedRow, pla
 ghost use Rattle.faults.specs.CallLengths.{removalCounts, countsBelow, sumsBelow, sumsIn};
 ghost use Rattle.faults.specs.RowTable.{fromIn, rankIn, ranksIn, rankAt};
 ghost use Rattle.faults.specs.RowTable.{filledRow, filledIf, filledRank, filledLength, filledAsked, filled, faultsAt};
-use limits::{BODIES, BODY_COUNT, LENGTH_COUNT, MATRIX_LENGTH, MOST_DEPTH, MOST_QUBITS, PROGRAM_LENGTH, ROW_COUNT};
-use reach::{Parts, parts_at, recursive};
+use decoded::{Parts, Program, Step, parts_at, procedures, removal_count, root, step_at};
+use limits::{BODIES, BODY_COUNT, LENGTH_COUNT, MATRIX_LENGTH, MOST_DEPTH, MOST_QUBITS, ROW_COUNT};
+use reach::recursive;
 use sets::{QubitSet, carried, size};
-use step::{Step, all, chosen, procedures, remaining, removal_count, root, step_at, touched};
+use step::{all, chosen, remaining, touched};
 
 // A set of numbers below 64 is a word, whose bit t says whether t is in it. A row is the set of the positions touched, counted from 1; 0 is in it
 // for a fault inside.
@@ -73,7 +74,7 @@ fn called(known: &[u64; ROW_COUNT], f: u8, list: QubitSet) -> u64
 
 // What the statement at record i touches of a list of m entries, of as many as a list can have, by their positions: both branches of a qcase, the
 // chosen branch of an if.
-fn touches(program: &[u32; PROGRAM_LENGTH], i: u32, depth: u8, m: u8, known: &[u64; ROW_COUNT]) -> u64
+fn touches(program: &Program, i: u32, depth: u8, m: u8, known: &[u64; ROW_COUNT]) -> u64
     ensures {
         λ r. ⌜ r ≡ rowOf (touches (knownTouches (now (known .entry))) (statementAt (now (program .entry)) depth i) (min m mostQubits)) ⌝
     }
@@ -115,7 +116,7 @@ fn touches(program: &[u32; PROGRAM_LENGTH], i: u32, depth: u8, m: u8, known: &[u
 // calls lead to lists that are shorter by a sum of such numbers.
 
 // How many removals the calls in the statement at record i carry, as a set.
-fn counts(program: &[u32; PROGRAM_LENGTH], i: u32, depth: u8) -> u64
+fn counts(program: &Program, i: u32, depth: u8) -> u64
     ensures { λ r. ⌜ r ≡ rowOf (removalCounts (statementAt (now (program .entry)) depth i)) ⌝ }
 {
     if depth == 0 {
@@ -130,7 +131,7 @@ fn counts(program: &[u32; PROGRAM_LENGTH], i: u32, depth: u8) -> u64
 }
 
 // The same for all bodies.
-fn all_counts(program: &[u32; PROGRAM_LENGTH]) -> u64
+fn all_counts(program: &Program) -> u64
     ensures { λ r. ⌜ r ≡ countsBelow (now (program .entry)) (suc (procedureCount (now (program .entry)))) ⌝ }
 {
     let p = procedures(program);
@@ -205,7 +206,7 @@ fn store(known: &mut [u64; ROW_COUNT], f: u8, m: u8, row: u64)
 }
 
 // The row of procedure f on lists of length m: what its body touches, by the table so far.
-fn fill_row(program: &[u32; PROGRAM_LENGTH], f: u8, m: u8, known: &mut [u64; ROW_COUNT])
+fn fill_row(program: &Program, f: u8, m: u8, known: &mut [u64; ROW_COUNT])
     ensures {
         λ r. ⌜ now (known .exit) ≡ filledRow (now (program .entry)) f m (now (known .entry)) ⌝
     }
@@ -215,7 +216,7 @@ fn fill_row(program: &[u32; PROGRAM_LENGTH], f: u8, m: u8, known: &mut [u64; ROW
 }
 
 // The same, but only where f has rank k.
-fn fill_if(program: &[u32; PROGRAM_LENGTH], k: usize, f: u8, m: u8, ranks: &[usize; BODY_COUNT], known: &mut [u64; ROW_COUNT])
+fn fill_if(program: &Program, k: usize, f: u8, m: u8, ranks: &[usize; BODY_COUNT], known: &mut [u64; ROW_COUNT])
     ensures {
         λ r. ⌜ now (known .exit) ≡ filledIf (now (program .entry)) (now (ranks .entry)) k f m (now (known .entry)) ⌝
     }
@@ -226,7 +227,7 @@ fn fill_if(program: &[u32; PROGRAM_LENGTH], k: usize, f: u8, m: u8, ranks: &[usi
 }
 
 // All procedures of rank k, on lists of length m.
-fn fill_rank(program: &[u32; PROGRAM_LENGTH], k: usize, m: u8, ranks: &[usize; BODY_COUNT], known: &mut [u64; ROW_COUNT])
+fn fill_rank(program: &Program, k: usize, m: u8, ranks: &[usize; BODY_COUNT], known: &mut [u64; ROW_COUNT])
     ensures {
         λ r. ⌜ now (known .exit) ≡ filledRank (now (program .entry)) (now (ranks .entry)) (procedureCount (now (program .entry))) k m (now (known .entry)) ⌝
     }
@@ -240,7 +241,7 @@ fn fill_rank(program: &[u32; PROGRAM_LENGTH], k: usize, m: u8, ranks: &[usize; B
 }
 
 // All procedures, on lists of length m: by rank, so that what a body calls on lists of the same length is there before it.
-fn fill_length(program: &[u32; PROGRAM_LENGTH], m: u8, ranks: &[usize; BODY_COUNT], known: &mut [u64; ROW_COUNT])
+fn fill_length(program: &Program, m: u8, ranks: &[usize; BODY_COUNT], known: &mut [u64; ROW_COUNT])
     ensures {
         λ r. ⌜ now (known .exit) ≡ filledLength (now (program .entry)) (now (ranks .entry)) (procedureCount (now (program .entry))) m (now (known .entry)) ⌝
     }
@@ -254,7 +255,7 @@ fn fill_length(program: &[u32; PROGRAM_LENGTH], m: u8, ranks: &[usize; BODY_COUN
 }
 
 // The same, but only where calls can have removed `gone` entries of main's list, so that m are left.
-fn fill_asked(program: &[u32; PROGRAM_LENGTH], gone: u8, m: u8, sums: u64, ranks: &[usize; BODY_COUNT], known: &mut [u64; ROW_COUNT])
+fn fill_asked(program: &Program, gone: u8, m: u8, sums: u64, ranks: &[usize; BODY_COUNT], known: &mut [u64; ROW_COUNT])
     ensures {
         λ r. ⌜ now (known .exit) ≡ filledAsked (now (program .entry)) (now (ranks .entry)) sums gone m (now (known .entry)) ⌝
     }
@@ -265,7 +266,7 @@ fn fill_asked(program: &[u32; PROGRAM_LENGTH], gone: u8, m: u8, sums: u64, ranks
 }
 
 // All procedures, on lists of the lengths 1 to n that calls can lead to, the shortest first.
-fn fill(program: &[u32; PROGRAM_LENGTH], n: u8, matrix: &[u8; MATRIX_LENGTH], known: &mut [u64; ROW_COUNT])
+fn fill(program: &Program, n: u8, matrix: &[u8; MATRIX_LENGTH], known: &mut [u64; ROW_COUNT])
     ensures {
         λ r. ⌜ now (known .exit) ≡ filled (now (program .entry)) (ranksIn (now (matrix .entry)) (procedureCount (now (program .entry))))
             (sumsIn (now (program .entry))) n n (now (known .entry)) ⌝
@@ -281,7 +282,7 @@ fn fill(program: &[u32; PROGRAM_LENGTH], n: u8, matrix: &[u8; MATRIX_LENGTH], kn
 }
 
 // Refusal 12: does main fault on n qubits? `matrix` says which procedure reaches which.
-pub fn faults(program: &[u32; PROGRAM_LENGTH], n: u8, matrix: &[u8; MATRIX_LENGTH]) -> bool
+pub fn faults(program: &Program, n: u8, matrix: &[u8; MATRIX_LENGTH]) -> bool
     ensures { λ r. ⌜ r ≡ faultsAt (now (program .entry)) (now (matrix .entry)) n ⌝ }
 {
     let mut known = [0; ROW_COUNT];

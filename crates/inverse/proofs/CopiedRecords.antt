@@ -12,9 +12,9 @@ use lib.Seq.{drop-cons, take-nil}
 use Rattle.model.specs.Limits.{mostDepth}
 use Rattle.decoded.specs.DecodedTable.{startOf, rootOf, procedureCount}
 use Rattle.table.specs.ReadTable.{piece, bodyEnd}
-use Rattle.reach.specs.declared.Parts.{Parts}
-use Rattle.reach.specs.declared.Parts.the-variants as parts
-use Rattle.reach.specs.CallsInATable.{partsAt}
+use Rattle.decoded.specs.declared.Parts.{Parts}
+use Rattle.decoded.specs.declared.Parts.the-variants as parts
+use Rattle.decoded.specs.Steps.{partsAt}
 use Rattle.reach.proofs.MatrixOperations.{left-never}
 use Rattle.text.specs.AppendedBytes.{Written, written, puts}
 use Rattle.text.proofs.AppendLaws.{put-after, put-then}

@@ -15,11 +15,11 @@ use Rattle.model.proofs.RoundTrip.{Bytes}
 use Rattle.model.proofs.WrittenTables.{table-written}
 use Rattle.records.specs.declared.Record.{Record}
 use Rattle.records.specs.declared.Record.the-variants as kind
-use Rattle.decoded.specs.RecordWords.{rowAt}
+use Rattle.decoded.specs.Layout.{rowAt}
 use Rattle.decoded.specs.DecodedTable.{procedureCount, recordIn, statementOf, testAt, statementAt, bodyAt, programAt}
 use Rattle.table.specs.ReadTable.{Placed, BodiesPlaced}
-use Rattle.step.specs.Steps.{stepOf}
-use Rattle.reach.specs.CallsInATable.{partsOf}
+use Rattle.decoded.specs.Steps.{stepOf}
+use Rattle.decoded.specs.Steps.{partsOf}
 use Rattle.inverse.specs.TurnedRecords.{inOrder, turnedOf, turnedAt, turnedBelow, turnedTable}
 
 -- a record by its kind, where its parts are copied as their inverses

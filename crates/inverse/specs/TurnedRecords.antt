@@ -6,9 +6,9 @@ use mathlib.Core.List.{List, [], _++_}
 use Rattle.model.specs.Limits.{mostDepth}
 use Rattle.decoded.specs.DecodedTable.{startOf, rootOf, procedureCount}
 use Rattle.table.specs.ReadTable.{piece, bodyEnd}
-use Rattle.reach.specs.declared.Parts.{Parts}
-use Rattle.reach.specs.declared.Parts.the-variants as parts
-use Rattle.reach.specs.CallsInATable.{partsAt}
+use Rattle.decoded.specs.declared.Parts.{Parts}
+use Rattle.decoded.specs.declared.Parts.the-variants as parts
+use Rattle.decoded.specs.Steps.{partsAt}
 
 -- two statements one behind the other, or the second before the first
 unfoldable pub inOrder : Bool → List ℕ → List ℕ → List ℕ

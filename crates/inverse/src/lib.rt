@@ -5,25 +5,14 @@ ghost use Prim.Native.Nat.{suc};
 ghost use lib.ListN.{length};
 ghost use Rattle.model.specs.Answers.{inverseTable, roomAfter};
 ghost use Rattle.answers.specs.Structs.{lengthAnswer};
-ghost use Rattle.decoded.specs.DecodedTable.{startOf};
 ghost use Rattle.table.specs.ReadTable.{piece, bodyEnd};
 ghost use Rattle.text.specs.AppendedBytes.{written, puts};
 ghost use Rattle.inverse.specs.TurnedRecords.{turnedAt, turnedBody, turnedBelow, turnedTable};
 use answers::Answer;
-use limits::{MOST_DEPTH, PLACE_FIELD, PROGRAM_LENGTH, RECORDS_AT, RECORD_LENGTH, SHORT_TABLE_ROOM};
-use reach::{Parts, parts_at};
-use step::{procedures, root};
+use decoded::{PROGRAM_LENGTH, Parts, Program, parts_at, procedures, root, start};
+use limits::{MOST_DEPTH, SHORT_TABLE_ROOM};
 use text::put;
 use verdict::check_table;
-
-// Where record i begins in the table.
-fn start(program: &[u32; PROGRAM_LENGTH], i: u32) -> usize
-    ensures { λ r. ⌜ r ≡ startOf (now (program .entry)) i ⌝ }
-{
-    let words = &program[..];
-    let at = RECORDS_AT + RECORD_LENGTH * i as usize + PLACE_FIELD;
-    if at < words.len() { words[at] as usize } else { 0 }
-}
 
 // The bytes of the table from one place up to another, put into the room.
 fn put_piece(table: &[u8], from: usize, to: usize, room: &mut [u8], at: usize) -> usize
@@ -42,7 +31,7 @@ fn put_piece(table: &[u8], from: usize, to: usize, room: &mut [u8], at: usize) -
 }
 
 // The statement at record i, whose bytes stand up to `end`, turned round: what stands before its own statements, and then these.
-fn put_turned(table: &[u8], program: &[u32; PROGRAM_LENGTH], i: u32, end: usize, depth: u8, room: &mut [u8], at: usize) -> usize
+fn put_turned(table: &[u8], program: &Program, i: u32, end: usize, depth: u8, room: &mut [u8], at: usize) -> usize
     ensures { λ r. ⌜ written (now (room .exit)) r ≡
         puts (turnedAt (now (table .entry)) (now (program .entry)) depth i end) (now (room .entry)) at ⌝ }
 {
@@ -68,7 +57,7 @@ fn put_turned(table: &[u8], program: &[u32; PROGRAM_LENGTH], i: u32, end: usize,
 }
 
 // Where the body of f ends: where the next one starts, or with the table.
-fn body_end(table: &[u8], program: &[u32; PROGRAM_LENGTH], f: u8) -> usize
+fn body_end(table: &[u8], program: &Program, f: u8) -> usize
     ensures { λ r. ⌜ r ≡ bodyEnd (now (table .entry)) (now (program .entry)) f ⌝ }
 {
     if f < procedures(program) {
@@ -78,14 +67,14 @@ fn body_end(table: &[u8], program: &[u32; PROGRAM_LENGTH], f: u8) -> usize
 }
 
 // The body of f, main at 0, turned round.
-fn put_body(table: &[u8], program: &[u32; PROGRAM_LENGTH], f: u8, room: &mut [u8], at: usize) -> usize
+fn put_body(table: &[u8], program: &Program, f: u8, room: &mut [u8], at: usize) -> usize
     ensures { λ r. ⌜ written (now (room .exit)) r ≡ puts (turnedBody (now (table .entry)) (now (program .entry)) f) (now (room .entry)) at ⌝ }
 {
     put_turned(table, program, root(program, f), body_end(table, program, f), MOST_DEPTH, room, at)
 }
 
 // The bodies of main and each procedure, one behind the other, each turned round.
-fn put_bodies(table: &[u8], program: &[u32; PROGRAM_LENGTH], p: u8, room: &mut [u8], at: usize) -> usize
+fn put_bodies(table: &[u8], program: &Program, p: u8, room: &mut [u8], at: usize) -> usize
     ensures { λ r. ⌜ written (now (room .exit)) r ≡
         puts (turnedBelow (now (table .entry)) (now (program .entry)) (suc p)) (now (room .entry)) at ⌝ }
 {
@@ -97,7 +86,7 @@ fn put_bodies(table: &[u8], program: &[u32; PROGRAM_LENGTH], p: u8, room: &mut [
 }
 
 // The whole table: edition and p as they stand, then the bodies.
-fn put_table(table: &[u8], program: &[u32; PROGRAM_LENGTH], room: &mut [u8]) -> usize
+fn put_table(table: &[u8], program: &Program, room: &mut [u8]) -> usize
     ensures { λ r. ⌜ written (now (room .exit)) r ≡ puts (turnedTable (now (table .entry)) (now (program .entry))) (now (room .entry)) 0 ⌝ }
 {
     let first_end = put_piece(table, 0, 2, room, 0);

@@ -1,7 +1,7 @@
 -- Numbers that the code needs beside document 01's limits and refusals: of the form of a table, and the sizes of what the code keeps, each of which
 -- follows from the limits.
 use Prim.Native.Nat.{ℕ, _+_, _-_, _*_, _^_}
-use Rattle.model.specs.Limits.{mostProcedures, mostRecords, mostDepth, mostRemovals, mostQubits, mostWires, blockLength}
+use Rattle.model.specs.Limits.{mostProcedures, mostQubits, mostWires, blockLength}
 use Rattle.model.specs.Page.{numberColumns, bandGates}
 
 -- "Kinds: 0 skip; .. 5 call, procedure; 6 a > b; .. 11 not, one condition": kinds from 6 on are conditions
@@ -34,50 +34,6 @@ setLength = 64
 -- what a body touches of a list: a row for each body and each length
 abbrev pub rowCount : ℕ
 rowCount = bodyCount * lengthCount
-
--- a table that was read, decoded: its number of procedures at place 0; the root of each body, from `rootsAt` on; a width for each record, from `widthsAt`
--- on; and the words of each record, from `recordsAt` on. A record's number, and the number after the last, is below `recordCount`.
-abbrev pub recordCount : ℕ
-recordCount = mostRecords + 1
-
-abbrev pub rootsAt : ℕ
-rootsAt = 1
-
--- as many roots as a byte has numbers
-abbrev pub rootCount : ℕ
-rootCount = 2 ^ 8
-
-abbrev pub widthsAt : ℕ
-widthsAt = rootsAt + rootCount
-
-abbrev pub recordsAt : ℕ
-recordsAt = widthsAt + recordCount
-
--- the words of a record: its kind; the record behind its subtree; its place in the table; the procedure that it calls; how many removals it has; number a; and
--- its removals, or number b in the place of the first
-abbrev pub endField : ℕ
-endField = 1
-
-abbrev pub placeField : ℕ
-placeField = 2
-
-abbrev pub procedureField : ℕ
-procedureField = 3
-
-abbrev pub countField : ℕ
-countField = 4
-
-abbrev pub numberField : ℕ
-numberField = 5
-
-abbrev pub removalsField : ℕ
-removalsField = 6
-
-abbrev pub recordLength : ℕ
-recordLength = removalsField + mostRemovals
-
-abbrev pub programLength : ℕ
-programLength = recordsAt + recordLength * recordCount
 
 -- a place in a table is kept in 16 bits: reading comes to none past them
 abbrev pub placeCount : ℕ

@@ -12,8 +12,7 @@ ghost use Rattle.model.specs.Limits.{
 ghost use Rattle.model.specs.Reading.{mostBase};
 ghost use Rattle.model.specs.Page.{bandGates};
 ghost use Rattle.limits.specs.Sizes.{
-  bodyCount, matrixLength, lengthCount, rowCount, recordCount, rootsAt, rootCount, widthsAt, recordsAt, endField, placeField, procedureField, countField, numberField,
-  removalsField, recordLength, programLength, placeCount, setLength, onesWord, zerosWord, highWord, listWord, siteLength, statusWord, usedWord,
+  bodyCount, matrixLength, lengthCount, rowCount, placeCount, setLength, onesWord, zerosWord, highWord, listWord, siteLength, statusWord, usedWord,
   gatesWord, nextWord, highestWord, qubitsWord, stateLength, slotLength, slotsLength, kindCount, firstCondition,
   mostConstant, wireCount, marksLength, lineColumns, lookupLength, mostCount, swapLength,
 };
@@ -131,39 +130,6 @@ pub const LENGTH_COUNT: usize = LIST_LENGTH + 1;
 // What a body touches of a list: a row for each body and each length.
 pub const ROW_COUNT: usize = BODY_COUNT * LENGTH_COUNT;
 
-// A table that was read, decoded: how many procedures it has, the root of each body, a width for each record, and for each record its words. Record numbers
-// are below RECORD_COUNT.
-pub const RECORD_COUNT: usize = MOST_RECORDS + 1;
-
-pub const LAST_RECORD: u32 = MOST_RECORDS as u32;
-
-pub const ROOTS_AT: usize = 1;
-
-// As many roots as a byte has numbers: a procedure's number needs no test.
-pub const ROOT_COUNT: usize = 256;
-
-pub const WIDTHS_AT: usize = ROOTS_AT + ROOT_COUNT;
-
-pub const RECORDS_AT: usize = WIDTHS_AT + RECORD_COUNT;
-
-// The words of a record: its kind, the record behind its subtree, its place in the table, the procedure that it calls, how many removals it has, number a, and
-// its removals, or number b in the place of the first.
-pub const END_FIELD: usize = 1;
-
-pub const PLACE_FIELD: usize = 2;
-
-pub const PROCEDURE_FIELD: usize = 3;
-
-pub const COUNT_FIELD: usize = 4;
-
-pub const NUMBER_FIELD: usize = 5;
-
-pub const REMOVALS_FIELD: usize = 6;
-
-pub const RECORD_LENGTH: usize = REMOVALS_FIELD + MOST_REMOVALS as usize;
-
-pub const PROGRAM_LENGTH: usize = RECORDS_AT + RECORD_LENGTH * RECORD_COUNT;
-
 // A place in a table is kept in 16 bits.
 pub const PLACE_COUNT: usize = 65536;
 
@@ -277,19 +243,6 @@ fn emission_places() -> [usize; 12]
     [
         ONES_WORD, ZEROS_WORD, HIGH_WORD, LIST_WORD, SITE_LENGTH, STATUS_WORD, USED_WORD, GATES_WORD, NEXT_WORD, HIGHEST_WORD, QUBITS_WORD,
         STATE_LENGTH,
-    ]
-}
-
-// Each place in a decoded table is the definition's.
-fn places() -> [usize; 13]
-    ensures {
-        λ r. ⌜ r ≡ recordCount ∷ rootsAt ∷ rootCount ∷ widthsAt ∷ recordsAt ∷ endField ∷ placeField ∷ procedureField ∷ countField ∷ numberField ∷ removalsField ∷
-            recordLength ∷ programLength ∷ [] ⌝
-    }
-{
-    [
-        RECORD_COUNT, ROOTS_AT, ROOT_COUNT, WIDTHS_AT, RECORDS_AT, END_FIELD, PLACE_FIELD, PROCEDURE_FIELD, COUNT_FIELD, NUMBER_FIELD, REMOVALS_FIELD, RECORD_LENGTH,
-        PROGRAM_LENGTH,
     ]
 }
 

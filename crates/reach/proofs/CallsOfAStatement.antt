@@ -1,29 +1,27 @@
 -- The ways out of the functions that walk a statement, and of the loops over bodies.
-use mathlib.Core.Path.{_≡_, refl, sym, ap, _∙_}
+use mathlib.Core.Path.{_≡_, refl, sym, _∙_}
 use mathlib.Core.Bool.{Bool, true, false, _&&_, _||_, and-true, and-false}
 use mathlib.Core.List.{List, [], _∷_}
-use Prim.Native.Nat.{ℕ, zero, suc, _+_, _-_, _≤_, _<_}
+use Prim.Native.Nat.{ℕ, suc, _+_, _-_, _≤_, _<_}
 use native.Mathlib.Nat.{not-suc-le-zero}
 use native.Mathlib.Numerals.{add-one}
 use native.Mathlib.Omega.{arith}
 use borrow.Author.Needs.{needs}
 use borrow.Author.Tests.{lt-ltb, le-ltb}
 use lib.ListN.{length}
-use lib.Dec.{ltb}
 use Rattle.model.specs.Limits.{mostProcedures, mostDepth}
 use Rattle.model.specs.Syntax.{Number, Statement}
 use Rattle.model.specs.Reach.{isEmpty, lacksRemoval, anyBelow}
-use Rattle.model.proofs.BooleanLaws.{byLt, or-false, any-here}
+use Rattle.model.proofs.BooleanLaws.{or-false, any-here}
 use Rattle.decoded.specs.DecodedTable.{rootOf, procedureCount, removalsIn, statementAt, bodyAt}
-use Rattle.step.specs.declared.Step.{Step}
-use Rattle.step.specs.Steps.{stepAt}
-use Rattle.reach.specs.declared.Parts.{Parts}
-use Rattle.reach.specs.declared.Parts.the-variants as parts
+use Rattle.decoded.specs.Steps.{partsAt}
+use Rattle.decoded.specs.declared.Parts.{Parts}
+use Rattle.decoded.specs.declared.Parts.the-variants as parts
 use Rattle.reach.specs.Matrix.{recursiveIn, mark, closed, noMarks}
-use Rattle.reach.specs.CallsInATable.{partsOf, partsAt, marked, markedBelow, reachAt, lacksIn}
+use Rattle.reach.specs.CallsInATable.{marked, markedBelow, reachAt, lacksIn}
 use Rattle.reach.proofs.MatrixOperations.{left-never}
 use Rattle.reach.proofs.MatrixOfAProgram.{filled-reach}
-use Rattle.reach.proofs.PartsOfARecord.{ArePartsOf, as-skip, as-not, as-sequence, as-if, as-qcase, as-call, parts-here}
+use Rattle.decoded.proofs.PartsOfARecord.{ArePartsOf, as-skip, as-not, as-sequence, as-if, as-qcase, as-call, parts-here}
 
 -- a call carries a removal where their number is not 0
 bare : (rs : List Number) → length rs ≤ 0 → isEmpty rs ≡ true
@@ -131,13 +129,7 @@ module _ (g : List ℕ) (depth i : ℕ) where
         unfolding lacksBy
         lacks-call-bare b none k = lacks-are b (parts.Call q at) c (rw (bare (removalsIn g at) (omega arith)) (k ∙ sym (and-true (r q))))
 
--- the parts of a record
-pub step-parts : (found s : Step) (r : Parts) → found ≡ s → r ≡ partsOf s → r ≡ partsOf found
-step-parts found s r e q = rw e q
-
-pub parts-are : (found : Step) (g : List ℕ) (i : ℕ) (r : Parts) → found ≡ stepAt g i → r ≡ partsOf found → r ≡ partsAt g i
-parts-are found g i r e q = rw (← e) q
-
+-- refusal 10, and the marks, of one body and of all
 pub lacks-is : (m : List ℕ) (g : List ℕ) (f root : ℕ) (r : Bool) → root ≡ rootOf g f →
     r ≡ lacksRemoval (recursiveIn m f) (statementAt g mostDepth root) → r ≡ lacksIn m g f
 unfolding lacksIn
@@ -197,7 +189,6 @@ module _ (g : List ℕ) where
 
 pub ruleset marking = (needs, marks-spent, marks-none, marks-two, marks-call)
 pub ruleset lacking = (needs, lacks-spent, lacks-none, lacks-first, lacks-second, lacks-call-carries, lacks-call-bare)
-pub ruleset looking = (needs, step-parts, parts-are)
 pub ruleset bodies = (
     needs, lacks-is, all-lack, body-marked, bodies-more, bodies-last, bodies-start, any-start, any-yes, any-more, any-none, fill-many, fill-closed,
     left-never

@@ -2,6 +2,5 @@
 pub mod MatrixRelation
 pub mod MatrixOfAProgram
 pub mod MatrixOperations
-pub mod PartsOfARecord
 pub mod CallsOfAStatement
 pub mod ReachByMatrix

@@ -1,37 +1,13 @@
--- The calls of a program's statements: what each record is for them, the marks that they leave, and refusal 10 by a matrix.
+-- The calls of a program's statements: the marks that they leave, and refusal 10 by a matrix.
 use Prim.Native.Nat.{ℕ, zero, suc}
-use mathlib.Core.Bool.{Bool, true, false, cond}
+use mathlib.Core.Bool.{Bool, cond}
 use mathlib.Core.List.{List}
 use lib.Dec.{ltb}
 use Rattle.model.specs.Limits.{mostProcedures}
 use Rattle.model.specs.Syntax.{Statement, skip, NOT, sequence, if, qcase, call}
 use Rattle.model.specs.Reach.{lacksRemoval, anyBelow}
 use Rattle.decoded.specs.DecodedTable.{procedureCount, bodyAt, programAt}
-use Rattle.step.specs.declared.Step.{Step}
-use Rattle.step.specs.declared.Step.the-variants as step
-use Rattle.step.specs.Steps.{stepAt}
-use Rattle.reach.specs.declared.Parts.{Parts}
-use Rattle.reach.specs.declared.Parts.the-variants as parts
 use Rattle.reach.specs.Matrix.{recursiveIn, mark, reachTable, noMarks}
-
--- what a step is for calls: two parts, in turn or one of them, a call, or neither
-unfoldable pub partsOf : Step → Parts
-partsOf step.Nothing = parts.Neither
-partsOf (step.Touches at) = parts.Neither
-partsOf (step.Sequence a b) = parts.Two a b true
-partsOf (step.Chooses c a b) = parts.Two a b false
-partsOf (step.Branches at a b) = parts.Two a b false
-partsOf (step.Calls g at) = parts.Call g at
-partsOf (step.Greater at) = parts.Neither
-partsOf (step.AtLeast at) = parts.Neither
-partsOf (step.Equal at) = parts.Neither
-partsOf (step.Both a b) = parts.Neither
-partsOf (step.Either a b) = parts.Neither
-partsOf (step.Negates a) = parts.Neither
-
--- those of record i
-abbrev pub partsAt : List ℕ → ℕ → Parts
-partsAt g i = partsOf (stepAt g i)
 
 -- row f marked for every call in a statement
 unfoldable pub marked : ℕ → Statement → List ℕ → List ℕ

@@ -5,17 +5,9 @@ ghost use Rattle.limits.specs.Sizes.{bodyCount};
 ghost use Rattle.model.specs.Reach.{lacksRemoval, anyBelow};
 ghost use Rattle.decoded.specs.DecodedTable.{statementAt, bodyAt};
 ghost use Rattle.reach.specs.Matrix.{cell, markAt, entry, recursiveIn, mark, carried, joined, extended, through, closed};
-ghost use Rattle.reach.specs.CallsInATable.{partsOf, partsAt, marked, markedBelow, reachAt, lacksIn, anyLacksIn};
-use limits::{BODIES, BODY_COUNT, MATRIX_LENGTH, MOST_DEPTH, MOST_PROCEDURES, PROGRAM_LENGTH};
-use step::{Step, procedures, removal_count, root, step_at};
-
-// What a record is for calls: a statement without parts, one of two parts, which come in turn or of which one is chosen, or a call with the
-// place of its removals.
-pub enum Parts {
-    Neither,
-    Two(u32, u32, bool),
-    Call(u8, u32),
-}
+ghost use Rattle.reach.specs.CallsInATable.{marked, markedBelow, reachAt, lacksIn, anyLacksIn};
+use decoded::{Parts, Program, parts_at, procedures, removal_count, root};
+use limits::{BODIES, BODY_COUNT, MATRIX_LENGTH, MOST_DEPTH, MOST_PROCEDURES};
 
 // The place of row f, column g.
 fn cell(f: u8, g: u8) -> usize
@@ -116,35 +108,8 @@ fn close(matrix: &mut [u8; MATRIX_LENGTH], p: u8)
     }
 }
 
-// What a step is for calls.
-fn parts_of(found: Step) -> Parts
-    ensures { λ r. ⌜ r ≡ partsOf found ⌝ }
-{
-    match found {
-        Step::Nothing => Parts::Neither,
-        Step::Touches(_) => Parts::Neither,
-        Step::Sequence(first, second) => Parts::Two(first, second, true),
-        Step::Chooses(_, yes, no) => Parts::Two(yes, no, false),
-        Step::Branches(_, zero, one) => Parts::Two(zero, one, false),
-        Step::Calls(g, at) => Parts::Call(g, at),
-        Step::Greater(_) => Parts::Neither,
-        Step::AtLeast(_) => Parts::Neither,
-        Step::Equal(_) => Parts::Neither,
-        Step::Both(_, _) => Parts::Neither,
-        Step::Either(_, _) => Parts::Neither,
-        Step::Negates(_) => Parts::Neither,
-    }
-}
-
-// What record i is for calls.
-pub fn parts_at(program: &[u32; PROGRAM_LENGTH], i: u32) -> Parts
-    ensures { λ r. ⌜ r ≡ partsAt (now (program .entry)) i ⌝ }
-{
-    parts_of(step_at(program, i))
-}
-
 // Row f is marked for every call in the statement at record i, of at most `depth` records from its root down.
-fn mark_calls(program: &[u32; PROGRAM_LENGTH], i: u32, depth: u8, f: u8, matrix: &mut [u8; MATRIX_LENGTH])
+fn mark_calls(program: &Program, i: u32, depth: u8, f: u8, matrix: &mut [u8; MATRIX_LENGTH])
     ensures { λ r. ⌜ now (matrix .exit) ≡ marked f (statementAt (now (program .entry)) depth i) (now (matrix .entry)) ⌝ }
 {
     if depth == 0 {
@@ -162,14 +127,14 @@ fn mark_calls(program: &[u32; PROGRAM_LENGTH], i: u32, depth: u8, f: u8, matrix:
 }
 
 // Row f is marked for every call in the body of f.
-fn mark_body(program: &[u32; PROGRAM_LENGTH], f: u8, matrix: &mut [u8; MATRIX_LENGTH])
+fn mark_body(program: &Program, f: u8, matrix: &mut [u8; MATRIX_LENGTH])
     ensures { λ r. ⌜ now (matrix .exit) ≡ marked f (bodyAt (now (program .entry)) f) (now (matrix .entry)) ⌝ }
 {
     mark_calls(program, root(program, f), MOST_DEPTH, f, matrix);
 }
 
 // The rows of main and procedures 1 to p are marked, each for every call in its body.
-fn mark_bodies(program: &[u32; PROGRAM_LENGTH], p: u8, matrix: &mut [u8; MATRIX_LENGTH])
+fn mark_bodies(program: &Program, p: u8, matrix: &mut [u8; MATRIX_LENGTH])
     ensures { λ r. ⌜ now (matrix .exit) ≡ markedBelow (bodyAt (now (program .entry))) (suc p) (now (matrix .entry)) ⌝ }
 {
     for f in 0..=p {
@@ -178,7 +143,7 @@ fn mark_bodies(program: &[u32; PROGRAM_LENGTH], p: u8, matrix: &mut [u8; MATRIX_
 }
 
 // Which procedure reaches which, in the program of a table with p procedures. Of more than a table can have, nothing is marked.
-pub fn fill_reach(program: &[u32; PROGRAM_LENGTH], matrix: &mut [u8; MATRIX_LENGTH])
+pub fn fill_reach(program: &Program, matrix: &mut [u8; MATRIX_LENGTH])
     ensures { λ r. ⌜ now (matrix .exit) ≡ reachAt (now (program .entry)) ⌝ }
 {
     *matrix = [0; MATRIX_LENGTH];
@@ -191,7 +156,7 @@ pub fn fill_reach(program: &[u32; PROGRAM_LENGTH], matrix: &mut [u8; MATRIX_LENG
 }
 
 // Does a recursive call in the statement at record i, in the body of f, lack a removal?
-fn lacks_removal(program: &[u32; PROGRAM_LENGTH], i: u32, depth: u8, f: u8, matrix: &[u8; MATRIX_LENGTH]) -> bool
+fn lacks_removal(program: &Program, i: u32, depth: u8, f: u8, matrix: &[u8; MATRIX_LENGTH]) -> bool
     ensures { λ r. ⌜ r ≡ lacksRemoval (recursiveIn (now (matrix .entry)) f) (statementAt (now (program .entry)) depth i) ⌝ }
 {
     if depth == 0 {
@@ -216,14 +181,14 @@ fn lacks_removal(program: &[u32; PROGRAM_LENGTH], i: u32, depth: u8, f: u8, matr
 }
 
 // Does a recursive call in the body of f lack a removal?
-fn body_lacks_removal(program: &[u32; PROGRAM_LENGTH], f: u8, matrix: &[u8; MATRIX_LENGTH]) -> bool
+fn body_lacks_removal(program: &Program, f: u8, matrix: &[u8; MATRIX_LENGTH]) -> bool
     ensures { λ r. ⌜ r ≡ lacksIn (now (matrix .entry)) (now (program .entry)) f ⌝ }
 {
     lacks_removal(program, root(program, f), MOST_DEPTH, f, matrix)
 }
 
 // Does a recursive call in one of the bodies 0 to p lack a removal?
-fn one_lacks_removal(program: &[u32; PROGRAM_LENGTH], p: u8, matrix: &[u8; MATRIX_LENGTH]) -> bool
+fn one_lacks_removal(program: &Program, p: u8, matrix: &[u8; MATRIX_LENGTH]) -> bool
     ensures { λ r. ⌜ r ≡ anyBelow (suc p) (lacksIn (now (matrix .entry)) (now (program .entry))) ⌝ }
 {
     for f in 0..=p {
@@ -235,7 +200,7 @@ fn one_lacks_removal(program: &[u32; PROGRAM_LENGTH], p: u8, matrix: &[u8; MATRI
 }
 
 // Refusal 10: does a recursive call in one of the bodies lack a removal?
-pub fn any_lacks_removal(program: &[u32; PROGRAM_LENGTH], matrix: &[u8; MATRIX_LENGTH]) -> bool
+pub fn any_lacks_removal(program: &Program, matrix: &[u8; MATRIX_LENGTH]) -> bool
     ensures { λ r. ⌜ r ≡ anyLacksIn (now (matrix .entry)) (now (program .entry)) ⌝ }
 {
     one_lacks_removal(program, procedures(program), matrix)

@@ -73,7 +73,7 @@ pub fn based(base: u8, constant: i32) -> Number
 }
 
 // The number whose three bytes stand from a place on: a base byte and a constant.
-fn written_at(table: &[u8], at: usize) -> Number
+pub fn written_at(table: &[u8], at: usize) -> Number
     ensures { λ r. ⌜ r ≡ writtenAt (now (table .entry)) at ⌝ }
 {
     if table.len() <= at {

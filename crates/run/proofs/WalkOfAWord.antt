@@ -23,11 +23,11 @@ use Rattle.sets.specs.Sets.{membersOf}
 use Rattle.sets.proofs.Members.{members-empty}
 use Rattle.sets.proofs.Readings.{members-split}
 use Rattle.decoded.specs.DecodedTable.{rootOf, procedureCount, removalsIn, testAt, statementAt, programAt}
-use Rattle.step.specs.declared.Step.{Step}
-use Rattle.step.specs.declared.Step.the-variants as step
-use Rattle.step.specs.Steps.{touchedBy, stepAt}
+use Rattle.decoded.specs.declared.Step.{Step}
+use Rattle.decoded.specs.declared.Step.the-variants as step
+use Rattle.decoded.specs.Steps.{touchedBy, stepAt}
 use native.Mathlib.Numerals.{sub-one}
-use Rattle.step.proofs.StatementAtARecord.{Idle, at-step, at-branches, idle-skip, spent-skip}
+use Rattle.decoded.proofs.StatementAtARecord.{Idle, at-step, at-branches, idle-skip, spent-skip}
 use Rattle.step.proofs.ChosenBranch.{chosen-means}
 use Rattle.run.specs.RunOnWords.{bitFlipped, flippedWord, bitOf, callWords, wordDoes, callWordsWithin, ranWord, walked, called}
 use Rattle.model.proofs.WordBits.{tested, shifted}

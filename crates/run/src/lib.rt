@@ -9,9 +9,10 @@ ghost use Rattle.run.specs.RunOnWords.{flippedWord, bitOf, walked, calle
 ghost use Rattle.answers.specs.Structs.{answerOf};
 ghost use Rattle.model.specs.Answers as model;
 use answers::Answer;
-use limits::{HIGH_BIT, LEAST_WORKSPACE, MOST_DEPTH, MOST_N, MOST_QUBITS, PROGRAM_LENGTH, SHORT_WORKSPACE, WRONG_QUBITS};
+use decoded::{PROGRAM_LENGTH, Program, Step, procedures, root, step_at};
+use limits::{HIGH_BIT, LEAST_WORKSPACE, MOST_DEPTH, MOST_N, MOST_QUBITS, SHORT_WORKSPACE, WRONG_QUBITS};
 use sets::{QubitSet, size};
-use step::{Step, all, chosen, procedures, remaining, root, step_at, touched};
+use step::{all, chosen, remaining, touched};
 use verdict::check_table;
 use wires::fits;
 
@@ -50,7 +51,7 @@ fn taken(word: u64, q: u8, zero: u32, one: u32) -> u32
 
 // What the statement at record i makes of a word, on the whole list of its procedure. It is followed `depth` records down, and its calls
 // `fuel` deep. An if, a qcase and the second statement of a sequence go on in place.
-fn walk(program: &[u32; PROGRAM_LENGTH], i: u32, depth: u8, list: QubitSet, fuel: u16, word: u64) -> u64
+fn walk(program: &Program, i: u32, depth: u8, list: QubitSet, fuel: u16, word: u64) -> u64
     ensures { λ r. ⌜ r ≡ walked (now (program .entry)) depth i (membersOf list) fuel word ⌝ }
 {
     let mut at = i;
@@ -88,7 +89,7 @@ fn walk(program: &[u32; PROGRAM_LENGTH], i: u32, depth: u8, list: QubitSet, fuel
 
 // What a call of procedure f makes of a word: its body goes on with the list that the removals left, and with all its depth. No table that was
 // read calls a procedure past p.
-fn call(program: &[u32; PROGRAM_LENGTH], f: u8, list: QubitSet, fuel: u16, word: u64) -> u64
+fn call(program: &Program, f: u8, list: QubitSet, fuel: u16, word: u64) -> u64
     ensures { λ r. ⌜ r ≡ called (now (program .entry)) f (membersOf list) fuel word ⌝ }
 {
     if list == 0 {
@@ -104,7 +105,7 @@ fn call(program: &[u32; PROGRAM_LENGTH], f: u8, list: QubitSet, fuel: u16, word:
 }
 
 // What main makes of a word on n qubits; past the limit there are no more.
-fn end_word(program: &[u32; PROGRAM_LENGTH], n: u8, word: u64) -> u64
+fn end_word(program: &Program, n: u8, word: u64) -> u64
     ensures { λ r. ⌜ r ≡ ranWord (programAt (now (program .entry))) (min n mostQubits) word ⌝ }
 {
     let list = all(n);

@@ -8,10 +8,10 @@ use Rattle.model.specs.Syntax.{Condition, Statement, if}
 use Rattle.model.specs.Lists.{holds}
 use Rattle.model.proofs.BooleanLaws.{byBool}
 use Rattle.decoded.specs.DecodedTable.{testAt, statementAt}
-use Rattle.step.specs.declared.Step.{Step}
-use Rattle.step.specs.declared.Step.the-variants as step
-use Rattle.step.specs.Steps.{stepAt}
-use Rattle.step.proofs.StatementAtARecord.{at-step}
+use Rattle.decoded.specs.declared.Step.{Step}
+use Rattle.decoded.specs.declared.Step.the-variants as step
+use Rattle.decoded.specs.Steps.{stepAt}
+use Rattle.decoded.proofs.StatementAtARecord.{at-step}
 
 -- the ways out of `chosen`, and of any choice between two numbers
 module _ (t b : Bool) (i j : ℕ) (e : t ≡ b) where

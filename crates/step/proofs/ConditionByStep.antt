@@ -1,5 +1,5 @@
 -- Conditions by their steps: whether a condition holds goes by the step of its record.
-use Prim.Native.Nat.{ℕ, zero, suc, _+_, _-_}
+use Prim.Native.Nat.{ℕ, zero, suc, _-_}
 use mathlib.Core.Path.{_≡_, refl, _∙_}
 use mathlib.Core.Bool.{Bool, true, false, not, _&&_, _||_}
 use mathlib.Core.List.{List}
@@ -9,25 +9,18 @@ use lib.IntN.{ℤ}
 use lib.Signed.{ltZ, leZ}
 use mir.Syntax.{w32}
 use mir.Val.{SFits, toZ, ofZ}
-use Rattle.limits.specs.Sizes.{numberField, removalsField}
-use Rattle.model.specs.Lists.{comparedValue, holds}
+use Rattle.model.specs.Lists.{holds}
 use Rattle.records.specs.declared.Record.{Record}
 use Rattle.records.specs.declared.Record.the-variants as kind
-use Rattle.decoded.specs.RecordWords.{rowAt}
+use Rattle.decoded.specs.Layout.{rowAt}
 use Rattle.decoded.specs.DecodedTable.{recordIn, testOf, testAt}
-use Rattle.step.specs.declared.Step.{Step}
-use Rattle.step.specs.declared.Step.the-variants as step
-use Rattle.step.specs.Steps.{numberIn, stepOf, stepAt}
+use Rattle.decoded.specs.declared.Step.{Step}
+use Rattle.decoded.specs.declared.Step.the-variants as step
+use Rattle.decoded.specs.Steps.{stepOf, stepAt}
 use native.Mathlib.Numerals.{sub-one}
 use Rattle.step.proofs.NumberValues.{less-signed, at-most-signed, equal-signed}
-use Rattle.step.proofs.FieldsInWords.{HeldAt, held}
-
--- the values of the two numbers of a comparison whose words begin at a place
-abbrev pub firstValue : List ℕ → ℕ → List ℕ → ℤ
-firstValue g at l = comparedValue (numberIn g (at + numberField)) l
-
-abbrev pub secondValue : List ℕ → ℕ → List ℕ → ℤ
-secondValue g at l = comparedValue (numberIn g (at + removalsField)) l
+use Rattle.step.specs.Values.{firstValue, secondValue}
+use Rattle.decoded.proofs.FieldsInWords.{HeldAt, held}
 
 -- whether a condition holds, by its step, for a list and where `part` says it of the parts. A statement's step holds, as `noTest` does.
 abbrev pub holdsBy : List ℕ → List ℕ → (ℕ → Bool) → Step → Bool

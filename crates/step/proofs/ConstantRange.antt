@@ -18,7 +18,7 @@ use Rattle.records.specs.Fields.{based, numberOf}
 use Rattle.sets.specs.Sets.{membersOf}
 use Rattle.decoded.specs.RecordWords.{wordNumber}
 use Rattle.step.specs.declared.Lists.{Lists}
-use Rattle.step.specs.Steps.{sumOf, valueOf}
+use Rattle.step.specs.Values.{sumOf, valueOf}
 
 -- sizes as the model has them
 abbrev pub modelSizes : Lists → model.Sizes

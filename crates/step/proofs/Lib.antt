@@ -1,9 +1,5 @@
 pub mod NumberValues
 pub mod ConstantRange
 pub mod Removals
-pub mod StepOfARecord
-pub mod FieldsInWords
 pub mod ConditionByStep
-pub mod StatementByStep
-pub mod StatementAtARecord
 pub mod ChosenBranch

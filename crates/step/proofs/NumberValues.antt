@@ -17,7 +17,7 @@ use Rattle.records.specs.declared.Number.{Number}
 use Rattle.records.specs.declared.Number.the-variants.{Constant, SizePlus, LeftPlus}
 use Rattle.sets.specs.Sets.{membersOf}
 use Rattle.step.specs.declared.Lists.{Lists}
-use Rattle.step.specs.Steps.{sumOf, valueOf}
+use Rattle.step.specs.Values.{sumOf, valueOf}
 
 -- a byte, read as signed, is itself
 pub byte-signed : (n : ℕ) → n < 256 → toZ w32 n ≡ pos n

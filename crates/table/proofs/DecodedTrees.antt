@@ -10,12 +10,14 @@ use mathlib.Core.Option.{Option, none, some}
 use borrow.Author.Tests.{lt-ltb, le-ltb, le-leb, lt-leb, ltb-true, ltb-false}
 use lib.Dec.{ltb}
 use lib.ListN.{length, getElem?}
-use Rattle.limits.specs.Sizes.{recordCount, endField, recordLength, programLength, placeCount, kindCount, firstCondition}
+use Rattle.limits.specs.Sizes.{placeCount, kindCount, firstCondition}
+use Rattle.decoded.specs.Layout.{recordCount, programLength}
 use Rattle.model.specs.Limits.{mostRecords, mostRemovals, tooDeep, tableStops, wrongKind, wrongMap}
 use Rattle.model.specs.Syntax.{Condition, conjunction, disjunction, Statement, sequence, if, qcase}
 use Rattle.model.specs.Reading as model
 use Rattle.model.specs.Reading.{Input, inputAt, Parsed, parsed, refused, andThen, provided, Fields, known, opening, contents, permitted, stands, two}
 use Rattle.model.specs.Reading.{conditionKind, statementKind, conditionOf, condition, statement, fields}
+use Rattle.model.specs.Answers as answers
 use Rattle.model.specs.Writing.{recordBytes, noFields, conditionBytes, headBytes}
 use Rattle.model.proofs.BooleanLaws.{byBool, byLt, clash}
 use Rattle.model.proofs.ByteAtAPlace.{byte-there, byte-past}
@@ -23,19 +25,18 @@ use Rattle.model.proofs.ReadingLaws.{longestRecord}
 use Rattle.model.proofs.RoundTrip.{Bytes}
 use Rattle.records.specs.declared.Record.{Record}
 use Rattle.records.specs.declared.Record.the-variants as kind
-use Rattle.records.specs.Fields.{byteAt, removalsOf, recordOf, fieldsAt, fieldsOf}
+use Rattle.records.specs.Fields.{byteAt, placeOf, recordOf, fieldsAt, fieldsOf}
 use Rattle.records.proofs.ReadingAtAPlace.{kindOf, fields-cases, removals-read}
-use Rattle.decoded.specs.RecordWords.{rowAt, recorded, recordWords}
-use Rattle.decoded.specs.DecodedTable.{wordIn, startOf, endOf, recordIn, removalsIn, testOf, testAt, statementOf, statementAt}
-use Rattle.decoded.proofs.DecodedRecords.{Row, Carried, carried, row-starts}
-use Rattle.decoded.proofs.KeptWords.{recorded-there, recorded-long, words-few}
-use Rattle.table.specs.declared.Tree.the-variants as tree
+use Rattle.decoded.specs.RecordWords.{recorded}
+use Rattle.decoded.specs.DecodedTable.{startOf, endOf, testOf, testAt, statementOf, statementAt, withEnd}
+use Rattle.decoded.proofs.DecodedRecords.{removalsPlace, written-sound, written-place, Row, Decoded, decoded}
+use Rattle.decoded.proofs.KeptWords.{recorded-there, recorded-long}
 use Rattle.table.specs.ReadTable.{piece, Placed, Numbered}
-use Rattle.table.specs.TreeReading.{Ran, ran, andThenTree, noted, wanted, parts, contentsAt, many, refusal, andThenFields}
+use Rattle.table.specs.TreeReading.{come, Ran, ran, andThenTree, wanted, parts, contentsAt, many, andThenFields}
 use Rattle.table.specs.TreeReading.{childrenAt, opened, treeAt}
-use Rattle.table.proofs.KeptRecords.{noted-there, noted-other, Same, same-then, same-part, same-ends}
+use Rattle.decoded.proofs.KeptRecords.{Same, same-then, same-part, same-ends, same-row, end-there, end-row}
 use Rattle.table.proofs.SpannedBytes.{Spans, spans-then, spans-piece, record-spans}
-use Rattle.table.proofs.KeptRecords.{Kept, kept-itself, kept-then, kept-record, kept-end, same-end}
+use Rattle.decoded.proofs.KeptRecords.{Kept, kept-itself, kept-then, kept-record, kept-end, same-end}
 
 -- where a tree was read from record i on, up to `at` and record j: it is found there by every index that agrees on its records
 pub record Reached {A : Type 0} (i : ℕ) (ix : List ℕ) (Found : List ℕ → ℕ → A → Type 0) (a : A) (at j : ℕ) (jx : List ℕ) : Type 0 where
@@ -49,19 +50,19 @@ pub record Reached {A : Type 0} (i : ℕ) (ix : List ℕ) (Found : List ℕ → 
 -- both read, up to the same place and record, or both refuse with the same number
 pub data Agree {A : Type 0} (bs : List ℕ) (i : ℕ) (ix : List ℕ) (Found : List ℕ → ℕ → A → Type 0) : Parsed A → Ran → Type 0 where
   reads : (a : A) (at j : ℕ) (jx : List ℕ) → Reached i ix Found a at j jx →
-      Agree bs i ix Found (parsed a (inputAt bs at j)) (ran (tree.Read at j) jx)
-  refuses : (k : ℕ) (jx : List ℕ) → Agree bs i ix Found (refused k) (ran (tree.Refused k) jx)
+      Agree bs i ix Found (parsed a (inputAt bs at j)) (ran (answers.gives (come at j)) jx)
+  refuses : (k : ℕ) (jx : List ℕ) → Agree bs i ix Found (refused k) (ran (answers.refuses k) jx)
 
 -- a record whose parts are read: its last note
 abbrev finished : ℕ → ℕ → ℕ → List ℕ → Ran
-finished i end total kx = ran (tree.Read end total) (noted kx (rowAt i + endField) total)
+finished i end total kx = ran (answers.gives (come end total)) (withEnd i total kx)
 
 -- one or two trees, and then what follows
 module _ (one : ℕ → ℕ → List ℕ → Ran) (g : ℕ → ℕ → List ℕ → Ran) (at i : ℕ) (ix : List ℕ) where
-  last : (r : Ran) → andThenTree (andThenTree r (λ a j jx. ran (tree.Read a j) jx)) g ≡ andThenTree r g
+  last : (r : Ran) → andThenTree (andThenTree r (λ a j jx. ran (answers.gives (come a j)) jx)) g ≡ andThenTree r g
   unfolding andThenTree
-  last (ran (tree.Read a j) jx) = refl
-  last (ran (tree.Refused k) jx) = refl
+  last (ran (answers.gives (come a j)) jx) = refl
+  last (ran (answers.refuses k) jx) = refl
 
   many-one : andThenTree (many one 1 at i ix) g ≡ andThenTree (one at i ix) g
   unfolding many
@@ -72,52 +73,52 @@ module _ (one : ℕ → ℕ → List ℕ → Ran) (g : ℕ → ℕ → List ℕ 
   many-two = go (one at i ix)
     where
       go : (r : Ran) →
-          andThenTree (andThenTree r (λ a j jx. andThenTree (one a j jx) (λ b k kx. ran (tree.Read b k) kx))) g
+          andThenTree (andThenTree r (λ a j jx. andThenTree (one a j jx) (λ b k kx. ran (answers.gives (come b k)) kx))) g
           ≡ andThenTree r (λ a j jx. andThenTree (one a j jx) g)
-      go (ran (tree.Read a j) jx) = last (one a j jx)
-      go (ran (tree.Refused k) jx) = refl
+      go (ran (answers.gives (come a j)) jx) = last (one a j jx)
+      go (ran (answers.refuses k) jx) = refl
 
 -- the children of a record, by how many there are
-module _ (one : Bool → ℕ → ℕ → List ℕ → Ran) (bs : List ℕ) (k at next i : ℕ) (ix : List ℕ) where
-  no-children : parts true k ≡ 0 → parts false k ≡ 0 → childrenAt one bs k at next i ix ≡ finished i next (i + 1) (recorded bs at i ix)
+module _ (one : Bool → ℕ → ℕ → List ℕ → Ran) (k next i : ℕ) (rx : List ℕ) where
+  no-children : parts true k ≡ 0 → parts false k ≡ 0 → childrenAt one k next i rx ≡ finished i next (i + 1) rx
   unfolding childrenAt many andThenTree
   no-children e f = rw (e, f)
 
   module _ (f : parts false k ≡ 0) where
-    one-condition : parts true k ≡ 1 → childrenAt one bs k at next i ix ≡ andThenTree (one true next (i + 1) (recorded bs at i ix)) (finished i)
+    one-condition : parts true k ≡ 1 → childrenAt one k next i rx ≡ andThenTree (one true next (i + 1) rx) (finished i)
     unfolding childrenAt many andThenTree
-    one-condition e = rw (e, f) (many-one (one true) (finished i) next (i + 1) (recorded bs at i ix))
+    one-condition e = rw (e, f) (many-one (one true) (finished i) next (i + 1) rx)
 
     two-conditions :
         parts true k ≡ 2 →
-        childrenAt one bs k at next i ix
-        ≡ andThenTree (one true next (i + 1) (recorded bs at i ix)) (λ a j jx. andThenTree (one true a j jx) (finished i))
+        childrenAt one k next i rx
+        ≡ andThenTree (one true next (i + 1) rx) (λ a j jx. andThenTree (one true a j jx) (finished i))
     unfolding childrenAt many andThenTree
-    two-conditions e = rw (e, f) (many-two (one true) (finished i) next (i + 1) (recorded bs at i ix))
+    two-conditions e = rw (e, f) (many-two (one true) (finished i) next (i + 1) rx)
 
   module _ (f : parts false k ≡ 2) where
     two-statements :
         parts true k ≡ 0 →
-        childrenAt one bs k at next i ix
-        ≡ andThenTree (one false next (i + 1) (recorded bs at i ix)) (λ a j jx. andThenTree (one false a j jx) (finished i))
+        childrenAt one k next i rx
+        ≡ andThenTree (one false next (i + 1) rx) (λ a j jx. andThenTree (one false a j jx) (finished i))
     unfolding childrenAt many andThenTree
-    two-statements e = rw (e, f) (many-two (one false) (finished i) next (i + 1) (recorded bs at i ix))
+    two-statements e = rw (e, f) (many-two (one false) (finished i) next (i + 1) rx)
 
     condition-and-two :
         parts true k ≡ 1 →
-        childrenAt one bs k at next i ix
-        ≡ andThenTree (one true next (i + 1) (recorded bs at i ix))
+        childrenAt one k next i rx
+        ≡ andThenTree (one true next (i + 1) rx)
         (λ a j jx. andThenTree (one false a j jx) (λ b m mx. andThenTree (one false b m mx) (finished i)))
     unfolding childrenAt many andThenTree
     condition-and-two e =
         rw (e, f)
-        (many-one (one true) _ next (i + 1) (recorded bs at i ix) ∙ go (one true next (i + 1) (recorded bs at i ix)))
+        (many-one (one true) _ next (i + 1) rx ∙ go (one true next (i + 1) rx))
       where
         go : (r : Ran) →
             andThenTree r (λ a j jx. andThenTree (many (one false) 2 a j jx) (finished i))
             ≡ andThenTree r (λ a j jx. andThenTree (one false a j jx) (λ b m mx. andThenTree (one false b m mx) (finished i)))
-        go (ran (tree.Read a j) jx) = many-two (one false) (finished i) a j jx
-        go (ran (tree.Refused k) jx) = refl
+        go (ran (answers.gives (come a j)) jx) = many-two (one false) (finished i) a j jx
+        go (ran (answers.refuses k) jx) = refl
 
 -- a record whose first parts are read, up to `at` and record j, and whose start stands in ix
 record Partly (i : ℕ) (ix : List ℕ) (at j : ℕ) (jx : List ℕ) : Type 0 where
@@ -164,28 +165,25 @@ module _ {A B : Type 0} (bs : List ℕ) (i : ℕ) (ix ix₁ : List ℕ) (Found :
 
 -- all parts are read: the record behind them is noted
 finish :
-    {A : Type 0} (bs : List ℕ) (i at : ℕ) (ix : List ℕ) (Found : List ℕ → ℕ → A → Type 0) (a : A) (end j : ℕ) (jx : List ℕ) →
-    i < mostRecords → at < length bs → length ix ≡ programLength → Partly i (recorded bs at i ix) end j jx →
-    ((kx : List ℕ) → length kx ≡ programLength → Row bs kx i at → endOf kx i ≡ j → Same (i + 1) j jx kx → Found kx end a) →
+    {A : Type 0} (bs : List ℕ) (r : Record) (i at : ℕ) (ix : List ℕ) (Found : List ℕ → ℕ → A → Type 0) (a : A) (end j : ℕ) (jx : List ℕ) →
+    i < mostRecords → length ix ≡ programLength → Partly i (recorded bs r at i ix) end j jx →
+    ((kx : List ℕ) → length kx ≡ programLength → Row bs r kx i at → endOf kx i ≡ j → Same (i + 1) j jx kx → Found kx end a) →
     Agree bs i ix Found (parsed a (inputAt bs end j)) (finished i end j jx)
-finish bs i at ix Found a end j jx h l n s find =
+finish bs r i at ix Found a end j jx h n s find =
     let m : i < j = s .after in
     let few : j ≤ mostRecords = s .few in
-    reads a end j (noted jx (rowAt i + endField) j)
+    reads a end j (withEnd i j jx)
     (record {
       more = m;
       few = few;
       near = s .near;
-      kept = kept-then {i = i} {j = i} (omega arith) (kept-then (omega arith) (kept-record bs at i ix h l) (s .kept)) (kept-end i j jx h);
-      total = noted-there jx (rowAt i + endField) j (s .long) (omega arith) (omega arith);
+      kept = kept-then {i = i} {j = i} (omega arith) (kept-then (omega arith) (kept-record bs r at i ix h) (s .kept)) (kept-end i j jx h);
+      total = end-there i j jx h (s .long) (omega arith);
       finds =
           λ kx full t. find kx full
-          (λ k few other.
-          let short = words-few bs at in
-          let low : k < recordLength = omega arith in
-          t .words i (omega arith) m k low ∙ noted-other jx (rowAt i + endField) j (rowAt i + k) (λ e. other (omega arith))
-          ∙ s .kept .same .words i (omega arith) (omega arith) k low ∙ recorded-there bs at i ix (omega arith) l n k few other)
-          (same-ends t i (omega arith) m ∙ noted-there jx (rowAt i + endField) j (s .long) (omega arith) (omega arith))
+          (same-row bs r i at t (omega arith) m (end-row i j jx h bs r at
+          (same-row bs r i at (s .kept .same) (omega arith) (omega arith) (recorded-there bs r at i ix (omega arith) n))))
+          (same-ends t i (omega arith) m ∙ end-there i j jx h (s .long) (omega arith))
           (same-then (i + 1) j (omega arith) (omega arith) (omega arith) (omega arith) (same-end i j jx h j few) t);
     })
 
@@ -199,17 +197,17 @@ Reads bs part one Find =
 
 -- the last two parts
 two-from :
-    {A B : Type 0} (bs : List ℕ) (i at : ℕ) (ix : List ℕ) (Found : List ℕ → ℕ → A → Type 0) (Find : Finds B) (part : Input → Parsed B)
+    {A B : Type 0} (bs : List ℕ) (r : Record) (i at : ℕ) (ix : List ℕ) (Found : List ℕ → ℕ → A → Type 0) (Find : Finds B) (part : Input → Parsed B)
     (one : ℕ → ℕ → List ℕ → Ran) (make : B → B → A) (from j : ℕ) (jx : List ℕ) →
-    i < mostRecords → at < length bs → length ix ≡ programLength → Reads bs part one Find → Partly i (recorded bs at i ix) from j jx →
-    ((kx : List ℕ) → length kx ≡ programLength → Row bs kx i at → Same (i + 1) j jx kx → (b c : B) (middle end m : ℕ) →
+    i < mostRecords → length ix ≡ programLength → Reads bs part one Find → Partly i (recorded bs r at i ix) from j jx →
+    ((kx : List ℕ) → length kx ≡ programLength → Row bs r kx i at → Same (i + 1) j jx kx → (b c : B) (middle end m : ℕ) →
     Find from j kx middle b → endOf kx j ≡ m → Find middle m kx end c → endOf kx i ≡ endOf kx m → Found kx end (make b c)) →
     Agree bs i ix Found (two part make (inputAt bs from j)) (andThenTree (one from j jx) (λ a n nx. andThenTree (one a n nx) (finished i)))
 unfolding two
-two-from bs i at ix Found Find part one make from j jx h l n reader s is =
-    step bs i ix (recorded bs at i ix) Found (Find from j) from j jx _ _ _ _ s (reader from j jx (s .near) (s .long)) λ b middle m mx s₁ p.
-    step bs i ix (recorded bs at i ix) Found (Find middle m) middle m mx _ _ _ _ s₁ (reader middle m mx (s₁ .near) (s₁ .long)) λ c end o ox s₂ q.
-    finish bs i at ix Found (make b c) end o ox h l n s₂ λ kx full e total t.
+two-from bs r i at ix Found Find part one make from j jx h n reader s is =
+    step bs i ix (recorded bs r at i ix) Found (Find from j) from j jx _ _ _ _ s (reader from j jx (s .near) (s .long)) λ b middle m mx s₁ p.
+    step bs i ix (recorded bs r at i ix) Found (Find middle m) middle m mx _ _ _ _ s₁ (reader middle m mx (s₁ .near) (s₁ .long)) λ c end o ox s₂ q.
+    finish bs r i at ix Found (make b c) end o ox h n s₂ λ kx full e total t.
     let second : Part i m mx (Find middle m) end c o kx = q kx full t in
     let first : Part i j jx (Find from j) middle b m kx = p kx full (second .earlier) in
     is kx full e (first .earlier) b c middle end m (first .is) (first .ends) (second .is) (total ∙ sym (second .ends))
@@ -264,21 +262,27 @@ conditions-sorted k = byLt k firstCondition
     kinds : List model.ConditionKind
     kinds = model.greaters ∷ model.atLeasts ∷ model.equals ∷ model.ands ∷ model.ors ∷ model.negations ∷ []
 
--- what the words of record i say: the record r that stands at a place of the table
-record Decoded (bs kx : List ℕ) (i at : ℕ) (r : Record) : Type 0 where
-  carries : Carried bs kx (rowAt i) r (recordIn kx (rowAt i))
-  starts : startOf kx i ≡ at
+-- a record that was read has at most 8 removals
+few-removals : (p : ℕ) (bs : List ℕ) → Bytes bs → (at : ℕ) (b : Bool) (k : ℕ) (r : Record) → recordOf p k b bs at ≡ r → at < placeCount →
+    (b ≡ true → (at < length bs) × (byteAt bs at ≤ mostRemovals)) → 0 < removalsPlace r → byteAt bs (removalsPlace r) ≤ mostRemovals
+unfolding placeOf
+few-removals p bs ok at true k r e l few h =
+    let place : removalsPlace r ≡ at = rw (e, lt-ltb at placeCount l) at (written-place p k true bs at ok (rw e h)) in
+    rw place (few refl .1)
+few-removals p bs ok at false k r e l few h =
+    let place : removalsPlace r ≡ 0 = rw e at (written-place p k false bs at ok (rw e h)) in
+    absurd (omega arith)
 
 module _ {A : Type 0} (p : ℕ) (bs : List ℕ) (ok : Bytes bs) (at i : ℕ) (ix : List ℕ) (Found : List ℕ → ℕ → A → Type 0) where
   -- a record that was opened: its fields, and its children
   contents-agree :
-      (f : Fields → Input → Parsed A) (g : ℕ → Ran) → at + 2 ≤ length bs → byteAt bs (at + 1) < kindCount → at ≤ 2 + longestRecord * i →
-      ((r : Record) (next : ℕ) → i < mostRecords → ((kx : List ℕ) → Row bs kx i at → Decoded bs kx i at r) →
+      (f : Fields → Input → Parsed A) (g : Record → ℕ → Ran) → at + 2 ≤ length bs → byteAt bs (at + 1) < kindCount → at ≤ 2 + longestRecord * i →
+      ((r : Record) (next : ℕ) → i < mostRecords → ((kx : List ℕ) → Row bs r kx i at → Decoded bs kx i at r) →
       kindOf r ≡ byteAt bs (at + 1) → next ≤ 2 + longestRecord * (i + 1) → Spans bs at next (recordBytes (kindOf r) (fieldsOf bs r)) →
-      Agree bs i ix Found (f (fieldsOf bs r) (inputAt bs next (i + 1))) (g next)) →
+      Agree bs i ix Found (f (fieldsOf bs r) (inputAt bs next (i + 1))) (g r next)) →
       Agree bs i ix Found (contents p (byteAt bs at) (byteAt bs (at + 1)) (inputAt bs (at + 2) i) f)
-      (cond (ltb i mostRecords) (andThenFields (contentsAt p (byteAt bs at) (byteAt bs (at + 1)) bs (at + 2)) ix g) (ran (tree.Refused tooDeep) ix))
-  unfolding contents contentsAt provided andThen andThenFields refusal
+      (cond (ltb i mostRecords) (andThenFields (contentsAt p (byteAt bs at) (byteAt bs (at + 1)) bs (at + 2)) ix g) (ran (answers.refuses tooDeep) ix))
+  unfolding contents contentsAt provided andThen andThenFields
   contents-agree f g inside small near go =
       let map = byteAt bs at in
       let k = byteAt bs (at + 1) in
@@ -292,11 +296,8 @@ module _ {A : Type 0} (p : ℕ) (bs : List ℕ) (ok : Bytes bs) (at i : ℕ) (ix
       (λ r next e is w read found.
       let removing = removals-read p k map bs (at + 2) r next small t found in
       go r next l
-      (λ kx row.
-      record {
-        carries = carried p bs kx at i ok inside (omega arith) small t removing r e is row;
-        starts = row-starts bs kx at i ok row (omega arith) (λ s. removing s .0);
-      }) is (omega (arith, w .high))
+      (λ kx row. decoded bs kx at i r ok (rw e at (written-sound p k (stands 0 map) bs (at + 2) ok)) (few-removals p bs ok (at + 2) (stands 0 map) k r e (omega arith) removing) (omega arith) row)
+      is (omega (arith, w .high))
       (rw is (record-spans p bs at (i + 1) next (fieldsOf bs r) ok inside t (w .low) (w .inside) read)))
       (λ m read found. refuses m ix) refl refl))
       (λ t. rw t (refuses wrongMap ix))))
@@ -347,58 +348,55 @@ Tests p bs depth = Reads bs (condition p depth) (treeAt p bs depth true) (TestFo
 abbrev pub Bodies : ℕ → List ℕ → ℕ → Type 0
 Bodies p bs depth = Reads bs (statement p depth) (treeAt p bs depth false) (StatementFound p bs depth)
 
--- record i, at `at`, whose fields were read up to `next`
+-- record i, at `at`, whose fields were read up to `next`, and of which d was put down
 module _
-    (p : ℕ) (bs : List ℕ) (depth at i : ℕ) (ix : List ℕ) (h : i < mostRecords) (near : at ≤ 2 + longestRecord * i) (n : length ix ≡ programLength)
-    (next : ℕ) (close : next ≤ 2 + longestRecord * (i + 1)) (opened : at + 2 ≤ length bs) where
-  began : Partly i (recorded bs at i ix) next (i + 1) (recorded bs at i ix)
+    (p : ℕ) (bs : List ℕ) (d : Record) (depth at i : ℕ) (ix : List ℕ) (h : i < mostRecords) (n : length ix ≡ programLength)
+    (next : ℕ) (close : next ≤ 2 + longestRecord * (i + 1)) where
+  began : Partly i (recorded bs d at i ix) next (i + 1) (recorded bs d at i ix)
   began =
       record {
         after = omega arith;
         few = omega arith;
         near = close;
-        kept = kept-itself (i + 1) (recorded bs at i ix);
-        long = recorded-long bs at i ix (omega arith) (omega arith) ∙ n;
+        kept = kept-itself (i + 1) (recorded bs d at i ix);
+        long = recorded-long bs d at i ix (omega arith) ∙ n;
       }
-
-  fits : at < length bs
-  fits = omega arith
 
   -- without children
   alone :
       {A : Type 0} (k : ℕ) (Found : List ℕ → ℕ → A → Type 0) (a : A) → parts true k ≡ 0 → parts false k ≡ 0 →
-      ((kx : List ℕ) → Row bs kx i at → endOf kx i ≡ i + 1 → Found kx next a) →
-      Agree bs i ix Found (parsed a (inputAt bs next (i + 1))) (childrenAt (treeAt p bs depth) bs k at next i ix)
+      ((kx : List ℕ) → Row bs d kx i at → endOf kx i ≡ i + 1 → Found kx next a) →
+      Agree bs i ix Found (parsed a (inputAt bs next (i + 1))) (childrenAt (treeAt p bs depth) k next i (recorded bs d at i ix))
   alone k Found a e f is =
-      rw (no-children (treeAt p bs depth) bs k at next i ix e f)
-      (finish bs i at ix Found a next (i + 1) (recorded bs at i ix) h fits n began λ kx full s total t. is kx s total)
+      rw (no-children (treeAt p bs depth) k next i (recorded bs d at i ix) e f)
+      (finish bs d i at ix Found a next (i + 1) (recorded bs d at i ix) h n began λ kx full s total t. is kx s total)
 
   module _ (tests : Tests p bs depth) where
     -- a condition, and what follows
     condition-first :
         {A : Type 0} (Found : List ℕ → ℕ → A → Type 0) (f : Condition → Input → Parsed A) (g : ℕ → ℕ → List ℕ → Ran) →
-        ((c : Condition) (end m : ℕ) (mx : List ℕ) → Partly i (recorded bs at i ix) end m mx →
+        ((c : Condition) (end m : ℕ) (mx : List ℕ) → Partly i (recorded bs d at i ix) end m mx →
         ((kx : List ℕ) → length kx ≡ programLength → Same (i + 1) m mx kx →
-        Part i (i + 1) (recorded bs at i ix) (TestFound p bs depth next (i + 1)) end c m kx) →
+        Part i (i + 1) (recorded bs d at i ix) (TestFound p bs depth next (i + 1)) end c m kx) →
         Agree bs i ix Found (f c (inputAt bs end m)) (g end m mx)) →
         Agree bs i ix Found (andThen (condition p depth (inputAt bs next (i + 1))) f)
-        (andThenTree (treeAt p bs depth true next (i + 1) (recorded bs at i ix)) g)
+        (andThenTree (treeAt p bs depth true next (i + 1) (recorded bs d at i ix)) g)
     condition-first Found f g go =
-        step bs i ix (recorded bs at i ix) Found (TestFound p bs depth next (i + 1)) next (i + 1) (recorded bs at i ix) _ _ f g began
-        (tests next (i + 1) (recorded bs at i ix) close (began .long)) go
+        step bs i ix (recorded bs d at i ix) Found (TestFound p bs depth next (i + 1)) next (i + 1) (recorded bs d at i ix) _ _ f g began
+        (tests next (i + 1) (recorded bs d at i ix) close (began .long)) go
 
     -- two conditions
     both-conditions :
         (k : ℕ) (make : Condition → Condition → Condition) → parts false k ≡ 0 → parts true k ≡ 2 → Spans bs at next (recordBytes k noFields) →
         ((c d : Condition) → conditionBytes (make c d) ≡ recordBytes k noFields ++ (conditionBytes c ++ conditionBytes d)) →
-        ((kx : List ℕ) → Row bs kx i at →
+        ((kx : List ℕ) → Row bs d kx i at →
         testAt kx (suc depth) i ≡ make (testAt kx depth (i + 1)) (testAt kx depth (endOf kx (i + 1)))) →
         Agree bs i ix (TestFound p bs (suc depth) at i) (two (condition p depth) make (inputAt bs next (i + 1)))
-        (childrenAt (treeAt p bs depth) bs k at next i ix)
+        (childrenAt (treeAt p bs depth) k next i (recorded bs d at i ix))
     both-conditions k make e f spans bytes is =
-        rw (two-conditions (treeAt p bs depth) bs k at next i ix e f)
-        (two-from bs i at ix (TestFound p bs (suc depth) at i) (TestFound p bs depth) (condition p depth) (treeAt p bs depth true) make
-        next (i + 1) (recorded bs at i ix) h fits n tests began λ kx full s t b c middle end m first ends second total.
+        rw (two-conditions (treeAt p bs depth) k next i (recorded bs d at i ix) e f)
+        (two-from bs d i at ix (TestFound p bs (suc depth) at i) (TestFound p bs depth) (condition p depth) (treeAt p bs depth true) make
+        next (i + 1) (recorded bs d at i ix) h n tests began λ kx full s t b c middle end m first ends second total.
         record {
           is = is kx s ∙ rw (first .is, ends, second .is);
           spans = rw (bytes b c) (spans-then _ _ spans (spans-then _ _ (first .spans) (second .spans)));
@@ -406,16 +404,16 @@ module _
 
     -- a comparison
     compared : (k : ℕ) (c : Condition) → parts true k ≡ 0 → parts false k ≡ 0 → Spans bs at next (conditionBytes c) →
-        ((kx : List ℕ) → Row bs kx i at → testAt kx (suc depth) i ≡ c) →
-        Agree bs i ix (TestFound p bs (suc depth) at i) (parsed c (inputAt bs next (i + 1))) (childrenAt (treeAt p bs depth) bs k at next i ix)
+        ((kx : List ℕ) → Row bs d kx i at → testAt kx (suc depth) i ≡ c) →
+        Agree bs i ix (TestFound p bs (suc depth) at i) (parsed c (inputAt bs next (i + 1))) (childrenAt (treeAt p bs depth) k next i (recorded bs d at i ix))
     compared k c e f spans is = alone k _ c e f λ kx s total. record { is = is kx s; spans = spans }
 
     -- a condition's record
     condition-of :
-        (r : Record) → ((kx : List ℕ) → Row bs kx i at → Decoded bs kx i at r) → Spans bs at next (recordBytes (kindOf r) (fieldsOf bs r)) → (conditionKind (kindOf r) ≡ none → ⊥) →
+        (r : Record) → ((kx : List ℕ) → Row bs d kx i at → Decoded bs kx i at r) → Spans bs at next (recordBytes (kindOf r) (fieldsOf bs r)) → (conditionKind (kindOf r) ≡ none → ⊥) →
         Agree bs i ix (TestFound p bs (suc depth) at i)
         (known (conditionKind (kindOf r)) (λ what. conditionOf (condition p depth) what (fieldsOf bs r) (inputAt bs next (i + 1))))
-        (childrenAt (treeAt p bs depth) bs (kindOf r) at next i ix)
+        (childrenAt (treeAt p bs depth) (kindOf r) next i (recorded bs d at i ix))
     unfolding kindOf conditionKind known conditionOf fieldsOf parts testAt testOf andThen conditionBytes
     condition-of kind.Skip e spans there = absurd (there refl)
     condition-of (kind.Not q a) e spans there = absurd (there refl)
@@ -429,37 +427,37 @@ module _
     condition-of kind.And e spans there = both-conditions 9 conjunction refl refl spans (λ c d. refl) λ kx s. rw (e kx s .carries)
     condition-of kind.Or e spans there = both-conditions 10 disjunction refl refl spans (λ c d. refl) λ kx s. rw (e kx s .carries)
     condition-of kind.Negation e spans there =
-        rw (one-condition (treeAt p bs depth) bs 11 at next i ix refl refl)
-        (condition-first _ _ _ λ c end m mx s₁ q. finish bs i at ix _ _ end m mx h fits n s₁ λ kx full s total t.
+        rw (one-condition (treeAt p bs depth) 11 next i (recorded bs d at i ix) refl refl)
+        (condition-first _ _ _ λ c end m mx s₁ q. finish bs d i at ix _ _ end m mx h n s₁ λ kx full s total t.
         record { is = rw (e kx s .carries, q kx full t .is .is); spans = spans-then _ _ spans (q kx full t .is .spans) })
 
     module _ (bodies : Bodies p bs depth) where
       -- a statement without statements in it
       leaf : (k : ℕ) (a : Statement) → parts true k ≡ 0 → parts false k ≡ 0 → next ≤ length bs →
-          ((kx : List ℕ) → Row bs kx i at → startOf kx i ≡ at) →
-          ((kx : List ℕ) → Row bs kx i at → statementAt kx (suc depth) i ≡ a) →
-          ((kx : List ℕ) → Row bs kx i at → Placed bs kx i next a) →
+          ((kx : List ℕ) → Row bs d kx i at → startOf kx i ≡ at) →
+          ((kx : List ℕ) → Row bs d kx i at → statementAt kx (suc depth) i ≡ a) →
+          ((kx : List ℕ) → Row bs d kx i at → Placed bs kx i next a) →
           ((kx : List ℕ) → i < endOf kx i → Numbered kx i (endOf kx i) a) →
-          Agree bs i ix (StatementFound p bs (suc depth) at i) (parsed a (inputAt bs next (i + 1))) (childrenAt (treeAt p bs depth) bs k at next i ix)
+          Agree bs i ix (StatementFound p bs (suc depth) at i) (parsed a (inputAt bs next (i + 1))) (childrenAt (treeAt p bs depth) k next i (recorded bs d at i ix))
       leaf k a e f inside begins is placed numbered = alone k _ a e f λ kx s total.
           record { is = is kx s; starts = begins kx s; inside = inside; placed = placed kx s; numbered = numbered kx (omega arith) }
 
       -- two statements
       both-statements :
           (k : ℕ) (make : Statement → Statement → Statement) → parts false k ≡ 2 → parts true k ≡ 0 →
-          ((kx : List ℕ) → Row bs kx i at → startOf kx i ≡ at) →
-          ((kx : List ℕ) → Row bs kx i at →
+          ((kx : List ℕ) → Row bs d kx i at → startOf kx i ≡ at) →
+          ((kx : List ℕ) → Row bs d kx i at →
           statementAt kx (suc depth) i ≡ make (statementAt kx depth (i + 1)) (statementAt kx depth (endOf kx (i + 1)))) →
           ((kx : List ℕ) (end : ℕ) (b c : Statement) → i < recordCount → piece bs (startOf kx i) (startOf kx (i + 1)) ≡ piece bs at next →
           Placed bs kx (i + 1) (startOf kx (endOf kx (i + 1))) b → Placed bs kx (endOf kx (i + 1)) end c → Placed bs kx i end (make b c)) →
           ((kx : List ℕ) (b c : Statement) → Numbered kx (i + 1) (endOf kx (i + 1)) b → Numbered kx (endOf kx (i + 1)) (endOf kx i) c →
           Numbered kx i (endOf kx i) (make b c)) →
           Agree bs i ix (StatementFound p bs (suc depth) at i) (two (statement p depth) make (inputAt bs next (i + 1)))
-          (childrenAt (treeAt p bs depth) bs k at next i ix)
+          (childrenAt (treeAt p bs depth) k next i (recorded bs d at i ix))
       both-statements k make e f begins is placed numbered =
-          rw (two-statements (treeAt p bs depth) bs k at next i ix e f)
-          (two-from bs i at ix (StatementFound p bs (suc depth) at i) (StatementFound p bs depth) (statement p depth) (treeAt p bs depth false) make
-          next (i + 1) (recorded bs at i ix) h fits n bodies began λ kx full s t b c middle end m first ends second total.
+          rw (two-statements (treeAt p bs depth) k next i (recorded bs d at i ix) e f)
+          (two-from bs d i at ix (StatementFound p bs (suc depth) at i) (StatementFound p bs depth) (statement p depth) (treeAt p bs depth false) make
+          next (i + 1) (recorded bs d at i ix) h n bodies began λ kx full s t b c middle end m first ends second total.
           record {
             is = is kx s ∙ rw (first .is, ends, second .is);
             starts = begins kx s;
@@ -472,11 +470,11 @@ module _
 
       -- a statement's record
       statement-of :
-          (r : Record) → ((kx : List ℕ) → Row bs kx i at → Decoded bs kx i at r) → Spans bs at next (recordBytes (kindOf r) (fieldsOf bs r)) → (statementKind (kindOf r) ≡ none → ⊥) →
+          (r : Record) → ((kx : List ℕ) → Row bs d kx i at → Decoded bs kx i at r) → Spans bs at next (recordBytes (kindOf r) (fieldsOf bs r)) → (statementKind (kindOf r) ≡ none → ⊥) →
           Agree bs i ix (StatementFound p bs (suc depth) at i)
           (known (statementKind (kindOf r))
           (λ what. model.statementOf (condition p depth) (statement p depth) what (fieldsOf bs r) (inputAt bs next (i + 1))))
-          (childrenAt (treeAt p bs depth) bs (kindOf r) at next i ix)
+          (childrenAt (treeAt p bs depth) (kindOf r) next i (recorded bs d at i ix))
       unfolding kindOf statementKind known model.statementOf fieldsOf parts statementAt statementOf andThen Placed Numbered headBytes
       statement-of kind.Skip e spans there =
           leaf 0 _ refl refl (spans .inside) (λ kx s. e kx s .starts) (λ kx s. rw (e kx s .carries))
@@ -488,10 +486,10 @@ module _
           both-statements 2 sequence refl refl (λ kx s. e kx s .starts) (λ kx s. rw (e kx s .carries)) (λ kx end b c l head first second. (l, head ∙ spans-piece _ spans, first, second))
           λ kx b c first second. (first, second)
       statement-of kind.If e spans there =
-          rw (condition-and-two (treeAt p bs depth) bs 3 at next i ix refl refl)
+          rw (condition-and-two (treeAt p bs depth) 3 next i (recorded bs d at i ix) refl refl)
           (condition-first _ _ _ λ c middle m mx s₁ q.
-          two-from bs i at ix _ (StatementFound p bs depth) (statement p depth) (treeAt p bs depth false) (if c) middle m mx
-          h fits n bodies s₁ λ kx full s t yes no from end o first ends second total.
+          two-from bs d i at ix _ (StatementFound p bs depth) (statement p depth) (treeAt p bs depth false) (if c) middle m mx
+          h n bodies s₁ λ kx full s t yes no from end o first ends second total.
           let test = q kx full t in
           record {
             is = rw (e kx s .carries, test .is .is, test .ends, first .is, ends, second .is);
@@ -537,8 +535,8 @@ condition-agrees p bs ok (suc depth) at i ix near n =
     opening-agrees p bs ok at i ix _ true conditionKind _ _ conditions-sorted λ what e inside small.
     contents-agree p bs ok at i ix _ _ _ inside small near λ r next h f q close spans.
     settled bs i ix _ conditionKind (λ w. conditionOf (condition p depth) w (fieldsOf bs r) (inputAt bs next (i + 1)))
-    (λ k. childrenAt (treeAt p bs depth) bs k at next i ix) (kindOf r) (byteAt bs (at + 1)) what q e
-    (condition-of p bs depth at i ix h near n next close inside (condition-agrees p bs ok depth) r f spans)
+    (λ k. childrenAt (treeAt p bs depth) k next i (recorded bs r at i ix)) (kindOf r) (byteAt bs (at + 1)) what q e
+    (condition-of p bs r depth at i ix h n next close (condition-agrees p bs ok depth) r f spans)
 
 -- a statement's tree is read at every place as the model reads it from the bytes from there on
 pub statement-agrees : (p : ℕ) (bs : List ℕ) → Bytes bs → (depth : ℕ) → Bodies p bs depth
@@ -550,5 +548,5 @@ statement-agrees p bs ok (suc depth) at i ix near n =
     contents-agree p bs ok at i ix _ _ _ inside small near λ r next h f q close spans.
     settled bs i ix _ statementKind
     (λ w. model.statementOf (condition p depth) (statement p depth) w (fieldsOf bs r) (inputAt bs next (i + 1)))
-    (λ k. childrenAt (treeAt p bs depth) bs k at next i ix) (kindOf r) (byteAt bs (at + 1)) what q e
-    (statement-of p bs depth at i ix h near n next close inside (condition-agrees p bs ok depth) (statement-agrees p bs ok depth) r f spans)
+    (λ k. childrenAt (treeAt p bs depth) k next i (recorded bs r at i ix)) (kindOf r) (byteAt bs (at + 1)) what q e
+    (statement-of p bs r depth at i ix h n next close (condition-agrees p bs ok depth) (statement-agrees p bs ok depth) r f spans)

@@ -1,6 +1,5 @@
 -- What the proofs of several functions use, and what is proved of a table that was read.
 pub mod TreeReadingLaws
-pub mod KeptRecords
 pub mod SpannedBytes
 pub mod DecodedTrees
 pub mod WholeTable

@@ -1,5 +1,5 @@
 -- A table that is read, with its records decoded, is what the model reads: the bodies one after the other, and what is said of each answer.
-use Prim.Native.Nat.{ℕ, zero, suc, _+_, _-_, _*_, _%_, _≤_, _<_}
+use Prim.Native.Nat.{ℕ, zero, suc, _+_, _-_, _*_, _≤_, _<_}
 use native.Mathlib.Numerals.{add-one}
 use native.Mathlib.Omega.{arith}
 use mathlib.Core.Path.{_≡_, refl, sym, ap, _∙_}
@@ -10,7 +10,8 @@ use borrow.Author.Needs.{needs}
 use borrow.Author.Tests.{lt-ltb, le-ltb, lt-leb, le-leb, eq-eqb, ne-eqb}
 use lib.Dec.{leb, eqb}
 use lib.ListN.{length, getD, length-drop}
-use Rattle.limits.specs.Sizes.{bodyCount, rootsAt, programLength}
+use Rattle.limits.specs.Sizes.{bodyCount}
+use Rattle.decoded.specs.Layout.{programLength}
 use Rattle.model.proofs.BooleanLaws.{byEq, byLt}
 use Rattle.model.proofs.ReadingLaws.{longestRecord}
 use Rattle.model.proofs.RoundTrip.{Bytes}
@@ -19,14 +20,17 @@ use Rattle.model.specs.Syntax.{Statement, Program}
 use Rattle.model.specs.Reading as model
 use Rattle.model.specs.Reading.{Input, inputAt, Parsed, parsed, refused, andThen, provided, statement, statements, readTable}
 use Rattle.model.specs.Lists.{range}
+use Rattle.model.specs.Answers as answers
 use Rattle.model.specs.Answers.{outcome}
 use Rattle.table.specs.declared.Tree.{Tree}
 use Rattle.table.specs.declared.Tree.the-variants as tree
 use Rattle.table.specs.declared.Table.the-variants as answer
-use Rattle.decoded.specs.DecodedTable.{wordIn, startOf, endOf, rootOf, procedureCount, bodyAt}
+use Rattle.decoded.specs.DecodedTable.{startOf, endOf, rootOf, procedureCount, bodyAt, withRoot}
 use Rattle.table.specs.ReadTable.{outcomeRead, Placed, BodiesPlaced, Numbered, BodiesNumbered, PlacedRead}
-use Rattle.table.specs.TreeReading.{Ran, ran, andThenTree, noted, bodiesAt}
-use Rattle.table.proofs.KeptRecords.{noted-there, noted-other, noted-long, Same, same-then, same-part, same-ends, same-root, kept-root}
+use Rattle.table.specs.TreeReading.{come, treeOutcome, Ran, ran, andThenTree, bodiesAt}
+use Rattle.decoded.proofs.KeptRecords.{
+  Same, same-then, same-part, same-ends, same-root, kept-root, kept-count, root-there, root-other, root-count, root-long,
+}
 use Rattle.table.proofs.DecodedTrees as trees
 use Rattle.table.proofs.DecodedTrees.{Reached, StatementFound, statement-agrees}
 
@@ -35,7 +39,7 @@ use Rattle.table.proofs.DecodedTrees.{Reached, StatementFound, statemen
 record Reached-bodies (p : ℕ) (bs : List ℕ) (n f from i : ℕ) (ix : List ℕ) (ss : List Statement) (at : ℕ) (jx : List ℕ) : Type 0 where
   same : Same 0 i ix jx
   roots : (g : ℕ) → g < f → rootOf jx g ≡ rootOf ix g
-  counted : wordIn jx 0 ≡ wordIn ix 0
+  counted : procedureCount jx ≡ procedureCount ix
   finds : ss ≡ map (bodyAt jx) (range n f)
   long : length jx ≡ programLength
   none : n ≡ 0 → at ≡ from
@@ -50,13 +54,13 @@ record Reached-bodies (p : ℕ) (bs : List ℕ) (n f from i : ℕ) (ix : List �
 -- both read them, up to the same place and record, or both refuse with the same number
 data Agree-bodies (p : ℕ) (bs : List ℕ) (n f from i : ℕ) (ix : List ℕ) : Parsed (List Statement) → Ran → Type 0 where
   reads : (ss : List Statement) (at j : ℕ) (jx : List ℕ) → Reached-bodies p bs n f from i ix ss at jx →
-      Agree-bodies p bs n f from i ix (parsed ss (inputAt bs at j)) (ran (tree.Read at j) jx)
-  refuses : (k : ℕ) (jx : List ℕ) → Agree-bodies p bs n f from i ix (refused k) (ran (tree.Refused k) jx)
+      Agree-bodies p bs n f from i ix (parsed ss (inputAt bs at j)) (ran (answers.gives (come at j)) jx)
+  refuses : (k : ℕ) (jx : List ℕ) → Agree-bodies p bs n f from i ix (refused k) (ran (answers.refuses k) jx)
 
 -- a body, whose root is noted, and then the others
 module _ (p : ℕ) (bs : List ℕ) (n f from i : ℕ) (ix : List ℕ) (l : f ≤ mostProcedures) (m : i ≤ mostRecords) (full : length ix ≡ programLength) where
   abbrev rooted : List ℕ
-  rooted = noted ix (rootsAt + f) i
+  rooted = withRoot f i ix
 
   others :
       (s : Statement) (end j : ℕ) (jx : List ℕ) (q : Parsed (List Statement)) (r : Ran) →
@@ -72,8 +76,8 @@ module _ (p : ℕ) (bs : List ℕ) (n f from i : ℕ) (ix : List ℕ) (l : f ≤
             same-then 0 i (omega arith) (omega arith) (omega arith) (omega arith)
             (same-root i f i ix (omega arith))
             (same-then 0 i (omega arith) (omega arith) (omega arith) (omega arith) (a .kept .same) (b .same));
-        counted = b .counted ∙ a .kept .head 0 (omega arith) ∙ noted-other ix (rootsAt + f) i 0 (λ e. omega arith);
-        roots = λ g h. b .roots g (omega arith) ∙ kept-root (a .kept) g (omega arith) ∙ noted-other ix (rootsAt + f) i (rootsAt + g) (omega arith);
+        counted = b .counted ∙ kept-count (a .kept) ∙ root-count f i ix;
+        roots = λ g h. b .roots g (omega arith) ∙ kept-root (a .kept) g (omega arith) ∙ root-other f i ix g (omega arith);
         finds = rw (← add-one f, ← b .finds) (ap (λ t. t ∷ ss) (sym body-is));
         long = b .long;
         none = λ e. absurd (omega arith);
@@ -95,7 +99,7 @@ module _ (p : ℕ) (bs : List ℕ) (n f from i : ℕ) (ix : List ℕ) (l : f ≤
       })
     where
       root : rootOf ox f ≡ i
-      root = b .roots f (omega arith) ∙ kept-root (a .kept) f (omega arith) ∙ noted-there ix (rootsAt + f) i full (omega arith) (omega arith)
+      root = b .roots f (omega arith) ∙ kept-root (a .kept) f (omega arith) ∙ root-there f i ix (omega arith) full (omega arith)
 
       found : StatementFound p bs mostDepth from i ox end s
       found = let more : i < j = a .more in a .finds ox (b .long) (same-part i j (omega arith) (omega arith) (b .same))
@@ -115,7 +119,7 @@ module _ (p : ℕ) (bs : List ℕ) (n f from i : ℕ) (ix : List ℕ) (l : f ≤
   unfolding andThen andThenTree
   body-and-others _ _ g h (trees.refuses k kx) go = refuses k kx
   body-and-others _ _ g h (trees.reads s end j jx a) go =
-      others s end j jx _ _ a (go end j jx (a .few) (a .near) (a .kept .long ∙ noted-long ix (rootsAt + f) i ∙ full))
+      others s end j jx _ _ a (go end j jx (a .few) (a .near) (a .kept .long ∙ root-long f i ix ∙ full))
 
 -- the bodies are read at every place as the model reads them from the bytes from there on
 bodies-agree :
@@ -141,13 +145,13 @@ bodies-agree p bs ok zero f at i ix l m near full =
     })
 bodies-agree p bs ok (suc n) f at i ix l m near full =
     body-and-others p bs n f at i ix (omega arith) m full _ _ (statements p n) _
-    (statement-agrees p bs ok mostDepth at i (noted ix (rootsAt + f) i) near (noted-long ix (rootsAt + f) i ∙ full))
+    (statement-agrees p bs ok mostDepth at i (withRoot f i ix) near (root-long f i ix ∙ full))
     λ end j jx few close n₁. bodies-agree p bs ok n (f + 1) end j jx (omega arith) few close n₁
 
 -- what the model reads where the bodies were read so
 told : ℕ → List ℕ → ℕ → ℕ → Ran → Parsed (List Statement)
-told p bs n f (ran (tree.Read at j) jx) = parsed (map (bodyAt jx) (range n f)) (inputAt bs at j)
-told p bs n f (ran (tree.Refused k) jx) = refused k
+told p bs n f (ran (answers.gives (come at j)) jx) = parsed (map (bodyAt jx) (range n f)) (inputAt bs at j)
+told p bs n f (ran (answers.refuses k) jx) = refused k
 
 is-told :
     (p : ℕ) (bs : List ℕ) (n f from i : ℕ) (ix : List ℕ) (q : Parsed (List Statement)) (r : Ran) → Agree-bodies p bs n f from i ix q r →
@@ -158,8 +162,8 @@ is-told p bs n f from i ix _ _ (refuses k jx) = refl
 
 -- where they were read, all bodies of a table of p procedures, the number of procedures is still there, and each body is placed: up to the next, or up to the end
 ReadTo : ℕ → List ℕ → List ℕ → Ran → Type 0
-ReadTo p bs ix (ran (tree.Read at j) jx) = (wordIn jx 0 ≡ wordIn ix 0) × (p ≤ mostProcedures → procedureCount jx ≡ p → length bs ≤ at → BodiesPlaced bs jx × BodiesNumbered jx)
-ReadTo p bs ix (ran (tree.Refused k) jx) = Unit {0}
+ReadTo p bs ix (ran (answers.gives (come at j)) jx) = (procedureCount jx ≡ procedureCount ix) × (p ≤ mostProcedures → procedureCount jx ≡ p → length bs ≤ at → BodiesPlaced bs jx × BodiesNumbered jx)
+ReadTo p bs ix (ran (answers.refuses k) jx) = Unit {0}
 
 are-read :
     (p : ℕ) (bs : List ℕ) (from i : ℕ) (ix : List ℕ) (q : Parsed (List Statement)) (r : Ran) → Agree-bodies p bs (suc p) 0 from i ix q r →
@@ -246,17 +250,17 @@ module _ (bs : List ℕ) (jx : List ℕ) where
       outcome-many m = rw (header bs h, eq-eqb (getD bs 0 0) 1 e, lt-leb (getD bs 1 0) mostProcedures m)
 
       module _
-          (m : getD bs 1 0 ≤ mostProcedures) (ix : List ℕ) (t : Tree) (read : ran t jx ≡ bodiesAt (getD bs 1 0) bs (getD bs 1 0 + 1 - 0) 0 2 0 ix)
-          (counts : wordIn ix 0 ≡ getD bs 1 0) (full : length ix ≡ programLength) (slice : (k : ℕ) → Fits w8 (getD bs k 0)) where
+          (m : getD bs 1 0 ≤ mostProcedures) (ix : List ℕ) (t : Tree) (read : ran (treeOutcome t) jx ≡ bodiesAt (getD bs 1 0) bs (getD bs 1 0 + 1 - 0) 0 2 0 ix)
+          (counts : procedureCount ix ≡ getD bs 1 0) (full : length ix ≡ programLength) (slice : (k : ℕ) → Fits w8 (getD bs k 0)) where
         agreed : Agree-bodies (getD bs 1 0) bs (suc (getD bs 1 0)) 0 2 0 ix (statements (getD bs 1 0) (suc (getD bs 1 0)) (inputAt bs 2 0))
             (bodiesAt (getD bs 1 0) bs (suc (getD bs 1 0)) 0 2 0 ix)
         agreed = bodies-agree (getD bs 1 0) bs (λ k. slice k .fits) (suc (getD bs 1 0)) 0 2 0 ix (omega arith) (omega arith) (omega arith) full
 
-        read-is : ran t jx ≡ bodiesAt (getD bs 1 0) bs (suc (getD bs 1 0)) 0 2 0 ix
+        read-is : ran (treeOutcome t) jx ≡ bodiesAt (getD bs 1 0) bs (suc (getD bs 1 0)) 0 2 0 ix
         read-is = let n : getD bs 1 0 + 1 - 0 ≡ suc (getD bs 1 0) = omega arith in rw n at read
 
         -- what the model reads, where the bodies were read so
-        read-on : outcome (readTable bs) ≡ outcome (whole (told (getD bs 1 0) bs (suc (getD bs 1 0)) 0 (ran t jx)))
+        read-on : outcome (readTable bs) ≡ outcome (whole (told (getD bs 1 0) bs (suc (getD bs 1 0)) 0 (ran (treeOutcome t) jx)))
         unfolding provided
         read-on =
             rw (header bs h, eq-eqb (getD bs 0 0) 1 e, le-leb (getD bs 1 0) mostProcedures m, is-whole, read-is)
@@ -264,28 +268,26 @@ module _ (bs : List ℕ) (jx : List ℕ) where
 
         -- the refusal of a body
         pub outcome-refused : (k : ℕ) → t ≡ tree.Refused k → outcomeRead (answer.Refused k) jx ≡ outcome (readTable bs)
-        unfolding outcomeRead outcome whole told
+        unfolding outcomeRead outcome whole told treeOutcome
         outcome-refused k z = rw (read-on, z)
 
         module _ (end j : ℕ) (z : t ≡ tree.Read end j) where
           -- 8 where bytes are left
           pub outcome-left : end < length bs → outcomeRead (answer.Refused bytesLeft) jx ≡ outcome (readTable bs)
-          unfolding outcomeRead outcome whole told range provided
+          unfolding outcomeRead outcome whole told treeOutcome range provided
           outcome-left l = rw (read-on, z, length-drop end bs, ne-eqb (length bs - end) 0 (omega arith))
 
-          read-to : ReadTo (getD bs 1 0) bs ix (ran (tree.Read end j) jx)
+          read-to : ReadTo (getD bs 1 0) bs ix (ran (answers.gives (come end j)) jx)
+          unfolding treeOutcome
           read-to = rw (← read-is, z) at (are-read (getD bs 1 0) bs 2 0 ix _ _ agreed)
 
           counted : procedureCount jx ≡ getD bs 1 0
           unfolding ReadTo
-          counted =
-              let same : wordIn jx 0 ≡ getD bs 1 0 = read-to .0 ∙ counts in
-              let small : getD bs 1 0 % 256 ≡ getD bs 1 0 = omega arith in
-              rw (same, small)
+          counted = read-to .0 ∙ counts
 
           -- else the program that was decoded
           pub outcome-read-whole : length bs ≤ end → outcomeRead answer.Read jx ≡ outcome (readTable bs)
-          unfolding outcomeRead outcome whole told range provided
+          unfolding outcomeRead outcome whole told treeOutcome range provided
           outcome-read-whole l = rw (read-on, z, length-drop end bs, eq-eqb (length bs - end) 0 (omega arith), counted)
 
           -- and places

@@ -5,7 +5,7 @@ use mathlib.Core.Bool.{cond}
 use mathlib.Core.List.{List}
 use lib.ListN.{length, take, drop}
 use lib.Dec.{ltb}
-use Rattle.limits.specs.Sizes.{recordCount, programLength}
+use Rattle.decoded.specs.Layout.{recordCount, programLength}
 use Rattle.model.specs.Limits.{mostRecords, mostProcedures}
 use Rattle.model.specs.Syntax.{Statement, skip, NOT, sequence, if, qcase, call, Program}
 use Rattle.model.specs.Writing.{headBytes}

@@ -2,30 +2,38 @@
 use Prim.Native.Nat.{ℕ, zero, suc, _+_}
 use mathlib.Core.Bool.{Bool, true, false, cond}
 use mathlib.Core.List.{List, [], _∷_}
-use lib.ListN.{length, getD, set}
+use lib.ListN.{length, getD}
 use lib.Dec.{ltb, leb}
-use Rattle.limits.specs.Sizes.{rootsAt, endField, programLength, placeCount, kindCount, firstCondition}
+use Rattle.limits.specs.Sizes.{kindCount, firstCondition}
 use Rattle.model.specs.Limits.{mostRecords, mostDepth, tableStops, wrongKind, wrongMap, tooDeep}
 use Rattle.model.specs.Reading.{permitted, stands}
+use Rattle.model.specs.Answers.{Outcome, gives, refuses}
+use Rattle.records.specs.declared.Record.{Record}
 use Rattle.records.specs.declared.Answer.{Answer}
 use Rattle.records.specs.declared.Answer.the-variants as field
 use Rattle.records.specs.Fields.{byteAt, fieldsAt}
-use Rattle.decoded.specs.RecordWords.{rowAt, recorded}
+use Rattle.decoded.specs.RecordWords.{recorded}
+use Rattle.decoded.specs.DecodedTable.{withRoot, withEnd}
 use Rattle.table.specs.declared.Tree.{Tree}
 use Rattle.table.specs.declared.Tree.the-variants as tree
 
--- what reading a tree answers, with the program that it leaves
+-- how far reading has come: the place behind what was read, and the number of records so far
+pub data Come : Type 0 where
+  come : ℕ → ℕ → Come
+
+-- what an answer says in document 01's terms: 0 and how far reading has come, or the refusal's number
+unfoldable pub treeOutcome : Tree → Outcome Come
+treeOutcome (tree.Read at i) = gives (come at i)
+treeOutcome (tree.Refused k) = refuses k
+
+-- the same, with the program that is left
 pub data Ran : Type 0 where
-  ran : Tree → List ℕ → Ran
+  ran : Outcome Come → List ℕ → Ran
 
 -- go on behind a tree; a refusal goes out as it is
 unfoldable pub andThenTree : Ran → (ℕ → ℕ → List ℕ → Ran) → Ran
-andThenTree (ran (tree.Read at i) g) f = f at i g
-andThenTree (ran (tree.Refused k) g) f = ran (tree.Refused k) g
-
--- the program with a value noted at a slot. A slot outside, or a value past 65535, would be passed over: reading comes to neither.
-unfoldable pub noted : List ℕ → ℕ → ℕ → List ℕ
-noted g slot value = cond (ltb slot programLength) (cond (ltb value placeCount) (set g slot value) g) g
+andThenTree (ran (gives (come at i)) g) f = f at i g
+andThenTree (ran (refuses k) g) f = ran (refuses k) g
 
 -- is this a kind of condition, or else of statement?
 unfoldable pub wanted : Bool → ℕ → Bool
@@ -49,7 +57,7 @@ contentsAt p map kind bs at = cond (permitted kind map) (fieldsAt p kind (stands
 
 -- n trees, one after the other
 unfoldable pub many : (ℕ → ℕ → List ℕ → Ran) → ℕ → ℕ → ℕ → List ℕ → Ran
-many one zero at i g = ran (tree.Read at i) g
+many one zero at i g = ran (gives (come at i)) g
 many one (suc n) at i g = andThenTree (one at i g) (λ next j h. many one n next j h)
 
 -- the refusal of a reader of fields, which answers a record or a refusal
@@ -61,20 +69,19 @@ refusal (field.Record r next) = tree.Refused tableStops
 refusal (field.Refused k) = tree.Refused k
 
 -- go on behind the fields of a record; a refusal goes out
-unfoldable pub andThenFields : Answer → List ℕ → (ℕ → Ran) → Ran
-andThenFields (field.Place next) g f = ran (refusal (field.Place next)) g
-andThenFields (field.Number a next) g f = ran (refusal (field.Number a next)) g
-andThenFields (field.Procedure q next) g f = ran (refusal (field.Procedure q next)) g
-andThenFields (field.Record r next) g f = f next
-andThenFields (field.Refused k) g f = ran (refusal (field.Refused k)) g
+unfoldable pub andThenFields : Answer → List ℕ → (Record → ℕ → Ran) → Ran
+andThenFields (field.Place next) g f = ran (refuses tableStops) g
+andThenFields (field.Number a next) g f = ran (refuses tableStops) g
+andThenFields (field.Procedure q next) g f = ran (refuses tableStops) g
+andThenFields (field.Record r next) g f = f r next
+andThenFields (field.Refused k) g f = ran (refuses k) g
 
--- "a record's children follow it, first child first": record i, at `at`, is decoded, its conditions and statements are read from `next` on, and the record
--- behind them is noted
-unfoldable pub childrenAt : (Bool → ℕ → ℕ → List ℕ → Ran) → List ℕ → ℕ → ℕ → ℕ → ℕ → List ℕ → Ran
-childrenAt one bs kind at next i g =
-    andThenTree (many (one true) (parts true kind) next (i + 1) (recorded bs at i g)) (λ middle j h.
+-- "a record's children follow it, first child first": the conditions and statements of record i, of a kind, from a place on; the record behind them is noted
+unfoldable pub childrenAt : (Bool → ℕ → ℕ → List ℕ → Ran) → ℕ → ℕ → ℕ → List ℕ → Ran
+childrenAt one kind at i g =
+    andThenTree (many (one true) (parts true kind) at (i + 1) g) (λ middle j h.
     andThenTree (many (one false) (parts false kind) middle j h) (λ end total k.
-    ran (tree.Read end total) (noted k (rowAt i + endField) total)))
+    ran (gives (come end total)) (withEnd i total k)))
 
 -- "each record 1 for map and kind, 4": what comes then is given
 abbrev pub opened : Bool → List ℕ → ℕ → List ℕ → Ran → Ran
@@ -82,25 +89,25 @@ opened tests bs at g x =
     cond (ltb at (length bs))
     (cond (leb (at + 2) (length bs))
     (cond (wanted tests (byteAt bs (at + 1))) x
-    (ran (tree.Refused wrongKind) g))
-    (ran (tree.Refused tableStops) g))
-    (ran (tree.Refused tableStops) g)
+    (ran (refuses wrongKind) g))
+    (ran (refuses tableStops) g))
+    (ran (refuses tableStops) g)
 
--- what comes then in a record that is not too deep: "7, 5, then each field 1 and 6", and its children
+-- what comes then in a record that is not too deep: "7, 5, then each field 1 and 6"; the record that was read is put down, and its children are read
 abbrev pub afterKind : ℕ → List ℕ → (Bool → ℕ → ℕ → List ℕ → Ran) → ℕ → ℕ → List ℕ → Ran
 afterKind p bs one at i g =
     cond (ltb i mostRecords)
-    (andThenFields (contentsAt p (byteAt bs at) (byteAt bs (at + 1)) bs (at + 2)) g (λ next.
-    childrenAt one bs (byteAt bs (at + 1)) at next i g))
-    (ran (tree.Refused tooDeep) g)
+    (andThenFields (contentsAt p (byteAt bs at) (byteAt bs (at + 1)) bs (at + 2)) g (λ r next.
+    childrenAt one (byteAt bs (at + 1)) next i (recorded bs r at i g)))
+    (ran (refuses tooDeep) g)
 
 -- a tree of at most `depth` records from its root down, a condition or else a statement, where i records came before it
 unfoldable pub treeAt : ℕ → List ℕ → ℕ → Bool → ℕ → ℕ → List ℕ → Ran
-treeAt p bs zero tests at i g = opened tests bs at g (ran (tree.Refused tooDeep) g)
+treeAt p bs zero tests at i g = opened tests bs at g (ran (refuses tooDeep) g)
 treeAt p bs (suc depth) tests at i g = opened tests bs at g (afterKind p bs (treeAt p bs depth) at i g)
 
 -- the bodies of n procedures from f on, main at 0: the root of each is noted
 unfoldable pub bodiesAt : ℕ → List ℕ → ℕ → ℕ → ℕ → ℕ → List ℕ → Ran
-bodiesAt p bs zero f at i g = ran (tree.Read at i) g
+bodiesAt p bs zero f at i g = ran (gives (come at i)) g
 bodiesAt p bs (suc n) f at i g =
-    andThenTree (treeAt p bs mostDepth false at i (noted g (rootsAt + f) i)) (λ next j h. bodiesAt p bs n (f + 1) next j h)
+    andThenTree (treeAt p bs mostDepth false at i (withRoot f i g)) (λ next j h. bodiesAt p bs n (f + 1) next j h)

@@ -1,18 +1,16 @@
-// Whole tables: trees in preorder are read with refusals 1 to 8, and every record is decoded as it is read.
+// Whole tables: trees in preorder are read with refusals 1 to 8, and every record is put down in the program as it is read.
 ghost use mathlib.Core.Path.{_≡_};
 ghost use Prim.Native.Nat.{_+_, _-_, _<_};
-ghost use lib.ListN.{length};
-ghost use Rattle.limits.specs.Sizes.{programLength};
 ghost use Rattle.model.specs.Limits.{mostRecords};
 ghost use Rattle.model.specs.Reading.{readTable};
 ghost use Rattle.model.specs.Answers.{outcome};
-ghost use Rattle.decoded.specs.DecodedTable.{wordIn};
 ghost use Rattle.table.specs.ReadTable.{outcomeRead, PlacedRead};
-ghost use Rattle.table.specs.TreeReading.{ran, noted, wanted, parts, contentsAt, many, refusal, childrenAt, treeAt, bodiesAt};
-use decoded::put_record;
+ghost use Rattle.table.specs.TreeReading.{ran, treeOutcome, wanted, parts, contentsAt, many, refusal, childrenAt, treeAt, bodiesAt};
+use decoded::Program;
+use decoded::write::{note_end, note_root, put_count, put_record};
 use limits::{
-    BYTES_LEFT, END_FIELD, FIRST_CONDITION, KINDS, KIND_COUNT, MANY_PROCEDURES, MOST_DEPTH, MOST_PROCEDURES, MOST_RECORDS, PLACE_COUNT, PROGRAM_LENGTH,
-    RECORDS_AT, RECORD_LENGTH, ROOTS_AT, TABLE_EDITION, TABLE_STOPS, TOO_DEEP, WRONG_EDITION, WRONG_KIND, WRONG_MAP,
+    BYTES_LEFT, FIRST_CONDITION, KINDS, KIND_COUNT, MANY_PROCEDURES, MOST_DEPTH, MOST_PROCEDURES, MOST_RECORDS, TABLE_EDITION, TABLE_STOPS, TOO_DEEP,
+    WRONG_EDITION, WRONG_KIND, WRONG_MAP,
 };
 use records::Answer;
 
@@ -31,17 +29,6 @@ pub enum Tree {
 pub enum Table {
     Read,
     Refused(u8),
-}
-
-// Note a value among the words of the program. A slot outside them, or a value past 65535, would be passed over: reading comes to neither.
-fn note(program: &mut [u32; PROGRAM_LENGTH], slot: usize, value: usize)
-    ensures { λ r. ⌜ now (program .exit) ≡ noted (now (program .entry)) slot value ⌝ }
-{
-    if slot < PROGRAM_LENGTH {
-        if value < PLACE_COUNT {
-            program[slot] = value as u32;
-        }
-    }
 }
 
 // Is this a kind of condition, or else of statement?
@@ -87,16 +74,8 @@ fn refusal(answer: Answer) -> Tree
 }
 
 // A tree of at most `depth` records from its root down, where `records` came before it: a condition, or else a statement.
-fn read_tree(
-    table: &[u8],
-    at: usize,
-    depth: u8,
-    p: u8,
-    records: usize,
-    tests: bool,
-    program: &mut [u32; PROGRAM_LENGTH],
-) -> Tree
-    ensures { λ r. ⌜ ran r (now (program .exit)) ≡ treeAt p (now (table .entry)) depth tests at records (now (program .entry)) ⌝ }
+fn read_tree(table: &[u8], at: usize, depth: u8, p: u8, records: usize, tests: bool, program: &mut Program) -> Tree
+    ensures { λ r. ⌜ ran (treeOutcome r) (now (program .exit)) ≡ treeAt p (now (table .entry)) depth tests at records (now (program .entry)) ⌝ }
 {
     if table.len() <= at {
         return Tree::Refused(TABLE_STOPS);
@@ -117,29 +96,20 @@ fn read_tree(
         return Tree::Refused(TOO_DEEP);
     }
     let answer = read_contents(table, at + 2, map, kind, p);
-    let Answer::Record(_, next) = answer else {
+    let Answer::Record(read, next) = answer else {
         return refusal(answer);
     };
-    read_children(table, at, next, depth - 1, p, records, kind, program)
+    put_record(table, read, at, records, program);
+    read_children(table, next, depth - 1, p, records, kind, program)
 }
 
-// The children of a record at `at` that stand from `next` on: conditions, then statements. It is decoded, and the record behind them is noted.
-fn read_children(
-    table: &[u8],
-    at: usize,
-    next: usize,
-    depth: u8,
-    p: u8,
-    records: usize,
-    kind: u8,
-    program: &mut [u32; PROGRAM_LENGTH],
-) -> Tree
+// The children of a record of this kind, which stand from `at` on: conditions, then statements. The record behind them is noted.
+fn read_children(table: &[u8], at: usize, depth: u8, p: u8, records: usize, kind: u8, program: &mut Program) -> Tree
     requires { ⌜ records < mostRecords ⌝ }
-    ensures { λ r. ⌜ ran r (now (program .exit)) ≡ childrenAt (treeAt p (now (table .entry)) depth) (now (table .entry)) kind at next records (now (program .entry)) ⌝ }
+    ensures { λ r. ⌜ ran (treeOutcome r) (now (program .exit)) ≡ childrenAt (treeAt p (now (table .entry)) depth) kind at records (now (program .entry)) ⌝ }
 {
-    put_record(table, at, records, program);
     let conditions = parts(true, kind);
-    let tree = read_many(table, next, depth, p, records + 1, conditions, true, program);
+    let tree = read_many(table, at, depth, p, records + 1, conditions, true, program);
     let Tree::Read(middle, count) = tree else {
         return tree;
     };
@@ -148,7 +118,7 @@ fn read_children(
     let Tree::Read(_, total) = tree else {
         return tree;
     };
-    note(program, RECORDS_AT + RECORD_LENGTH * records + END_FIELD, total);
+    note_end(program, records, total);
     tree
 }
 
@@ -161,9 +131,9 @@ fn read_many(
     records: usize,
     count: u8,
     tests: bool,
-    program: &mut [u32; PROGRAM_LENGTH],
+    program: &mut Program,
 ) -> Tree
-    ensures { λ r. ⌜ ran r (now (program .exit)) ≡ many (treeAt p (now (table .entry)) depth tests) count at records (now (program .entry)) ⌝ }
+    ensures { λ r. ⌜ ran (treeOutcome r) (now (program .exit)) ≡ many (treeAt p (now (table .entry)) depth tests) count at records (now (program .entry)) ⌝ }
 {
     if count == 0 {
         return Tree::Read(at, records);
@@ -176,20 +146,13 @@ fn read_many(
 }
 
 // The bodies of procedures f to p, main at 0: the root of each is noted.
-fn read_bodies(
-    table: &[u8],
-    at: usize,
-    f: usize,
-    p: u8,
-    records: usize,
-    program: &mut [u32; PROGRAM_LENGTH],
-) -> Tree
-    ensures { λ r. ⌜ ran r (now (program .exit)) ≡ bodiesAt p (now (table .entry)) (p + 1 - f) f at records (now (program .entry)) ⌝ }
+fn read_bodies(table: &[u8], at: usize, f: usize, p: u8, records: usize, program: &mut Program) -> Tree
+    ensures { λ r. ⌜ ran (treeOutcome r) (now (program .exit)) ≡ bodiesAt p (now (table .entry)) (p + 1 - f) f at records (now (program .entry)) ⌝ }
 {
     if (p as usize) < f {
         return Tree::Read(at, records);
     }
-    note(program, ROOTS_AT + f, records);
+    note_root(program, f, records);
     let tree = read_tree(table, at, MOST_DEPTH, p, records, false, program);
     let Tree::Read(next, total) = tree else {
         return tree;
@@ -197,18 +160,9 @@ fn read_bodies(
     read_bodies(table, next, f + 1, p, total, program)
 }
 
-// How many procedures there are is put down, before all else.
-fn put_count(program: &mut [u32; PROGRAM_LENGTH], p: u8)
-    ensures { λ r. ⌜ wordIn (now (program .exit)) 0 ≡ p ⌝ }
-    ensures { λ r. ⌜ length (now (program .exit)) ≡ programLength ⌝ }
-{
-    let words = &mut program[..];
-    words[0] = p as u32;
-}
-
 // "header 1 (fewer than two bytes), 2, 3", then the main statement and the bodies of procedures 1 to p, then 8 where bytes are left.
 // What the answer says, with the program that is left, is what the model reads, and the program says where in the table each statement stands.
-pub fn read_table(table: &[u8], program: &mut [u32; PROGRAM_LENGTH]) -> Table
+pub fn read_table(table: &[u8], program: &mut Program) -> Table
     ensures { λ r. ⌜ outcomeRead r (now (program .exit)) ≡ outcome (readTable (now (table .entry))) ⌝ }
     ensures { λ r. ⌜ PlacedRead r (now (table .entry)) (now (program .exit)) ⌝ }
 {

@@ -17,7 +17,7 @@ use Rattle.table.specs.declared.Table.{Table}
 use Rattle.table.specs.declared.Table.the-variants as answer
 use Rattle.reach.specs.CallsInATable.{reachAt, anyLacksIn}
 use Rattle.widths.specs.KeptWidths.{anyWideIn, Judged, judged}
-use Rattle.widths.proofs.UnseenWidths.{same-placed}
+use Rattle.widths.proofs.PlacedBodies.{same-placed}
 use Rattle.faults.specs.RowTable.{faultsAt}
 use Rattle.verdict.specs.VerdictAnswers.{refusalAt, LeavesProgram, leaves, outcomeOf, checkedOutcome, PlacedChecked, KnownChecked}
 use Rattle.verdict.proofs.RefusalOrder.{few-qubits, many-qubits, refused-table, read-table-checked, read-table-known}

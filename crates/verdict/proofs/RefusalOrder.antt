@@ -22,8 +22,9 @@ use Rattle.reach.proofs.MatrixOfAProgram.{count-at}
 use Rattle.reach.specs.Matrix.{reachTable, noMarks}
 use Rattle.reach.specs.CallsInATable.{reachAt}
 use Rattle.reach.proofs.ReachByMatrix.{refusal-ten, recursive-entry}
-use Rattle.widths.specs.KeptWidths.{Unseen, Known, KnownBelow, WidthsKnown}
-use Rattle.widths.proofs.UnseenWidths.{same-count, same-program}
+use Rattle.decoded.specs.DecodedTable.{Unseen}
+use Rattle.widths.specs.KeptWidths.{Known, KnownBelow, WidthsKnown}
+use Rattle.decoded.proofs.UnseenWidths.{same-count, same-program}
 use Rattle.widths.proofs.TooWide.{refusal-eleven}
 use Rattle.faults.specs.RowTable.{faultsAt}
 use Rattle.faults.proofs.Refusal12.{faults-is}

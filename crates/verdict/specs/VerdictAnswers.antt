@@ -9,7 +9,8 @@ use Rattle.model.specs.Answers.{Outcome, gives, refuses}
 use Rattle.decoded.specs.DecodedTable.{procedureCount, programAt}
 use Rattle.table.specs.ReadTable.{BodiesPlaced, BodiesNumbered}
 use Rattle.reach.specs.CallsInATable.{reachAt, anyLacksIn}
-use Rattle.widths.specs.KeptWidths.{Unseen, anyWideIn, KnownBelow, WidthsKnown}
+use Rattle.decoded.specs.DecodedTable.{Unseen}
+use Rattle.widths.specs.KeptWidths.{anyWideIn, KnownBelow, WidthsKnown}
 use Rattle.faults.specs.RowTable.{faultsAt}
 
 -- "10 over the whole table, then 11, then 12": of a program g, of which h is left when its widths are kept

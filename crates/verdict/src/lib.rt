@@ -3,14 +3,15 @@ ghost use mathlib.Core.Path.{_≡_};
 ghost use Rattle.model.specs.Answers.{accepted};
 ghost use Rattle.model.specs.Answers as model;
 ghost use Rattle.verdict.specs.VerdictAnswers.{refusalAt, LeavesProgram, checkedOutcome, PlacedChecked, KnownChecked};
-use limits::{ACCESS_FAULT, LEAST_WORKSPACE, MATRIX_LENGTH, MOST_N, NO_REMOVAL, PROGRAM_LENGTH, SHORT_WORKSPACE, TOO_WIDE, WRONG_QUBITS};
+use decoded::{PROGRAM_LENGTH, Program};
+use limits::{ACCESS_FAULT, LEAST_WORKSPACE, MATRIX_LENGTH, MOST_N, NO_REMOVAL, SHORT_WORKSPACE, TOO_WIDE, WRONG_QUBITS};
 use table::{Table, read_table};
 use reach::{fill_reach, any_lacks_removal};
 use widths::any_too_wide;
 use faults::faults;
 
 // "10 over the whole table, then 11, then 12": a table that was read, decoded.
-fn check_program(program: &mut [u32; PROGRAM_LENGTH], n: u8) -> u8
+fn check_program(program: &mut Program, n: u8) -> u8
     ensures { λ r. ⌜ r ≡ refusalAt (now (program .entry)) (now (program .exit)) n ⌝ }
     ensures { λ r. ⌜ LeavesProgram r (now (program .entry)) (now (program .exit)) ⌝ }
 {
@@ -29,7 +30,7 @@ fn check_program(program: &mut [u32; PROGRAM_LENGTH], n: u8) -> u8
 }
 
 // "Order: 9; header 1 .., 2, 3; each record ..; 8; 10 over the whole table, then 11, then 12". The program is what walkers need afterwards.
-pub fn check_table(table: &[u8], n: u32, program: &mut [u32; PROGRAM_LENGTH]) -> u8
+pub fn check_table(table: &[u8], n: u32, program: &mut Program) -> u8
     ensures { λ r. ⌜ checkedOutcome r (now (program .exit)) ≡ accepted (now (table .entry)) n ⌝ }
     ensures { λ r. ⌜ PlacedChecked r (now (table .entry)) (now (program .exit)) ⌝ }
     ensures { λ r. ⌜ KnownChecked r (now (program .exit)) ⌝ }

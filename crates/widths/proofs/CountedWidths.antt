@@ -9,62 +9,30 @@ use mathlib.Core.List.{List}
 use borrow.Author.Needs.{needs}
 use borrow.Author.Tests.{lt-ltb, le-ltb}
 use lib.Dec.{ltb}
-use lib.ListN.{length, set, length-set, List·getD-eq-default}
-use lib.Seq.{getD-set-same, getD-set-other}
-use Rattle.limits.specs.Sizes.{rootCount, widthsAt, recordsAt, programLength}
-use Rattle.model.specs.Limits.{mostRecords, mostDepth}
+use Rattle.model.specs.Limits.{mostDepth}
 use Rattle.model.specs.Meaning.{digit}
 use Rattle.model.specs.Syntax.{Statement, skip, NOT, sequence, if, qcase, call}
 use Rattle.model.specs.Reach.{width, anyBelow}
 use Rattle.model.proofs.BooleanLaws.{byLt, byEq, clash, any-here, or-false}
-use Rattle.decoded.specs.DecodedTable.{wordIn, widthIn, endOf, rootOf, procedureCount, recordIn, testAt, statementOf, statementAt, bodyAt}
-use Rattle.decoded.specs.RecordWords.{rowAt}
+use Rattle.decoded.specs.DecodedTable.{
+  widthIn, endOf, rootOf, procedureCount, recordIn, testAt, statementOf, statementAt, bodyAt, withWidth, Unseen,
+}
+use Rattle.decoded.specs.Layout.{rootCount, rowAt}
 use Rattle.records.specs.declared.Record.{Record}
 use Rattle.records.specs.declared.Record.the-variants as kind
 use Rattle.table.specs.ReadTable.{Numbered, BodiesNumbered}
-use Rattle.step.specs.Steps.{stepOf}
-use Rattle.reach.specs.declared.Parts.{Parts}
-use Rattle.reach.specs.declared.Parts.the-variants as parts
+use Rattle.decoded.specs.Steps.{stepOf}
+use Rattle.decoded.specs.declared.Parts.{Parts}
+use Rattle.decoded.specs.declared.Parts.the-variants as parts
 use Rattle.reach.specs.Matrix.{recursiveIn}
-use Rattle.reach.specs.CallsInATable.{partsOf, partsAt}
-use Rattle.reach.proofs.PartsOfARecord.{ArePartsOf, as-skip, as-not, as-sequence, as-if, as-qcase, as-call, are-parts}
+use Rattle.decoded.specs.Steps.{partsOf, partsAt}
+use Rattle.decoded.proofs.PartsOfARecord.{ArePartsOf, as-skip, as-not, as-sequence, as-if, as-qcase, as-call, are-parts}
 use Rattle.widths.specs.KeptWidths.{
-  withWidth, joinedWidth, Unseen, OfParts, Known, PartsInOrder, InOrder, Notes, Noted, noted, wideIn, Judges, Judged, judged,
+  joinedWidth, OfParts, Known, PartsInOrder, InOrder, Notes, Noted, noted, wideIn, Judges, Judged, judged,
 }
-use Rattle.widths.proofs.UnseenWidths.{same-parts, same-statement, same-body, same-root, same-count}
-
--- the ways out of `note_width`
-module _ (i w : ℕ) (g : List ℕ) where
-  pub kept-in : i ≤ mostRecords → set g (widthsAt + i) w ≡ withWidth i w g
-  unfolding withWidth
-  kept-in l = rw (le-ltb mostRecords i l)
-
-  pub kept-out : mostRecords < i → g ≡ withWidth i w g
-  unfolding withWidth
-  kept-out l = rw (lt-ltb mostRecords i l)
-
-  -- the width stands there, every other width and all else are as they were
-  there : length g ≡ programLength → i ≤ mostRecords → widthIn (withWidth i w g) i ≡ w
-  there long l = rw (← kept-in l) (getD-set-same g (widthsAt + i) w 0 (omega arith))
-
-  elsewhere : (k : ℕ) → (k ≡ widthsAt + i → ⊥) → wordIn (withWidth i w g) k ≡ wordIn g k
-  elsewhere k n = byLt mostRecords i
-      (λ l. rw (← kept-out l))
-      (λ l. rw (← kept-in l) (getD-set-other g (widthsAt + i) k w 0 n))
-
-  other : (j : ℕ) → (j ≡ i → ⊥) → widthIn (withWidth i w g) j ≡ widthIn g j
-  other j n = elsewhere (widthsAt + j) (λ e. n (omega arith))
-
-  kept-unseen : Unseen g (withWidth i w g)
-  kept-unseen = byLt mostRecords i
-      (λ l. rw (← kept-out l) (record { head = λ k m. refl; rows = λ k m. refl }))
-      (λ l. record { head = λ k m. elsewhere k (λ e. omega arith); rows = λ k m. elsewhere k (λ e. omega arith) })
-
-  kept-long : length (withWidth i w g) ≡ length g
-  kept-long = byLt mostRecords i (λ l. rw (← kept-out l)) (λ l. rw (← kept-in l) (length-set g (widthsAt + i) w))
-
-pub unseen-then : {g h k : List ℕ} → Unseen g h → Unseen h k → Unseen g k
-unseen-then u v = record { head = λ n l. v .head n l ∙ u .head n l; rows = λ n l. v .rows n l ∙ u .rows n l }
+use Rattle.decoded.proofs.UnseenWidths.{
+  width-there, width-other, width-unseen, width-long, unseen-then, same-parts, same-statement, same-body, same-root,
+}
 
 -- the ways out of `joined` and `one_if`
 module _ (t : Bool) (a b r : ℕ) where
@@ -83,13 +51,6 @@ one-counts b e = rw e
 pub none-counts : (b : Bool) → b ≡ false → 0 ≡ digit b
 unfolding digit
 none-counts b e = rw e
-
--- a width that is asked for past the end is none
-pub wide-none : (g : List ℕ) (i : ℕ) → length g ≤ widthsAt + i → widthIn g i ≡ 0
-wide-none g i h = List·getD-eq-default g 0 {n = widthsAt + i} h
-
-pub wide-past : (g : List ℕ) (i : ℕ) → length g ≤ widthsAt + i → false ≡ ltb 0 (widthIn g i)
-wide-past g i h = rw (wide-none g i h)
 
 -- records in order: the first comes before the end
 order-less : (g : List ℕ) (d i end : ℕ) → InOrder g d i end → i < end
@@ -165,14 +126,14 @@ module _ (r : ℕ → Bool) (d i : ℕ) (g : List ℕ) where
       rw s
       (record {
         counted = q ∙ rw (width-is x e);
-        unseen = kept-unseen i w g;
-        long = kept-long i w g;
+        unseen = width-unseen i w g;
+        long = width-long i w g;
         known = λ long end few o.
             let low : i < end = o .0 in
-            (there i w g long (omega arith) ∙ q ∙ rw (same-statement g (withWidth i w g) (kept-unseen i w g) (suc d) i, width-is x e),
-            rw (same-parts g (withWidth i w g) (kept-unseen i w g) i, e) (rw s at none));
-        before = λ end few o j l. other i w g j (λ z. omega arith);
-        behind = λ end few o j l. let low : i < end = o .0 in other i w g j (λ z. omega arith);
+            (width-there i w g long (omega arith) ∙ q ∙ rw (same-statement g (withWidth i w g) (width-unseen i w g) (suc d) i, width-is x e),
+            rw (same-parts g (withWidth i w g) (width-unseen i w g) i, e) (rw s at none));
+        before = λ end few o j l. width-other i w g j (λ z. omega arith);
+        behind = λ end few o j l. let low : i < end = o .0 in width-other i w g j (λ z. omega arith);
       })
 
   -- a statement of two parts
@@ -184,7 +145,7 @@ module _ (r : ℕ → Bool) (d i : ℕ) (g : List ℕ) where
       (record {
         counted = counts;
         unseen = all;
-        long = kept-long i w g₂ ∙ n₂ .long ∙ n₁ .long;
+        long = width-long i w g₂ ∙ n₂ .long ∙ n₁ .long;
         known = λ long end few o.
             let parts-order : PartsInOrder (InOrder g d) i end (parts.Two a b t) = rw e at (o .1) in
             let low : i < a = parts-order .0 in
@@ -198,16 +159,16 @@ module _ (r : ℕ → Bool) (d i : ℕ) (g : List ℕ) where
                 known-same g₁ g₂ (n₂ .unseen) r d a b o₁ (λ j x y. n₂ .before end few o₂ j (omega arith))
                 (n₁ .known long b (omega arith) (parts-order .1)) in
             let second : Known r g₂ d b = n₂ .known (n₁ .long ∙ long) end few o₂ in
-            (there i w g₂ (n₂ .long ∙ n₁ .long ∙ long) (omega arith) ∙ counts ∙ rw (same-statement g (withWidth i w g₂) all (suc d) i),
+            (width-there i w g₂ (n₂ .long ∙ n₁ .long ∙ long) (omega arith) ∙ counts ∙ rw (same-statement g (withWidth i w g₂) all (suc d) i),
             rw (same-parts g (withWidth i w g₂) all i, e)
-            (known-same g₂ (withWidth i w g₂) (kept-unseen i w g₂) r d a b o₃ (λ j x y. other i w g₂ j (λ z. omega arith)) first,
-            known-same g₂ (withWidth i w g₂) (kept-unseen i w g₂) r d b end o₄ (λ j x y. other i w g₂ j (λ z. omega arith)) second));
+            (known-same g₂ (withWidth i w g₂) (width-unseen i w g₂) r d a b o₃ (λ j x y. width-other i w g₂ j (λ z. omega arith)) first,
+            known-same g₂ (withWidth i w g₂) (width-unseen i w g₂) r d b end o₄ (λ j x y. width-other i w g₂ j (λ z. omega arith)) second));
         before = λ end few o j l.
             let parts-order : PartsInOrder (InOrder g d) i end (parts.Two a b t) = rw e at (o .1) in
             let low : i < a = parts-order .0 in
             let m : a < b = order-less g d a b (parts-order .1) in
             let n : b < end = order-less g d b end (parts-order .2) in
-            other i w g₂ j (λ z. omega arith)
+            width-other i w g₂ j (λ z. omega arith)
             ∙ n₂ .before end few (order-same g g₁ (n₁ .unseen) d b end (parts-order .2)) j (omega arith)
             ∙ n₁ .before b (omega arith) (parts-order .1) j (omega arith);
         behind = λ end few o j l.
@@ -215,13 +176,13 @@ module _ (r : ℕ → Bool) (d i : ℕ) (g : List ℕ) where
             let low : i < a = parts-order .0 in
             let m : a < b = order-less g d a b (parts-order .1) in
             let n : b < end = order-less g d b end (parts-order .2) in
-            other i w g₂ j (λ z. omega arith)
+            width-other i w g₂ j (λ z. omega arith)
             ∙ n₂ .behind end few (order-same g g₁ (n₁ .unseen) d b end (parts-order .2)) j l
             ∙ n₁ .behind b (omega arith) (parts-order .1) j (omega arith);
       })
     where
       all : Unseen g (withWidth i w g₂)
-      all = unseen-then (n₁ .unseen) (unseen-then (n₂ .unseen) (kept-unseen i w g₂))
+      all = unseen-then (n₁ .unseen) (unseen-then (n₂ .unseen) (width-unseen i w g₂))
 
       counts : w ≡ min 2 (width r (statementAt g (suc d) i))
       counts =
@@ -235,11 +196,11 @@ notes-spent r depth i g h z s =
     rw (z, s)
     (noted (record {
       counted = refl;
-      unseen = kept-unseen i 0 g;
-      long = kept-long i 0 g;
-      known = λ long end few o. let low : i < end = o in there i 0 g long (omega arith);
-      before = λ end few o j l. other i 0 g j (λ e. omega arith);
-      behind = λ end few o j l. let low : i < end = o in other i 0 g j (λ e. omega arith);
+      unseen = width-unseen i 0 g;
+      long = width-long i 0 g;
+      known = λ long end few o. let low : i < end = o in width-there i 0 g long (omega arith);
+      before = λ end few o j l. width-other i 0 g j (λ e. omega arith);
+      behind = λ end few o j l. let low : i < end = o in width-other i 0 g j (λ e. omega arith);
     }))
 
 module _ (r : ℕ → Bool) (depth i : ℕ) (g : List ℕ) (deep : depth ≡ 0 → ⊥) (x : Parts) (e : x ≡ partsAt g i) where
@@ -391,6 +352,6 @@ judged-all m g h p r e j = rw (← e) j
 
 pub ruleset judging = (needs, judged-start, judged-yes, judged-more, judged-last, judged-all)
 
-pub ruleset keeping = (needs, kept-in, kept-out, joined-turn, joined-one, one-counts, none-counts, wide-past)
+pub ruleset keeping = (needs, joined-turn, joined-one, one-counts, none-counts)
 
 pub ruleset noting = (needs, notes-spent, notes-none, notes-call, notes-two)

@@ -1,3 +1,3 @@
-pub mod UnseenWidths
 pub mod CountedWidths
+pub mod PlacedBodies
 pub mod TooWide

@@ -1,33 +1,24 @@
 -- The widths that are kept with a program: what is promised of them, and that nothing else of the program changes.
 use Prim.Native.Nat.{ℕ, zero, suc, _+_, _≤_, _<_, min, max}
 use mathlib.Core.Path.{_≡_}
-use mathlib.Core.Bool.{Bool, true, false, cond}
+use mathlib.Core.Bool.{Bool, true, false}
 use mathlib.Core.List.{List}
-use lib.ListN.{length, set}
+use lib.ListN.{length}
 use lib.Dec.{ltb}
-use Rattle.limits.specs.Sizes.{widthsAt, recordsAt, programLength}
+use Rattle.decoded.specs.Layout.{programLength}
 use Rattle.model.specs.Limits.{mostRecords, mostDepth}
 use Rattle.model.specs.Reach.{recursive, width, anyBelow}
-use Rattle.decoded.specs.DecodedTable.{wordIn, widthIn, rootOf, procedureCount, statementAt, bodyAt, programAt}
+use Rattle.decoded.specs.DecodedTable.{widthIn, rootOf, procedureCount, statementAt, bodyAt, programAt, Unseen}
 use Rattle.table.specs.ReadTable.{BodiesNumbered}
-use Rattle.reach.specs.declared.Parts.{Parts}
-use Rattle.reach.specs.declared.Parts.the-variants as parts
+use Rattle.decoded.specs.declared.Parts.{Parts}
+use Rattle.decoded.specs.declared.Parts.the-variants as parts
 use Rattle.reach.specs.Matrix.{recursiveIn}
-use Rattle.reach.specs.CallsInATable.{partsAt}
-
--- the width of record i, kept; there is no record past the last
-unfoldable pub withWidth : ℕ → ℕ → List ℕ → List ℕ
-withWidth i w g = cond (ltb mostRecords i) g (set g (widthsAt + i) w)
+use Rattle.decoded.specs.Steps.{partsAt}
 
 -- the width of two statements, of which more than 2 is no more than 2: in turn the sum, of which one is chosen the larger
 unfoldable pub joinedWidth : Bool → ℕ → ℕ → ℕ
 joinedWidth true a b = min 2 (a + b)
 joinedWidth false a b = max a b
-
--- two programs differ in the widths that they keep, and in nothing else
-pub record Unseen (g h : List ℕ) : Type 0 where
-  pub head : (k : ℕ) → k < widthsAt → wordIn h k ≡ wordIn g k
-  pub rows : (k : ℕ) → recordsAt ≤ k → wordIn h k ≡ wordIn g k
 
 -- what is known of the parts of a statement
 abbrev pub OfParts : (ℕ → Type 0) → Parts → Type 0

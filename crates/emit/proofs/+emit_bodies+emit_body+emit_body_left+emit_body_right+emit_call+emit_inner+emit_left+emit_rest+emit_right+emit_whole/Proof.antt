@@ -58,10 +58,10 @@ use Rattle.events.proofs.wire.Reads as wire-reads
 use Rattle.sets.proofs.size.Reads as size-reads
 use Rattle.step.proofs.chosen.Reads as chosen-reads
 use Rattle.step.proofs.remaining.Reads as remaining-reads
-use Rattle.step.proofs.root.Reads as root-reads
-use Rattle.step.proofs.step_at.Reads as step-at-reads
+use Rattle.decoded.proofs.root.Reads as root-reads
+use Rattle.decoded.proofs.step_at.Reads as step-at-reads
 use Rattle.step.proofs.touched.Reads as touched-reads
-use Rattle.widths.proofs.is_wide.Reads as is-wide-reads
+use Rattle.decoded.proofs.is_wide.Reads as is-wide-reads
 use Rattle.emit.proofs.+emit_bodies+emit_body+emit_body_left+emit_body_right+emit_call+emit_inner+emit_left+emit_rest+emit_right+emit_whole.{
   statement,
 }

@@ -7,8 +7,8 @@ use Rattle.faults.proofs.counts.Reads as counts
 use Rattle.faults.proofs.counts.Kinds as counts-kinds
 use Rattle.faults.proofs.+counts.Lts-counts as counts-lts
 use Rattle.faults.proofs.mark.Reads as mark-reads
-use Rattle.reach.proofs.parts_at.Reads as parts-at-reads
-use Rattle.step.proofs.removal_count.Reads as removal-count-reads
+use Rattle.decoded.proofs.parts_at.Reads as parts-at-reads
+use Rattle.decoded.proofs.removal_count.Reads as removal-count-reads
 use Rattle.faults.proofs.+counts.{statement}
 use Rattle.faults.proofs.+counts.Tie.{close}
 

@@ -12,7 +12,7 @@ use Rattle.faults.proofs.mark.Reads as mark-reads
 use Rattle.step.proofs.all.Reads as all-reads
 use Rattle.step.proofs.chosen.Reads as chosen-reads
 use Rattle.step.proofs.remaining.Reads as remaining-reads
-use Rattle.step.proofs.step_at.Reads as step-at-reads
+use Rattle.decoded.proofs.step_at.Reads as step-at-reads
 use Rattle.step.proofs.touched.Reads as touched-reads
 use Rattle.faults.proofs.+touches.{statement}
 use Rattle.faults.proofs.+touches.Tie.{close}

@@ -7,8 +7,8 @@ use Rattle.inverse.proofs.put_turned.Reads as put-turned
 use Rattle.inverse.proofs.put_turned.Kinds as put-turned-kinds
 use Rattle.inverse.proofs.+put_turned.Lts-put_turned as put-turned-lts
 use Rattle.inverse.proofs.put_piece.Reads as put-piece-reads
-use Rattle.inverse.proofs.start.Reads as start-reads
-use Rattle.reach.proofs.parts_at.Reads as parts-at-reads
+use Rattle.decoded.proofs.start.Reads as start-reads
+use Rattle.decoded.proofs.parts_at.Reads as parts-at-reads
 use Rattle.inverse.proofs.+put_turned.{statement}
 use Rattle.inverse.proofs.+put_turned.Tie.{close}
 

@@ -6,9 +6,9 @@ use borrow.Fn.PlainCycle.{Measures, is, falls, and}
 use Rattle.reach.proofs.lacks_removal.Reads as lacks-removal
 use Rattle.reach.proofs.lacks_removal.Kinds as lacks-removal-kinds
 use Rattle.reach.proofs.+lacks_removal.Lts-lacks_removal as lacks-removal-lts
-use Rattle.reach.proofs.parts_at.Reads as parts-at-reads
+use Rattle.decoded.proofs.parts_at.Reads as parts-at-reads
 use Rattle.reach.proofs.recursive.Reads as recursive-reads
-use Rattle.step.proofs.removal_count.Reads as removal-count-reads
+use Rattle.decoded.proofs.removal_count.Reads as removal-count-reads
 use Rattle.reach.proofs.+lacks_removal.{statement}
 use Rattle.reach.proofs.+lacks_removal.Tie.{close}
 

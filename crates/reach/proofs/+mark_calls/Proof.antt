@@ -7,7 +7,7 @@ use Rattle.reach.proofs.mark_calls.Reads as mark-calls
 use Rattle.reach.proofs.mark_calls.Kinds as mark-calls-kinds
 use Rattle.reach.proofs.+mark_calls.Lts-mark_calls as mark-calls-lts
 use Rattle.reach.proofs.mark.Reads as mark-reads
-use Rattle.reach.proofs.parts_at.Reads as parts-at-reads
+use Rattle.decoded.proofs.parts_at.Reads as parts-at-reads
 use Rattle.reach.proofs.+mark_calls.{statement}
 use Rattle.reach.proofs.+mark_calls.Tie.{close}
 

@@ -6,7 +6,7 @@ use Rattle.reach.proofs.any_lacks_removal.Tie as tie
 use Rattle.reach.proofs.any_lacks_removal.Reads as reads
 use Rattle.reach.proofs.any_lacks_removal.Lts as lts
 use Rattle.reach.proofs.one_lacks_removal.Reads as one-lacks-removal-reads
-use Rattle.step.proofs.procedures.Reads as procedures-reads
+use Rattle.decoded.proofs.procedures.Reads as procedures-reads
 
 procedures-requires : tie.Need-procedures-requires
 procedures-requires c κs = search needs

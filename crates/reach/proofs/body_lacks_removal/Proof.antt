@@ -6,7 +6,7 @@ use Rattle.reach.proofs.body_lacks_removal.Tie as tie
 use Rattle.reach.proofs.body_lacks_removal.Reads as reads
 use Rattle.reach.proofs.body_lacks_removal.Lts as lts
 use Rattle.reach.proofs.lacks_removal.Reads as lacks-removal-reads
-use Rattle.step.proofs.root.Reads as root-reads
+use Rattle.decoded.proofs.root.Reads as root-reads
 
 root-requires : tie.Need-root-requires
 root-requires c κs = search needs

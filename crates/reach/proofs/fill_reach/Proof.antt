@@ -7,7 +7,7 @@ use Rattle.reach.proofs.fill_reach.Reads as reads
 use Rattle.reach.proofs.fill_reach.Lts as lts
 use Rattle.reach.proofs.close.Reads as close-reads
 use Rattle.reach.proofs.mark_bodies.Reads as mark-bodies-reads
-use Rattle.step.proofs.procedures.Reads as procedures-reads
+use Rattle.decoded.proofs.procedures.Reads as procedures-reads
 
 procedures-requires : tie.Need-procedures-requires
 procedures-requires c κs = search needs

@@ -6,7 +6,7 @@ use Rattle.reach.proofs.mark_body.Tie as tie
 use Rattle.reach.proofs.mark_body.Reads as reads
 use Rattle.reach.proofs.mark_body.Lts as lts
 use Rattle.reach.proofs.mark_calls.Reads as mark-calls-reads
-use Rattle.step.proofs.root.Reads as root-reads
+use Rattle.decoded.proofs.root.Reads as root-reads
 
 root-requires : tie.Need-root-requires
 root-requires c κs = search needs

@@ -16,10 +16,10 @@ use Rattle.run.proofs.+call+walk.Lts-walk as walk-lts
 use Rattle.run.proofs.flip.Reads as flip-reads
 use Rattle.run.proofs.taken.Reads as taken-reads
 use Rattle.step.proofs.chosen.Reads as chosen-reads
-use Rattle.step.proofs.procedures.Reads as procedures-reads
+use Rattle.decoded.proofs.procedures.Reads as procedures-reads
 use Rattle.step.proofs.remaining.Reads as remaining-reads
-use Rattle.step.proofs.root.Reads as root-reads
-use Rattle.step.proofs.step_at.Reads as step-at-reads
+use Rattle.decoded.proofs.root.Reads as root-reads
+use Rattle.decoded.proofs.step_at.Reads as step-at-reads
 use Rattle.step.proofs.touched.Reads as touched-reads
 use Rattle.run.proofs.+call+walk.{statement}
 use Rattle.run.proofs.+call+walk.Tie.{close}

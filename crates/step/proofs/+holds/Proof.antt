@@ -6,8 +6,9 @@ use borrow.Fn.PlainCycle.{Measures, is, falls, and}
 use Rattle.step.proofs.holds.Reads as holds
 use Rattle.step.proofs.holds.Kinds as holds-kinds
 use Rattle.step.proofs.+holds.Lts-holds as holds-lts
-use Rattle.step.proofs.compared.Reads as compared-reads
-use Rattle.step.proofs.step_at.Reads as step-at-reads
+use Rattle.step.proofs.first_value.Reads as first-value-reads
+use Rattle.step.proofs.second_value.Reads as second-value-reads
+use Rattle.decoded.proofs.step_at.Reads as step-at-reads
 use Rattle.step.proofs.+holds.{statement}
 use Rattle.step.proofs.+holds.Tie.{close}
 
@@ -24,8 +25,10 @@ pub +holds-spec : {M : Type 1} → statement M
 +holds-spec = close μ-holds λ t. holds-lts.spec (
   step-at-reads.Asked,
   step-at-reads.Learnt,
-  compared-reads.Asked,
-  compared-reads.Learnt,
+  first-value-reads.Asked,
+  first-value-reads.Learnt,
+  second-value-reads.Asked,
+  second-value-reads.Learnt,
   holds-below t,
   holds.Post,
 )
@@ -34,25 +37,13 @@ pub +holds-spec : {M : Type 1} → statement M
     (λ c. search testing)
     (λ c κs. search testing)
     (λ c. search testing)
-    (λ c. search testing)
-    (λ c. search testing)
+    (λ c κs. search testing)
     (λ c κs. search testing)
     (λ c. search testing)
-    (λ c. search testing)
+    (λ c κs. search testing)
     (λ c κs. search testing)
     (λ c. search testing)
-    (λ c. search testing)
-    (λ c. search testing)
     (λ c κs. search testing)
-    (λ c. search testing)
-    (λ c. search testing)
-    (λ c κs. search testing)
-    (λ c. search testing)
-    (λ c. search testing)
-    (λ c. search testing)
-    (λ c κs. search testing)
-    (λ c. search testing)
-    (λ c. search testing)
     (λ c κs. search testing)
     (λ c. search testing)
     (λ c. search testing)

@@ -7,8 +7,6 @@ use Rattle.step.proofs.touched.Tie as tie
 pub touched-spec : {M : Type 1} → statement M
 touched-spec = tie.close (tie.spec
     (λ c κs. search needs)
-    (λ c. search needs)
-    (λ c κs. search needs)
     (λ c κs. search needs)
     (λ c κs. search needs)
     (λ c κs. search needs)

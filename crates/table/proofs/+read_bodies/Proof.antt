@@ -6,7 +6,7 @@ use borrow.Fn.PlainCycle.{Measures, is, falls, and}
 use Rattle.table.proofs.read_bodies.Reads as read-bodies
 use Rattle.table.proofs.read_bodies.Kinds as read-bodies-kinds
 use Rattle.table.proofs.+read_bodies.Lts-read_bodies as read-bodies-lts
-use Rattle.table.proofs.note.Reads as note-reads
+use Rattle.decoded.proofs.write.note_root.Reads as note-root-reads
 use Rattle.table.proofs.read_tree.Reads as read-tree-reads
 use Rattle.table.proofs.+read_bodies.{statement}
 use Rattle.table.proofs.+read_bodies.Tie.{close}
@@ -24,8 +24,8 @@ read-bodies-below t =
 
 pub +read-bodies-spec : {M : Type 1} → statement M
 +read-bodies-spec = close μ-read-bodies λ t. read-bodies-lts.spec (
-  note-reads.Asked,
-  note-reads.Learnt,
+  note-root-reads.Asked,
+  note-root-reads.Learnt,
   read-tree-reads.Asked,
   read-tree-reads.Learnt,
   read-bodies-below t,
@@ -33,7 +33,6 @@ pub +read-bodies-spec : {M : Type 1} → statement M
 )
     (read-bodies-at t)
     read-bodies.Post
-    (λ c. search bodies)
     (λ c. search bodies)
     (λ c κs. search bodies)
     (λ c κs. search bodies)

@@ -12,8 +12,8 @@ use Rattle.table.proofs.+read_children+read_many+read_tree.Lts-read_man
 use Rattle.table.proofs.read_tree.Reads as read-tree
 use Rattle.table.proofs.read_tree.Kinds as read-tree-kinds
 use Rattle.table.proofs.+read_children+read_many+read_tree.Lts-read_tree as read-tree-lts
-use Rattle.decoded.proofs.put_record.Reads as put-record-reads
-use Rattle.table.proofs.note.Reads as note-reads
+use Rattle.decoded.proofs.write.put_record.Reads as put-record-reads
+use Rattle.decoded.proofs.write.note_end.Reads as note-end-reads
 use Rattle.table.proofs.parts.Reads as parts-reads
 use Rattle.table.proofs.read_contents.Reads as read-contents-reads
 use Rattle.table.proofs.refusal.Reads as refusal-reads
@@ -22,7 +22,7 @@ use Rattle.table.proofs.+read_children+read_many+read_tree.{statement}
 use Rattle.table.proofs.+read_children+read_many+read_tree.Tie.{close}
 
 abbrev μ-read-children : Measures 2 read-children-kinds.ps ℕ
-μ-read-children κs a = a .1 .1 .1 .0 * 1024 + 512
+μ-read-children κs a = a .1 .1 .0 * 1024 + 512
 
 abbrev μ-read-many : Measures 2 read-many-kinds.ps ℕ
 μ-read-many κs a = a .1 .1 .0 * 1024 + a .1 .1 .1 .1 .1 .0 + 1
@@ -59,19 +59,16 @@ read-tree-below t =
 pub +read-children+read-many+read-tree-spec : {M : Type 1} → statement M
 +read-children+read-many+read-tree-spec =
     close μ-read-children μ-read-many μ-read-tree (λ t. read-children-lts.spec (
-      put-record-reads.Asked,
-      put-record-reads.Learnt,
       parts-reads.Asked,
       parts-reads.Learnt,
       read-many-below t,
       read-many.Post,
-      note-reads.Asked,
-      note-reads.Learnt,
+      note-end-reads.Asked,
+      note-end-reads.Learnt,
     )
     (read-children-at t)
     read-children.Post
     (λ c κs. search trees)
-    (λ c κs. search trees)
     (λ c. search trees)
     (λ c κs. search trees)
     (λ c. search trees)
@@ -79,9 +76,6 @@ pub +read-children+read-many+read-tree-spec : {M : Type 1} → statement M
     (λ c. search trees)
     (λ c κs. search trees)
     (λ c κs. search trees)
-    (λ c. search trees)
-    (λ c. search trees)
-    (λ c. search trees)
     (λ c. search trees)
     (λ c. search trees)
     (λ c. search trees)
@@ -89,11 +83,10 @@ pub +read-children+read-many+read-tree-spec : {M : Type 1} → statement M
     (λ c.
     let second = c .before .before .before .before .before in
     let first = second .before .before .before .before .before .before in
-    children-done _ _ _ _ _ _ _ _ _ _ _
-    (first .before .before .before .put-record .ensures) (first .before .before .parts .ensures) (first .read-many .ensures)
+    children-done _ _ _ _ _ _ _ _ (first .before .before .parts .ensures) (first .read-many .ensures)
     _ _ (second .before .before .before .before .tree .given .1)
     _ _ _ (second .before .before .parts2 .ensures) (second .read-many2 .ensures)
-    _ _ _ (c .before .before .before .tree2 .given .1) (c .note .ensures)))
+    _ _ _ (c .before .before .before .tree2 .given .1) (c .note-end .ensures)))
     (λ t. read-many-lts.spec (
       read-tree-below t,
       read-tree.Post,
@@ -117,6 +110,8 @@ pub +read-children+read-many+read-tree-spec : {M : Type 1} → statement M
       read-contents-reads.Learnt,
       refusal-reads.Asked,
       refusal-reads.Learnt,
+      put-record-reads.Asked,
+      put-record-reads.Learnt,
       read-children-below t,
       read-children.Post,
     )
@@ -137,6 +132,7 @@ pub +read-children+read-many+read-tree-spec : {M : Type 1} → statement M
     (λ c. search trees)
     (λ c κs. search trees)
     (λ c. search trees)
+    (λ c κs. search trees)
     (λ c. search trees)
     (λ c κs. search trees)
     (λ c. search trees)

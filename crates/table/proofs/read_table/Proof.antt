@@ -5,7 +5,7 @@ use Rattle.table.proofs.read_table.Statement.{statement}
 use Rattle.table.proofs.read_table.Tie as tie
 use Rattle.table.proofs.read_table.Reads as reads
 use Rattle.table.proofs.read_table.Lts as lts
-use Rattle.table.proofs.put_count.Reads as put-count-reads
+use Rattle.decoded.proofs.write.put_count.Reads as put-count-reads
 use Rattle.table.proofs.read_bodies.Reads as read-bodies-reads
 
 returns : tie.Need-returns

@@ -6,10 +6,10 @@ use borrow.Fn.PlainCycle.{Measures, is, falls, and}
 use Rattle.widths.proofs.note_widths.Reads as note-widths
 use Rattle.widths.proofs.note_widths.Kinds as note-widths-kinds
 use Rattle.widths.proofs.+note_widths.Lts-note_widths as note-widths-lts
-use Rattle.reach.proofs.parts_at.Reads as parts-at-reads
+use Rattle.decoded.proofs.parts_at.Reads as parts-at-reads
 use Rattle.reach.proofs.recursive.Reads as recursive-reads
 use Rattle.widths.proofs.joined.Reads as joined-reads
-use Rattle.widths.proofs.note_width.Reads as note-width-reads
+use Rattle.decoded.proofs.write.note_width.Reads as note-width-reads
 use Rattle.widths.proofs.one_if.Reads as one-if-reads
 use Rattle.widths.proofs.+note_widths.{statement}
 use Rattle.widths.proofs.+note_widths.Tie.{close}

@@ -5,7 +5,7 @@ use Rattle.widths.proofs.any_too_wide.Statement.{statement}
 use Rattle.widths.proofs.any_too_wide.Tie as tie
 use Rattle.widths.proofs.any_too_wide.Reads as reads
 use Rattle.widths.proofs.any_too_wide.Lts as lts
-use Rattle.step.proofs.procedures.Reads as procedures-reads
+use Rattle.decoded.proofs.procedures.Reads as procedures-reads
 use Rattle.widths.proofs.one_too_wide.Reads as one-too-wide-reads
 
 procedures-requires : tie.Need-procedures-requires

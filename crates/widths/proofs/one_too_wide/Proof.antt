@@ -8,7 +8,7 @@ use Rattle.widths.proofs.one_too_wide.Statement.{statement}
 use Rattle.widths.proofs.one_too_wide.Tie as tie
 use Rattle.widths.proofs.one_too_wide.Reads as reads
 use Rattle.widths.proofs.one_too_wide.Lts as lts
-use Rattle.step.proofs.root.Reads as root-reads
+use Rattle.decoded.proofs.root.Reads as root-reads
 use Rattle.widths.proofs.note_widths.Reads as note-widths-reads
 
 abbrev Inv-loop : tie.InvT-loop
