@@ -19,7 +19,7 @@ OWN_SIGNATURE = re.compile(r"\s*(?:\||(?:pub|unfoldable|abbrev|private|irrelevan
 LET = re.compile(r"\blet +([A-Za-z_][\w'′₀-₉]*(?:-[\w'′₀-₉]+)*)")
 LAMBDA = re.compile(r"λ((?: +[A-Za-z_][\w'′₀-₉-]*)+)\.")
 BINDER = re.compile(r"[({]((?:[A-Za-z_][\w'′₀-₉-]* +)+):")
-LIBRARY_USE = re.compile(r"(?:ghost )?use (?!Rattle\.(?:%s)\.)[^{;\n]*(?:\{[^}]*\})?", re.S)
+LIBRARY_USE = re.compile(r"^(?:ghost )?use (?!Rattle\.(?:%s)\.)[^{;\n]*(?:\{[^}]*\})?", re.S | re.M)
 # Where port.py turned two names of this repository to one: (the one name, the lemma's file and those that cite the lemma)
 FELL_TOGETHER = {
     "bit_at": ["run/proofs/WordsAndStates.antt"],
@@ -61,7 +61,7 @@ def crates():
 
 
 def library_use():
-    return re.compile(LIBRARY_USE.pattern % "|".join(crates()), re.S)
+    return re.compile(LIBRARY_USE.pattern % "|".join(crates()), re.S | re.M)
 
 
 def code_of(line):

@@ -4,7 +4,7 @@ use limits::BLOCK_LENGTH;
 
 // A number, and beside 0 the value: a run's end word, or the length of what was written into a room or a text.
 #[repr(C)]
-#[derive(Drop)]
+#[derive(Clone, Copy)]
 pub struct Answer {
     pub number: u32,
     pub value: u64,
@@ -12,7 +12,7 @@ pub struct Answer {
 
 // What the circuit reader answers: the header of a circuit that is well formed, or a refusal's number and zeros.
 #[repr(C)]
-#[derive(Drop)]
+#[derive(Clone, Copy)]
 pub struct CircuitHeader {
     pub number: u32,
     pub qubits: u32,
@@ -22,7 +22,7 @@ pub struct CircuitHeader {
 
 // The whole block of a circuit that was run, or a refusal's number and zeros.
 #[repr(C)]
-#[derive(Drop)]
+#[derive(Clone, Copy)]
 pub struct CircuitBlock {
     pub number: u32,
     pub data: u8,
@@ -32,7 +32,7 @@ pub struct CircuitBlock {
 
 // One band of a circuit's page: its length, and the place where the next band begins, 0 behind the last; or a refusal's number and zeros.
 #[repr(C)]
-#[derive(Drop)]
+#[derive(Clone, Copy)]
 pub struct PageBand {
     pub number: u32,
     pub length: u64,

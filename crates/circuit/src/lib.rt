@@ -33,7 +33,7 @@ pub enum HeaderRead {
 }
 
 // Where a list of wires stands in the bytes, and the place behind it.
-#[derive(Drop)]
+#[derive(Clone, Copy)]
 pub struct WireList {
     pub from: usize,
     pub count: usize,
@@ -47,7 +47,7 @@ pub enum ListRead {
 }
 
 // A gate where it stands in the bytes: `second` is a swap's second wire, and the next gate begins at `next`.
-#[derive(Drop)]
+#[derive(Clone, Copy)]
 pub struct GateAt {
     pub ones: WireList,
     pub zeros: WireList,

@@ -185,8 +185,10 @@ pub packed_is : (b : ℕ) (z : ℤ) (r : ℕ) → SFits w32 z → r ≡ low_bits
 packed_is b z r f e = rw (e, to_z-of_z f)
 
 pub word_packed : (a : Number) (b : ℕ) (z : ℤ) (w : ℕ) → SFits w32 z → b ≡ base_of a → z ≡ constant_of a → w ≡ packed b (to_z w32 (of_z w32 z)) → w ≡ word_of a
-unfolding word_of
-word_packed a b z w f i j e = e ∙ rw (to_z-of_z f, i, j)
+unfolding word_of base_of constant_of
+word_packed (base.Constant y) b z w f i j e = e ∙ rw (to_z-of_z f, i, j)
+word_packed (base.SizePlus y) b z w f i j e = e ∙ rw (to_z-of_z f, i, j)
+word_packed (base.LeftPlus y) b z w f i j e = e ∙ rw (to_z-of_z f, i, j)
 
 pub ruleset packing = (rules, base_constant, base_size, base_left, constant_constant, constant_size, constant_left, packed_is, word_packed)
 

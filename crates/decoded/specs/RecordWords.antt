@@ -34,7 +34,9 @@ constant_of (base.LeftPlus z) = z
 
 -- the word of a number
 unfoldable pub word_of : Number → ℕ
-word_of a = packed (base_of a) (constant_of a)
+word_of (base.Constant z) = packed 0 z
+word_of (base.SizePlus z) = packed 1 z
+word_of (base.LeftPlus z) = packed 2 z
 
 -- the number of a word: a law says that a number of the table comes back from its word (`DecodedRecords.number_kept`)
 abbrev pub word_number : ℕ → Number

@@ -29,7 +29,7 @@ use limits::{MOST_BASE, MOST_REMOVALS, PLACE_COUNT};
 use records::{Number, Record, byte};
 
 // What a record's words say beside its removals, and the place of their count in the table, 0 where there are none.
-#[derive(Drop)]
+#[derive(Clone, Copy)]
 pub struct Head {
     pub kind: u8,
     pub procedure: u8,

@@ -29,7 +29,7 @@ fn body_depth(program: &Program, f: u8) -> u8
 }
 
 // A statement emitted whole, in order.
-#[cycle(emit_bodies_emit_body_emit_body_left_emit_body_right_emit_call_emit_inner_emit_left_emit_rest_emit_right_emit_whole)]
+#[cycle(emitting)]
 fn emit_whole(
     program: &Program,
     k: u8,
@@ -104,7 +104,7 @@ fn emit_whole(
 }
 
 // "A non-recursive call with a nonempty list starts a chain."
-#[cycle(emit_bodies_emit_body_emit_body_left_emit_body_right_emit_call_emit_inner_emit_left_emit_rest_emit_right_emit_whole)]
+#[cycle(emitting)]
 fn emit_call(
     program: &Program,
     k: u8,
@@ -136,7 +136,7 @@ fn emit_call(
 }
 
 // The bodies of a chain whose precedence is below `last`: the longest list goes first, and of equal lengths the lowest procedure.
-#[cycle(emit_bodies_emit_body_emit_body_left_emit_body_right_emit_call_emit_inner_emit_left_emit_rest_emit_right_emit_whole)]
+#[cycle(emitting)]
 fn emit_bodies(
     program: &Program,
     k: u8,
@@ -169,7 +169,7 @@ fn emit_bodies(
 }
 
 // The body of slot d around all bodies that follow it, between its entry gates.
-#[cycle(emit_bodies_emit_body_emit_body_left_emit_body_right_emit_call_emit_inner_emit_left_emit_rest_emit_right_emit_whole)]
+#[cycle(emitting)]
 fn emit_body(
     program: &Program,
     k: u8,
@@ -193,7 +193,7 @@ fn emit_body(
 }
 
 // Its left part, then the rest.
-#[cycle(emit_bodies_emit_body_emit_body_left_emit_body_right_emit_call_emit_inner_emit_left_emit_rest_emit_right_emit_whole)]
+#[cycle(emitting)]
 fn emit_inner(
     program: &Program,
     k: u8,
@@ -212,7 +212,7 @@ fn emit_inner(
 }
 
 // The bodies that follow, then its right part, whose recursive calls have the ancillas before the next wire.
-#[cycle(emit_bodies_emit_body_emit_body_left_emit_body_right_emit_call_emit_inner_emit_left_emit_rest_emit_right_emit_whole)]
+#[cycle(emitting)]
 fn emit_rest(
     program: &Program,
     k: u8,
@@ -232,7 +232,7 @@ fn emit_rest(
 }
 
 // The left part of the body of slot d.
-#[cycle(emit_bodies_emit_body_emit_body_left_emit_body_right_emit_call_emit_inner_emit_left_emit_rest_emit_right_emit_whole)]
+#[cycle(emitting)]
 fn emit_body_left(
     program: &Program,
     k: u8,
@@ -259,7 +259,7 @@ fn emit_body_left(
 }
 
 // Its right part.
-#[cycle(emit_bodies_emit_body_emit_body_left_emit_body_right_emit_call_emit_inner_emit_left_emit_rest_emit_right_emit_whole)]
+#[cycle(emitting)]
 fn emit_body_right(
     program: &Program,
     k: u8,
@@ -288,7 +288,7 @@ fn emit_body_right(
 }
 
 // The left part of the statement at record i. A call there is recursive where it is wide.
-#[cycle(emit_bodies_emit_body_emit_body_left_emit_body_right_emit_call_emit_inner_emit_left_emit_rest_emit_right_emit_whole)]
+#[cycle(emitting)]
 fn emit_left(
     program: &Program,
     k: u8,
@@ -365,7 +365,7 @@ fn emit_left(
 }
 
 // The right part of the statement at record i; its recursive calls have the ancillas before `behind`, the last one first. The first of them is given.
-#[cycle(emit_bodies_emit_body_emit_body_left_emit_body_right_emit_call_emit_inner_emit_left_emit_rest_emit_right_emit_whole)]
+#[cycle(emitting)]
 fn emit_right(
     program: &Program,
     k: u8,

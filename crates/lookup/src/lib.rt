@@ -11,7 +11,7 @@ use sets::{QubitSet, next_member, size, without_lowest};
 
 // The swaps of an entry as pairs of wires, in order: the wire that holds the qubit, and the one that it goes to. `touched` is how many entries of the lookup
 // were read and written for them.
-#[derive(Drop)]
+#[derive(Clone, Copy)]
 pub struct Plan {
     pub from: [u8; SET_LENGTH],
     pub to: [u8; SET_LENGTH],

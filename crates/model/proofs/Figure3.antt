@@ -1,5 +1,5 @@
 -- Figure 3 of source 000: the rules derive ⊤ with the end state where a program has no fault, ⊥ where it has one, and nothing else.
-use mathlib.Core.Path.{◌≡◌, refl, sym, ◌∙◌, subst}
+use mathlib.Core.Path.{◌≡◌, refl, sym, ap, ◌∙◌, subst}
 use mathlib.Core.Logic.{◌≢◌}
 use mathlib.Core.Bool.{Bool, true, false, not, ◌||◌, cond, true≢false, false≢true}
 use mathlib.Core.List.{List, [], ◌∷◌, cons≢nil}
@@ -57,11 +57,14 @@ opens_start n l d w m = member_cases w 0 l m
     (λ e. rw (e, data_zero n l d, member_head 0 []))
     (λ i. rw (i, member_skip w 0 [] (member_differs w 0 l i (data_zero n l d)) (member_nil w)))
 
-opens_case : (l A closed : List ℕ) (q : ℕ) → Opens l A closed → Opens l (without q A) (q ∷ closed)
+skip_closed : (w q : ℕ) (closed : List ℕ) → w ≢ q → member w (0 ∷ q ∷ closed) ≡ member w (0 ∷ closed)
 unfolding member
+skip_closed w q closed n = ap (λ x. eqb w 0 || (x || member w closed)) (ne_eqb w q n)
+
+opens_case : (l A closed : List ℕ) (q : ℕ) → Opens l A closed → Opens l (without q A) (q ∷ closed)
 opens_case l A closed q h w m = by_eq w q
     (λ e. rw (e, without_same q A, member_tail q 0 (q ∷ closed) (member_head q closed)))
-    (λ n. rw (without_other w q n A, h w m, ne_eqb w q n))
+    (λ n. rw (without_other w q n A, h w m) (ap not (sym (skip_closed w q closed n))))
 
 opens_subset : (l m A closed : List ℕ) → Subset m l → Opens l A closed → Opens m A closed
 opens_subset l m A closed i h w o = h w (member_cases w 0 m o (λ e. rw e (member_head 0 l)) (λ j. member_tail w 0 l (i w j)))

@@ -739,7 +739,7 @@ reads_table (edition ∷ p ∷ rest) ok = let bs = edition ∷ p ∷ rest in let
       cc,
       record {
         few = rw all (leb-true p most_procedures few);
-        all_fit = rw all (q.0, r.0.1);
+        all_fit = subst (λ n. StatementsFit n (s ∷ ss)) (sym all) (q.0, r.0.1);
         small = omega (arith, t.bounded (omega arith), t.counts);
       },
     ))))))

@@ -204,7 +204,7 @@ only map m t = or_cases (eqb map m) (eqb map m) t (eqb-true map m) (eqb-true map
 -- a kind's fields, by what its map has
 module _ (p : ℕ) (bs : List ℕ) (at k : ℕ) (h : at ≤ length bs) where
   settled :
-      {S : Parsed Fields} {x : Answer} (j next : ℕ) (r s : Record) → kind_of s ≡ j →
+      (j next : ℕ) (r s : Record) {S : Parsed Fields} {x : Answer} → kind_of s ≡ j →
       Agree ((r ≡ s) × Within bs at 28 next) (parsed (fields_of bs s) (input_at bs next k)) (answer.Record s next) S x → RecordAgree bs at k j r S x
   settled j next r s e (reads q) = rw q.0 (reads next e q.1)
   settled j next r s e (refuses m) = refuses m
@@ -338,7 +338,7 @@ module _ (p j map : ℕ) (bs : List ℕ) (at k : ℕ) (z : 0 < at) (s : at < pla
       ((r : Record) (next : ℕ) → record_of p j (stands 0 map) bs at ≡ r → kind_of r ≡ j → Within bs at 28 next →
       C (parsed (fields_of bs r) (input_at bs next k)) (answer.Record r next)) →
       ((m : ℕ) → C (refused m) (answer.Refused m)) → C (fields p map (input_at bs at k)) (fields_at p j (stands 0 map) bs at)
-  fields_cases C give refuse = go fields-agree
+  fields_cases C give refuse = go fields_agree
     where
       go : {S : Parsed Fields} {x : Answer} → RecordAgree bs at k j (record_of p j (stands 0 map) bs at) S x → C S x
       go (reads next e w) = give _ next refl e w

@@ -14,7 +14,7 @@ const MAPS: [u8; KIND_COUNT] = [
 
 // "Base 0 is the constant alone; base 1 adds the size of the procedure's whole list."; document 02, S-2: "Base 2 of a number adds the size of the list
 // left by the removals already done in that record"
-#[derive(Drop)]
+#[derive(Clone, Copy)]
 pub enum Number {
     Constant(i32),
     SizePlus(i32),

@@ -52,7 +52,7 @@ fn taken(word: u64, q: u8, zero: u32, one: u32) -> u32
 
 // What the statement at record i makes of a word, on the whole list of its procedure. It is followed `depth` records down, and its calls
 // `fuel` deep. An if, a qcase and the second statement of a sequence go on in place.
-#[cycle(call_walk)]
+#[cycle(walking)]
 fn walk(program: &Program, i: u32, depth: u8, list: QubitSet, fuel: u16, word: u64) -> u64
     ensures { result ≡ walked program.now depth i (members_of list) fuel word }
 {
@@ -99,7 +99,7 @@ fn walk(program: &Program, i: u32, depth: u8, list: QubitSet, fuel: u16, word: u
 
 // What a call of procedure f makes of a word: its body goes on with the list that the removals left, and with all its depth. No table that was
 // read calls a procedure past p.
-#[cycle(call_walk)]
+#[cycle(walking)]
 fn call(program: &Program, f: u8, list: QubitSet, fuel: u16, word: u64) -> u64
     ensures { result ≡ called program.now f (members_of list) fuel word }
 {

@@ -80,7 +80,7 @@ fn refusal(answer: Answer) -> Tree
 }
 
 // A tree of at most `depth` records from its root down, where `records` came before it: a condition, or else a statement.
-#[cycle(read_children_read_many_read_tree)]
+#[cycle(reading)]
 fn read_tree(
     table: &[u8],
     at: usize,
@@ -119,7 +119,7 @@ fn read_tree(
 }
 
 // The children of a record of this kind, which stand from `at` on: conditions, then statements. The record behind them is noted.
-#[cycle(read_children_read_many_read_tree)]
+#[cycle(reading)]
 fn read_children(
     table: &[u8],
     at: usize,
@@ -153,7 +153,7 @@ fn read_children(
 }
 
 // So many trees, one after the other.
-#[cycle(read_children_read_many_read_tree)]
+#[cycle(reading)]
 fn read_many(
     table: &[u8],
     at: usize,

@@ -7,7 +7,7 @@ ghost use Rattle.wires.specs.StateOfABlock.{state_in, in_state, wires_of, flippe
 use limits::BLOCK_LENGTH;
 
 // Wire w is bit (w - 1) mod 8 of byte (w - 1) div 8, counted from 0 and from the lowest bit.
-#[derive(Drop)]
+#[derive(Clone, Copy)]
 pub struct Wires {
     pub bits: [u8; BLOCK_LENGTH],
     pub data: u8,

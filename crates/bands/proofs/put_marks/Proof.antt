@@ -9,12 +9,12 @@ use Rattle.bands.proofs.RowText.{columning}
 use Rattle.bands.proofs.put_marks.Statement.{statement}
 use Rattle.bands.proofs.put_marks.Tie as tie
 
-abbrev invariant_loop : tie.invariant_loop
+abbrev invariant_loop : tie.invariant-loop-column
 invariant_loop text₀ at marks count wire place₀ column₀ text place column =
     (length text ≡ length text₀) ×
     (puts (marks_at marks 0 count wire) text₀ at ≡ puts (marks_at marks column (count - column) wire) text place)
 
-abbrev decreases_loop : tie.decreases_loop
+abbrev decreases_loop : tie.decreases-loop-column
 decreases_loop text₀ at marks count wire place₀ column₀ text place column = count - column
 
 pub put_marks_spec : {M : Type 1} → statement M

@@ -9,12 +9,12 @@ use Rattle.bands.proofs.RowText.{rowing}
 use Rattle.bands.proofs.put_rows.Statement.{statement}
 use Rattle.bands.proofs.put_rows.Tie as tie
 
-abbrev invariant_loop : tie.invariant_loop
+abbrev invariant_loop : tie.invariant-loop-wire
 invariant_loop text₀ marks count most place₀ wire₀ text place wire =
     (length text ≡ length text₀) ×
     (puts (rows_at marks count most 1) text₀ 0 ≡ puts (rows_at marks count (most - wire) (wire + 1)) text place)
 
-abbrev decreases_loop : tie.decreases_loop
+abbrev decreases_loop : tie.decreases-loop-wire
 decreases_loop text₀ marks count most place₀ wire₀ text place wire = most - wire
 
 pub put_rows_spec : {M : Type 1} → statement M

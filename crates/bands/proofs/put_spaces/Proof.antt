@@ -8,11 +8,11 @@ use Rattle.bands.proofs.RowText.{spacing}
 use Rattle.bands.proofs.put_spaces.Statement.{statement}
 use Rattle.bands.proofs.put_spaces.Tie as tie
 
-abbrev invariant_loop : tie.invariant_loop
+abbrev invariant_loop : tie.invariant-loop-left
 invariant_loop text₀ at count place₀ left₀ text place left =
     (length text ≡ length text₀) × (puts (replicate count space) text₀ at ≡ puts (replicate left space) text place)
 
-abbrev decreases_loop : tie.decreases_loop
+abbrev decreases_loop : tie.decreases-loop-left
 decreases_loop text₀ at count place₀ left₀ text place left = left
 
 pub put_spaces_spec : {M : Type 1} → statement M

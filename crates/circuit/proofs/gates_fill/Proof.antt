@@ -6,11 +6,11 @@ use Rattle.circuit.proofs.GateReading.{filled}
 use Rattle.circuit.proofs.gates_fill.Statement.{statement}
 use Rattle.circuit.proofs.gates_fill.Tie as tie
 
-abbrev invariant_loop : tie.invariant_loop
+abbrev invariant_loop : tie.invariant-loop-left
 invariant_loop bytes from most count at₀ left₀ at left =
     fills (read_gates most count (input_at bytes from)) ≡ fills (read_gates most left (input_at bytes at))
 
-abbrev decreases_loop : tie.decreases_loop
+abbrev decreases_loop : tie.decreases-loop-left
 decreases_loop bytes from most count at₀ left₀ at left = left
 
 pub gates_fill_spec : {M : Type 1} → statement M

@@ -9,11 +9,11 @@ use Rattle.circuit.proofs.LoopsOverWires.{fitting}
 use Rattle.circuit.proofs.list_fits.Statement.{statement}
 use Rattle.circuit.proofs.list_fits.Tie as tie
 
-abbrev invariant_loop : tie.invariant_loop
+abbrev invariant_loop : tie.invariant-loop-at
 invariant_loop bytes most u v from end bad₀ at₀ bad at = (end ≤ length bytes) × (1 ≤ at) ×
     (list_fits (get_or bytes (at₀ - 1) 0) most u v (part bytes at₀ (end - at₀)) ≡ not bad && list_fits (get_or bytes (at - 1) 0) most u v (part bytes at (end - at)))
 
-abbrev decreases_loop : tie.decreases_loop
+abbrev decreases_loop : tie.decreases-loop-at
 decreases_loop bytes most u v from end bad₀ at₀ bad at = end - at
 
 pub list_fits_spec : {M : Type 1} → statement M

@@ -10,7 +10,7 @@ read_list_spec = tie.close (tie.spec
     (λ c. search lists)
     (λ c. search lists)
     (λ c. search rules)
-    (λ c. omega (arith, c.shared-slice-known.given c.before.before.before.args.at))
+    (λ c. omega (arith, c.shared_slice_known-1.given c.args.at))
     (λ c. search lists)
     (λ c. search rules)
     (λ c. search lists)

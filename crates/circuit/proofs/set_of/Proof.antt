@@ -9,10 +9,10 @@ use Rattle.circuit.proofs.WireSets.{marking}
 use Rattle.circuit.proofs.set_of.Statement.{statement}
 use Rattle.circuit.proofs.set_of.Tie as tie
 
-abbrev invariant_loop : tie.invariant_loop
+abbrev invariant_loop : tie.invariant-loop-at
 invariant_loop bytes end set₀ at₀ set at = (end ≤ length bytes) × (mark_all (part bytes at₀ (end - at₀)) set₀ ≡ mark_all (part bytes at (end - at)) set)
 
-abbrev decreases_loop : tie.decreases_loop
+abbrev decreases_loop : tie.decreases-loop-at
 decreases_loop bytes end set₀ at₀ set at = end - at
 
 pub set_of_spec : {M : Type 1} → statement M
@@ -22,8 +22,8 @@ set_of_spec = tie.close (tie.spec
     (λ c κs. search marking)
     (λ c. search marking)
     (λ c. search marking)
-    (λ c. omega (arith, c.shared-slice-known2.given c.before.before.loop.at))
-    (λ c. omega (arith, c.shared-slice-known2.given c.before.before.loop.at))
+    (λ c. omega (arith, c.shared_slice_known-in-loop-at-1.given c.loop-at.at))
+    (λ c. omega (arith, c.shared_slice_known-in-loop-at-1.given c.loop-at.at))
     (λ c. search marking)
     (λ c. search marking)
     (λ c. search marking)

@@ -10,10 +10,10 @@ use Rattle.circuit.proofs.WireSets.{sharing}
 use Rattle.circuit.proofs.share.Statement.{statement}
 use Rattle.circuit.proofs.share.Tie as tie
 
-abbrev invariant_loop : tie.invariant_loop
+abbrev invariant_loop : tie.invariant-loop-at
 invariant_loop bytes set end shared₀ at₀ shared at = (end ≤ length bytes) × (any_in set (part bytes at₀ (end - at₀)) ≡ shared || any_in set (part bytes at (end - at)))
 
-abbrev decreases_loop : tie.decreases_loop
+abbrev decreases_loop : tie.decreases-loop-at
 decreases_loop bytes set end shared₀ at₀ shared at = end - at
 
 pub share_spec : {M : Type 1} → statement M
@@ -26,8 +26,8 @@ share_spec = tie.close (tie.spec
     (λ c κs. search sharing)
     (λ c. search sharing)
     (λ c. search sharing)
-    (λ c. omega (arith, c.shared-slice-known2.given c.before.before.loop.at))
-    (λ c. omega (arith, c.shared-slice-known2.given c.before.before.loop.at))
+    (λ c. omega (arith, c.shared_slice_known-in-loop-at-1.given c.loop-at.at))
+    (λ c. omega (arith, c.shared_slice_known-in-loop-at-1.given c.loop-at.at))
     (λ c. search sharing)
     (λ c. search sharing)
     (λ c. search sharing)

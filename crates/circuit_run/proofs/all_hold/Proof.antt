@@ -10,11 +10,11 @@ use Rattle.circuit_run.proofs.GateAction.{held}
 use Rattle.circuit_run.proofs.all_hold.Statement.{statement}
 use Rattle.circuit_run.proofs.all_hold.Tie as tie
 
-abbrev invariant_loop : tie.invariant_loop
+abbrev invariant_loop : tie.invariant-loop-at
 invariant_loop bytes asked bits end wrong₀ at₀ wrong at = (end ≤ length bytes) ×
     (all_hold asked (part bytes at₀ (end - at₀)) (state_in bits) ≡ not wrong && all_hold asked (part bytes at (end - at)) (state_in bits))
 
-abbrev decreases_loop : tie.decreases_loop
+abbrev decreases_loop : tie.decreases-loop-at
 decreases_loop bytes asked bits end wrong₀ at₀ wrong at = end - at
 
 pub all_hold_spec : {M : Type 1} → statement M

@@ -8,11 +8,11 @@ use Rattle.circuit_run.proofs.RunOfGates.{running}
 use Rattle.circuit_run.proofs.run_gates.Statement.{statement}
 use Rattle.circuit_run.proofs.run_gates.Tie as tie
 
-abbrev invariant_loop : tie.invariant_loop
+abbrev invariant_loop : tie.invariant-loop-left
 invariant_loop bytes from most count current₀ at₀ left₀ current at left =
     (ran_of current₀ (read_gates most count (input_at bytes from)) ≡ ran_of current (read_gates most left (input_at bytes at))) × IsBlock current.bits
 
-abbrev decreases_loop : tie.decreases_loop
+abbrev decreases_loop : tie.decreases-loop-left
 decreases_loop bytes from most count current₀ at₀ left₀ current at left = left
 
 pub run_gates_spec : {M : Type 1} → statement M

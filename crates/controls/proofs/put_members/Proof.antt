@@ -9,10 +9,10 @@ use Rattle.controls.proofs.ControlBytes.{storing}
 use Rattle.controls.proofs.put_members.Statement.{statement}
 use Rattle.controls.proofs.put_members.Tie as tie
 
-abbrev invariant_loop : tie.invariant_loop
+abbrev invariant_loop : tie.invariant-loop-rest
 invariant_loop room₀ at set place₀ rest₀ room place rest = (length room ≡ length room₀) × Fits w64 rest × Storing room₀ at set room place rest
 
-abbrev decreases_loop : tie.decreases_loop
+abbrev decreases_loop : tie.decreases-loop-rest
 decreases_loop room₀ at set place₀ rest₀ room place rest = length (members_of rest)
 
 pub put_members_spec : {M : Type 1} → statement M
@@ -26,7 +26,7 @@ put_members_spec = tie.close (tie.spec
     (λ c. search storing)
     (λ c κs. search storing)
     (λ c. search storing)
-    (λ c. storing_less _ _ c.before.before.before.before.loop.invariant.1 c.before.before.before.loop-test.true c.without-lowest.ensures)
+    (λ c. storing_less _ _ c.before.before.before.before.loop-rest.invariant.1 c.before.before.before.loop-rest-test.true c.without_lowest-rest.ensures)
     (λ c. search storing)
     (λ c. search storing)
     (λ c. search storing))

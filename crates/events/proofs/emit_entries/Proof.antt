@@ -8,11 +8,11 @@ use Rattle.events.proofs.EntryGates.{entering}
 use Rattle.events.proofs.emit_entries.Statement.{statement}
 use Rattle.events.proofs.emit_entries.Tie as tie
 
-abbrev invariant_loop : tie.invariant_loop
+abbrev invariant_loop : tie.invariant-loop-a
 invariant_loop slots d e upto room₀ state₀ a₀ room state a =
     (length room ≡ length room₀) × Entering slots d e upto (progress (emit_in state₀) room₀) (progress (emit_in state) room) a
 
-abbrev decreases_loop : tie.decreases_loop
+abbrev decreases_loop : tie.decreases-loop-a
 decreases_loop slots d e upto room₀ state₀ a₀ room state a = upto - a
 
 pub emit_entries_spec : {M : Type 1} → statement M

@@ -9,11 +9,11 @@ use Rattle.events.proofs.EntryGates.{following}
 use Rattle.events.proofs.emit_forth.Statement.{statement}
 use Rattle.events.proofs.emit_forth.Tie as tie
 
-abbrev invariant_loop : tie.invariant_loop
+abbrev invariant_loop : tie.invariant-loop-i
 invariant_loop e from to count room₀ state₀ i₀ room state i =
     (i ≤ count) × (length room ≡ length room₀) × Forth e from to count (progress (emit_in state₀) room₀) (progress (emit_in state) room) i
 
-abbrev decreases_loop : tie.decreases_loop
+abbrev decreases_loop : tie.decreases-loop-i
 decreases_loop e from to count room₀ state₀ i₀ room state i = count - i
 
 pub emit_forth_spec : {M : Type 1} → statement M
@@ -30,10 +30,10 @@ emit_forth_spec = tie.close (tie.spec
     (λ c. search following)
     (λ c. let swapped = c.before.before in
     let in_loop = swapped.before.before.before.before.before in
-    let inv = in_loop.before.loop.invariant in (
-      omega (arith, in_loop.loop-test.true),
+    let inv = in_loop.before.loop-i.invariant in (
+      omega (arith, in_loop.loop-i-test.true),
       search following,
-      forth_next _ _ _ _ _ _ _ _ swapped.emit-swap.ensures in_loop.loop-test.true inv.2,
+      forth_next _ _ _ _ _ _ _ _ swapped.emit_swap.ensures in_loop.loop-i-test.true inv.2,
     ))
     (λ c. search following)
     (λ c. search following))

@@ -5,10 +5,10 @@ use Rattle.events.proofs.GreatestPrecedence.{Seeking, seeking}
 use Rattle.events.proofs.seek.Statement.{statement}
 use Rattle.events.proofs.seek.Tie as tie
 
-abbrev invariant_loop : tie.invariant_loop
+abbrev invariant_loop : tie.invariant-loop-a
 invariant_loop slots base last upto greatest₀ best₀ a₀ greatest best a = Seeking slots base last upto greatest best a
 
-abbrev decreases_loop : tie.decreases_loop
+abbrev decreases_loop : tie.decreases-loop-a
 decreases_loop slots base last upto greatest₀ best₀ a₀ greatest best a = upto - a
 
 pub seek_spec : {M : Type 1} → statement M
@@ -19,5 +19,5 @@ seek_spec = tie.close (tie.spec
     (λ c κs. search seeking)
     (λ c. search seeking)
     (λ c. search seeking)
-    (λ c. ⊎_elim (λ w. search seeking) (λ u. ⊎_elim (λ w. search seeking) (λ w. search seeking) u) c.if1.branch)
+    (λ c. ⊎_elim (λ w. search seeking) (λ u. ⊎_elim (λ w. search seeking) (λ w. search seeking) u) c.if-number-last.branch)
     (λ c. search seeking))

@@ -23,9 +23,9 @@ take_spec = tie.close (tie.spec
       takings,
       c.before.before.larger.ensures,
       c.before.before.before.highest.ensures,
-      c.before.before.before.before.before.before.before.fill-slot.ensures,
-      c.before.before.before.before.before.before.before.before.before.if2.false,
-      c.before.before.before.before.before.before.before.before.before.before.next.ensures,
-      c.before.before.before.before.before.before.before.before.before.before.before.before.if1.false,
+      c.before.before.before.before.before.before.before.fill_slot.ensures,
+      c.before.before.before.before.before.before.before.before.before.if-next-gt-LAST_WIRE.false,
+      c.before.before.before.before.before.before.before.before.before.before.next-next.ensures,
+      c.before.before.before.before.before.before.before.before.before.before.before.before.if-status-ne0.false,
       c.before.before.before.before.before.before.before.before.before.before.before.before.before.status.ensures,
     )))

@@ -21,8 +21,8 @@ counts_at_lem t = and 1 counts-kinds.ps (is 1 counts-kinds.ps μ-counts t) count
 abbrev counts_below_lem : ℕ → In 1 counts-kinds.ps
 counts_below_lem t = and 1 counts-kinds.ps (falls 1 counts-kinds.ps ◌<◌ μ-counts t) counts.Pre
 
-pub +counts-spec : {M : Type 1} → statement M
-+counts-spec = close μ-counts λ t. counts-lts.spec (
+pub +counts_spec : {M : Type 1} → statement M
++counts_spec = close μ-counts λ t. counts-lts.spec (
   parts-at-reads.Asked,
   parts-at-reads.Learnt,
   counts_below_lem t,

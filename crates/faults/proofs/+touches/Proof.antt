@@ -26,8 +26,8 @@ touches_at t = and 2 touches-kinds.ps (is 2 touches-kinds.ps μ-touches t) touch
 abbrev touches_below : ℕ → In 2 touches-kinds.ps
 touches_below t = and 2 touches-kinds.ps (falls 2 touches-kinds.ps ◌<◌ μ-touches t) touches.Pre
 
-pub +touches-spec : {M : Type 1} → statement M
-+touches-spec = close μ-touches λ t. touches-lts.spec (
+pub +touches_spec : {M : Type 1} → statement M
++touches_spec = close μ-touches λ t. touches-lts.spec (
   all-reads.Asked,
   all-reads.Learnt,
   step-at-reads.Asked,

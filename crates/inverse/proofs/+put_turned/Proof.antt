@@ -23,8 +23,8 @@ abbrev put_turned_below : ℕ → In 3 put-turned-kinds.ps
 put_turned_below t =
     and 3 put-turned-kinds.ps (falls 3 put-turned-kinds.ps ◌<◌ μ-put-turned t) put-turned.Pre
 
-pub +put-turned-spec : {M : Type 1} → statement M
-+put-turned-spec = close μ-put-turned λ t. put-turned-lts.spec (
+pub +put_turned_spec : {M : Type 1} → statement M
++put_turned_spec = close μ-put-turned λ t. put-turned-lts.spec (
   start-reads.Asked,
   start-reads.Learnt,
   put-piece-reads.Asked,

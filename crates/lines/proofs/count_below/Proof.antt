@@ -8,11 +8,11 @@ use Rattle.lines.proofs.ControlText.{counting}
 use Rattle.lines.proofs.count_below.Statement.{statement}
 use Rattle.lines.proofs.count_below.Tie as tie
 
-abbrev invariant_loop : tie.invariant_loop
+abbrev invariant_loop : tie.invariant-loop-left
 invariant_loop circuit from count wire next₀ left₀ below₀ next left below =
     (below + left ≡ count) × (lower wire (part circuit from count) ≡ below + lower wire (part circuit next left))
 
-abbrev decreases_loop : tie.decreases_loop
+abbrev decreases_loop : tie.decreases-loop-left
 decreases_loop circuit from count wire next₀ left₀ below₀ next left below = left
 
 pub count_below_spec : {M : Type 1} → statement M

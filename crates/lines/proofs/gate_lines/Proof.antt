@@ -10,12 +10,12 @@ use Rattle.lines.proofs.CircuitListing.{gating}
 use Rattle.lines.proofs.gate_lines.Statement.{statement}
 use Rattle.lines.proofs.gate_lines.Tie as tie
 
-abbrev invariant_loop : tie.invariant_loop
+abbrev invariant_loop : tie.invariant-loop-left
 invariant_loop text₀ at circuit from count place₀ next₀ number₀ left₀ text place next number left =
     (number + left ≡ 1 + count) × (length text ≡ length text₀) ×
     (puts (lines_read 1 count (input_at circuit from)) text₀ at ≡ puts (lines_read number left (input_at circuit next)) text place)
 
-abbrev decreases_loop : tie.decreases_loop
+abbrev decreases_loop : tie.decreases-loop-left
 decreases_loop text₀ at circuit from count place₀ next₀ number₀ left₀ text place next number left = left
 
 pub gate_lines_spec : {M : Type 1} → statement M

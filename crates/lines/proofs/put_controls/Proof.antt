@@ -10,13 +10,13 @@ use Rattle.lines.proofs.ControlText.{controlling}
 use Rattle.lines.proofs.put_controls.Statement.{statement}
 use Rattle.lines.proofs.put_controls.Tie as tie
 
-abbrev invariant_loop : tie.invariant_loop
+abbrev invariant_loop : tie.invariant-loop-ones_left
 invariant_loop text₀ at circuit place₀ one₀ ones-left₀ zero₀ zeros-left₀ text place one ones-left zero zeros-left =
     (zero < 2 ^ 64) × (length text ≡ length text₀) ×
     (puts (control_text (part circuit one₀ ones-left₀) (part circuit zero₀ zeros-left₀)) text₀ at
     ≡ puts (control_text (part circuit one ones-left) (part circuit zero zeros-left)) text place)
 
-abbrev decreases_loop : tie.decreases_loop
+abbrev decreases_loop : tie.decreases-loop-ones_left
 decreases_loop text₀ at circuit place₀ one₀ ones-left₀ zero₀ zeros-left₀ text place one ones-left zero zeros-left = ones-left
 
 pub put_controls_spec : {M : Type 1} → statement M

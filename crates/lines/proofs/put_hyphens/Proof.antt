@@ -9,12 +9,12 @@ use Rattle.lines.proofs.ControlText.{hyphening}
 use Rattle.lines.proofs.put_hyphens.Statement.{statement}
 use Rattle.lines.proofs.put_hyphens.Tie as tie
 
-abbrev invariant_loop : tie.invariant_loop
+abbrev invariant_loop : tie.invariant-loop-left
 invariant_loop text₀ at circuit from count place₀ next₀ left₀ text place next left =
     (length text ≡ length text₀) ×
     (puts (hyphens (part circuit from count)) text₀ at ≡ puts (hyphens (part circuit next left)) text place)
 
-abbrev decreases_loop : tie.decreases_loop
+abbrev decreases_loop : tie.decreases-loop-left
 decreases_loop text₀ at circuit from count place₀ next₀ left₀ text place next left = left
 
 pub put_hyphens_spec : {M : Type 1} → statement M

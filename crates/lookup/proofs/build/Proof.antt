@@ -7,11 +7,11 @@ use Rattle.lookup.proofs.CountedEntries.{building}
 use Rattle.lookup.proofs.build.Statement.{statement}
 use Rattle.lookup.proofs.build.Tie as tie
 
-abbrev invariant_loop : tie.invariant_loop
+abbrev invariant_loop : tie.invariant-loop-q
 invariant_loop entries₀ count₀ last q₀ entries count q =
     (q ≤ last) × (length entries ≡ length entries₀) × (entries ≡ built entries₀ q) × (count ≡ counted count₀ (2 * q))
 
-abbrev decreases_loop : tie.decreases_loop
+abbrev decreases_loop : tie.decreases-loop-q
 decreases_loop entries₀ count₀ last q₀ entries count q = last - q
 
 pub build_spec : {M : Type 1} → statement M

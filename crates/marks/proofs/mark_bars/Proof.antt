@@ -8,11 +8,11 @@ use Rattle.marks.proofs.MarkedWires.{barring}
 use Rattle.marks.proofs.mark_bars.Statement.{statement}
 use Rattle.marks.proofs.mark_bars.Tie as tie
 
-abbrev invariant_loop : tie.invariant_loop
+abbrev invariant_loop : tie.invariant-loop-wire
 invariant_loop marks₀ column low high wire₀ marks wire =
     (length marks ≡ length marks₀) × (mark_all bar column (inside low high) marks₀ ≡ mark_all bar column (inside wire high) marks)
 
-abbrev decreases_loop : tie.decreases_loop
+abbrev decreases_loop : tie.decreases-loop-wire
 decreases_loop marks₀ column low high wire₀ marks wire = high - wire
 
 pub mark_bars_spec : {M : Type 1} → statement M

@@ -7,11 +7,11 @@ use Rattle.marks.proofs.MarkedWires.{marking}
 use Rattle.marks.proofs.mark_wires.Statement.{statement}
 use Rattle.marks.proofs.mark_wires.Tie as tie
 
-abbrev invariant_loop : tie.invariant_loop
+abbrev invariant_loop : tie.invariant-loop-left
 invariant_loop marks₀ column bytes from count sign at₀ left₀ marks at left =
     (length marks ≡ length marks₀) × (mark_all sign column (part bytes from count) marks₀ ≡ mark_all sign column (part bytes at left) marks)
 
-abbrev decreases_loop : tie.decreases_loop
+abbrev decreases_loop : tie.decreases-loop-left
 decreases_loop marks₀ column bytes from count sign at₀ left₀ marks at left = left
 
 pub mark_wires_spec : {M : Type 1} → statement M

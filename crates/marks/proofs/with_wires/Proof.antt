@@ -6,11 +6,11 @@ use Rattle.marks.proofs.OutermostWires.{spanning}
 use Rattle.marks.proofs.with_wires.Statement.{statement}
 use Rattle.marks.proofs.with_wires.Tie as tie
 
-abbrev invariant_loop : tie.invariant_loop
+abbrev invariant_loop : tie.invariant-loop-left
 invariant_loop bytes from count low high lowest₀ highest₀ at₀ left₀ lowest highest at left =
     span_from low high (part bytes from count) ≡ span_from lowest highest (part bytes at left)
 
-abbrev decreases_loop : tie.decreases_loop
+abbrev decreases_loop : tie.decreases-loop-left
 decreases_loop bytes from count low high lowest₀ highest₀ at₀ left₀ lowest highest at left = left
 
 pub with_wires_spec : {M : Type 1} → statement M

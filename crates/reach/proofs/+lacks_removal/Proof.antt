@@ -27,8 +27,8 @@ lacks_removal_below t =
     (falls 2 lacks-removal-kinds.ps ◌<◌ μ-lacks-removal t)
     lacks-removal.Pre
 
-pub +lacks-removal-spec : {M : Type 1} → statement M
-+lacks-removal-spec = close μ-lacks-removal λ t. lacks-removal-lts.spec (
+pub +lacks_removal_spec : {M : Type 1} → statement M
++lacks_removal_spec = close μ-lacks-removal λ t. lacks-removal-lts.spec (
   parts-at-reads.Asked,
   parts-at-reads.Learnt,
   lacks_removal_below t,

@@ -22,8 +22,8 @@ abbrev mark_calls_below : ℕ → In 2 mark-calls-kinds.ps
 mark_calls_below t =
     and 2 mark-calls-kinds.ps (falls 2 mark-calls-kinds.ps ◌<◌ μ-mark-calls t) mark-calls.Pre
 
-pub +mark-calls-spec : {M : Type 1} → statement M
-+mark-calls-spec = close μ-mark-calls λ t. mark-calls-lts.spec (
+pub +mark_calls_spec : {M : Type 1} → statement M
++mark_calls_spec = close μ-mark-calls λ t. mark-calls-lts.spec (
   parts-at-reads.Asked,
   parts-at-reads.Learnt,
   mark_calls_below t,

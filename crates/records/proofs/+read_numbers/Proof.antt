@@ -25,8 +25,8 @@ read_numbers_below t =
     (falls 1 read-numbers-kinds.ps ◌<◌ μ-read-numbers t)
     read-numbers.Pre
 
-pub +read-numbers-spec : {M : Type 1} → statement M
-+read-numbers-spec = close μ-read-numbers λ t. read-numbers-lts.spec (
+pub +read_numbers_spec : {M : Type 1} → statement M
++read_numbers_spec = close μ-read-numbers λ t. read-numbers-lts.spec (
   read-number-reads.Asked,
   read-number-reads.Learnt,
   read_numbers_below t,

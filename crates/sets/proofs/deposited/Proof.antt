@@ -3,10 +3,10 @@ use Rattle.sets.proofs.Carrying.{Carries, carrying}
 use Rattle.sets.proofs.deposited.Statement.{statement}
 use Rattle.sets.proofs.deposited.Tie as tie
 
-abbrev invariant_loop : tie.invariant_loop
+abbrev invariant_loop : tie.invariant-loop-left
 invariant_loop row list found₀ rest₀ left₀ found rest left = Carries row list found rest left
 
-abbrev decreases_loop : tie.decreases_loop
+abbrev decreases_loop : tie.decreases-loop-left
 decreases_loop row list found₀ rest₀ left₀ found rest left = left
 
 pub deposited_spec : {M : Type 1} → statement M

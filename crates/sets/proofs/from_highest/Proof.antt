@@ -5,10 +5,10 @@ use Rattle.sets.proofs.Positions.{from_end, ends}
 use Rattle.sets.proofs.from_highest.Statement.{statement}
 use Rattle.sets.proofs.from_highest.Tie as tie
 
-abbrev invariant_loop : tie.invariant_loop
+abbrev invariant_loop : tie.invariant-loop-left
 invariant_loop set above rest₀ left₀ rest left = from_end (members_of rest) left ≡ from_end (members_of set) above
 
-abbrev decreases_loop : tie.decreases_loop
+abbrev decreases_loop : tie.decreases-loop-left
 decreases_loop set above rest₀ left₀ rest left = left
 
 pub from_highest_spec : {M : Type 1} → statement M

@@ -7,10 +7,10 @@ use Rattle.sets.proofs.Positions.{ends}
 use Rattle.sets.proofs.from_lowest.Statement.{statement}
 use Rattle.sets.proofs.from_lowest.Tie as tie
 
-abbrev invariant_loop : tie.invariant_loop
+abbrev invariant_loop : tie.invariant-loop-left
 invariant_loop set k rest₀ left₀ rest left = (1 ≤ left) × (entry (members_of rest) left ≡ entry (members_of set) k)
 
-abbrev decreases_loop : tie.decreases_loop
+abbrev decreases_loop : tie.decreases-loop-left
 decreases_loop set k rest₀ left₀ rest left = left
 
 pub from_lowest_spec : {M : Type 1} → statement M

@@ -68,13 +68,13 @@ pub +holds_spec : {M : Type 1} → statement M
     (λ c. search testing)
     (λ c. search testing)
     (λ c. let b = c.before.before in
-    held_and _ _ _ _ _ b.before.before.before.before.before.if1.false b.before.before.before.before.step-at.ensures _ _ _
-    b.holds.ensures b.before.before.step4.given.1 c.before.if2.true _ c.holds2.ensures)
+    held_and _ _ _ _ _ b.before.before.before.before.before.if-depth-eq0.false b.before.before.before.before.step_at-step.ensures _ _ _
+    b.holds.ensures b.before.before.step-in-Both-1.given.1 c.before.if-holds.true _ c.holds-then-holds.ensures)
     (λ c. search testing)
     (λ c. search testing)
     (λ c. let b = c.before.before in
-    held_or _ _ _ _ _ b.before.before.before.before.before.if1.false b.before.before.before.before.step-at.ensures _ _ _
-    b.holds3.ensures b.before.before.step5.given.1 c.before.if3.false _ c.holds4.ensures)
+    held_or _ _ _ _ _ b.before.before.before.before.before.if-depth-eq0.false b.before.before.before.before.step_at-step.ensures _ _ _
+    b.holds-in-Either.ensures b.before.before.step-in-Either-1.given.1 c.before.if-holds-2.false _ c.holds-else-holds-2.ensures)
     (λ c. search testing)
     (λ c. search testing)
     (λ c. search testing)

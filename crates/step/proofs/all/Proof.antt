@@ -10,13 +10,13 @@ use Rattle.sets.proofs.full.Reads as full-reads
 full_requires : tie.Need-full-requires
 full_requires c κs = search rules
 
-full_requires_2 : tie.Need-full-requires-2
+full_requires_2 : tie.Need-full-requires-else-n-lt-MOST_QUBITS
 full_requires_2 c κs = search rules
 
-returns : tie.Need-returns
+returns : tie.Need-returns-then-n-lt-MOST_QUBITS
 returns c = search lists
 
-returns_2 : tie.Need-returns-2
+returns_2 : tie.Need-returns-else-n-lt-MOST_QUBITS
 returns_2 c = search lists
 
 pub all_spec : {M : Type 1} → statement M

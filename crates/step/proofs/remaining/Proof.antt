@@ -12,32 +12,32 @@ use Rattle.step.proofs.Removals.{removed_nothing, removed_more, removed_ends, re
 use Rattle.step.proofs.remaining.Statement.{statement}
 use Rattle.step.proofs.remaining.Tie as tie
 
-abbrev invariant_loop : tie.invariant_loop
+abbrev invariant_loop : tie.invariant-loop-left
 invariant_loop words at list left₀ k₀ rest₀ left k rest =
     (k + left < 2 ^ 32)
     × (remove_all (members_of list) (removals_from left words at k) (members_of rest) ≡ remaining (removals_in words at) (members_of list))
 
-abbrev decreases_loop : tie.decreases_loop
+abbrev decreases_loop : tie.decreases-loop-left
 decreases_loop words at list left₀ k₀ rest₀ left k rest = left
 
-loop_holds : tie.Need-loop-init invariant_loop decreases_loop
-loop_holds c = (omega arith, removed_begins _ _ c.before.args.list _ c.removal-count.ensures)
+loop_holds : tie.Need-loop-left-init invariant_loop decreases_loop
+loop_holds c = (omega arith, removed_begins _ _ c.before.args.list _ c.removal_count-left.ensures)
 
-returns : tie.Need-returns invariant_loop decreases_loop
-returns c = removed_nothing _ _ _ _ _ _ c.before.before.loop.rest c.if1.true c.before.before.loop.invariant.1
+returns : tie.Need-returns-then-rest-eq0 invariant_loop decreases_loop
+returns c = removed_nothing _ _ _ _ _ _ c.before.before.loop-left.rest c.if-rest-eq0.true c.before.before.loop-left.invariant.1
 
-loop_again : tie.Need-loop-preserved invariant_loop decreases_loop
+loop_again : tie.Need-loop-left-preserved invariant_loop decreases_loop
 loop_again c =
     let valued = c.before in
     let at_loop = valued.before.before.before.before in
     let fits : SFits w32 valued.value.result = search rules in (
       omega arith,
-      removed_more _ _ at_loop.loop.left _ _ at_loop.loop.rest _ _ _ valued.before.removal.ensures fits
-          valued.value.ensures c.remove.ensures valued.before.before.before.loop-test.true ∙ at_loop.loop.invariant.1,
+      removed_more _ _ at_loop.loop-left.left _ _ at_loop.loop-left.rest _ _ _ valued.before.removal.ensures fits
+          valued.value.ensures c.remove-rest.ensures valued.before.before.before.loop-left-test.true ∙ at_loop.loop-left.invariant.1,
     )
 
-returns_2 : tie.Need-returns-2 invariant_loop decreases_loop
-returns_2 c = removed_ends _ _ _ _ _ (members_of c.before.loop.rest) c.loop-test.false ∙ c.before.loop.invariant.1
+returns_2 : tie.Need-returns invariant_loop decreases_loop
+returns_2 c = removed_ends _ _ _ _ _ (members_of c.before.loop-left.rest) c.loop-left-test.false ∙ c.before.loop-left.invariant.1
 
 pub remaining_spec : {M : Type 1} → statement M
 remaining_spec =

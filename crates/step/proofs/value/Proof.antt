@@ -8,10 +8,10 @@ use Rattle.step.proofs.value.Lts as lts
 use Rattle.sets.proofs.size.Reads as size-reads
 use Rattle.step.proofs.sum.Reads as sum-reads
 
-enum_known_a : tie.Need-enum-known-a
+enum_known_a : tie.Need-enum_known-a
 enum_known_a c = search rules
 
-enum_known_a_2 : tie.Need-enum-known-a-2
+enum_known_a_2 : tie.Need-enum_known-a-in-SizePlus-1
 enum_known_a_2 c = search rules
 
 size_requires : tie.Need-size-requires
@@ -20,22 +20,22 @@ size_requires c κs = search rules
 sum_requires : tie.Need-sum-requires
 sum_requires c κs = search rules
 
-enum_known_a_3 : tie.Need-enum-known-a-3
+enum_known_a_3 : tie.Need-enum_known-a-in-LeftPlus-1
 enum_known_a_3 c = search rules
 
-size_requires_2 : tie.Need-size-requires-2
+size_requires_2 : tie.Need-size-requires-in-LeftPlus
 size_requires_2 c κs = search rules
 
-sum_requires_2 : tie.Need-sum-requires-2
+sum_requires_2 : tie.Need-sum-requires-in-LeftPlus
 sum_requires_2 c κs = search rules
 
-returns : tie.Need-returns
+returns : tie.Need-returns-in-Constant
 returns c = search (rules, value_constant, value_size, value_left)
 
-returns_2 : tie.Need-returns-2
+returns_2 : tie.Need-returns-in-SizePlus
 returns_2 c = search (rules, value_constant, value_size, value_left)
 
-returns_3 : tie.Need-returns-3
+returns_3 : tie.Need-returns-in-LeftPlus
 returns_3 c = search (rules, value_constant, value_size, value_left)
 
 pub value_spec : {M : Type 1} → statement M

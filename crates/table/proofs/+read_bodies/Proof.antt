@@ -22,8 +22,8 @@ abbrev read_bodies_below : ℕ → In 2 read-bodies-kinds.ps
 read_bodies_below t =
     and 2 read-bodies-kinds.ps (falls 2 read-bodies-kinds.ps ◌<◌ μ-read-bodies t) read-bodies.Pre
 
-pub +read-bodies-spec : {M : Type 1} → statement M
-+read-bodies-spec = close μ-read-bodies λ t. read-bodies-lts.spec (
+pub +read_bodies_spec : {M : Type 1} → statement M
++read_bodies_spec = close μ-read-bodies λ t. read-bodies-lts.spec (
   note-root-reads.Asked,
   note-root-reads.Learnt,
   read-tree-reads.Asked,

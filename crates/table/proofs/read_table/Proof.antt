@@ -8,40 +8,40 @@ use Rattle.table.proofs.read_table.Lts as lts
 use Rattle.decoded.proofs.write.put_count.Reads as put-count-reads
 use Rattle.table.proofs.read_bodies.Reads as read-bodies-reads
 
-returns : tie.Need-returns
+returns : tie.Need-returns-then-table-lt2
 returns c = search tables
 
-shared_slice_read_if2 : tie.Need-shared-slice-read-if2
+shared_slice_read_if2 : tie.Need-bounds-table-0
 shared_slice_read_if2 c = search rules
 
-returns_2 : tie.Need-returns-2
+returns_2 : tie.Need-returns-then-table-ne-TABLE_EDITION
 returns_2 c = search tables
 
-shared_slice_read_p : tie.Need-shared-slice-read-p
+shared_slice_read_p : tie.Need-bounds-table-1
 shared_slice_read_p c = search rules
 
-returns_3 : tie.Need-returns-3
+returns_3 : tie.Need-returns-then-p-gt-MOST_PROCEDURES
 returns_3 c = search tables
 
-put_count_requires : tie.Need-put-count-requires
+put_count_requires : tie.Need-put_count-requires
 put_count_requires c κs = search rules
 
-read_bodies_requires : tie.Need-read-bodies-requires
+read_bodies_requires : tie.Need-read_bodies-tree-requires
 read_bodies_requires c κs = search rules
 
-enum_known_tree : tie.Need-enum-known-tree
+enum_known_tree : tie.Need-enum_known-tree
 enum_known_tree c = search rules
 
-enum_known_tree_2 : tie.Need-enum-known-tree-2
+enum_known_tree_2 : tie.Need-enum_known-tree-in-Read-1
 enum_known_tree_2 c = search rules
 
-returns_4 : tie.Need-returns-4
+returns_4 : tie.Need-returns-then-end-table
 returns_4 c = search tables
 
-returns_5 : tie.Need-returns-5
+returns_5 : tie.Need-returns-in-Refused
 returns_5 c = search tables
 
-returns_6 : tie.Need-returns-6
+returns_6 : tie.Need-returns-else-end-table
 returns_6 c = search tables
 
 pub read_table_spec : {M : Type 1} → statement M

@@ -23,8 +23,8 @@ abbrev put_decimal_below : ℕ → In 1 put-decimal-kinds.ps
 put_decimal_below t =
     and 1 put-decimal-kinds.ps (falls 1 put-decimal-kinds.ps ◌<◌ μ-put-decimal t) put-decimal.Pre
 
-pub +put-decimal-spec : {M : Type 1} → statement M
-+put-decimal-spec = close μ-put-decimal λ t. put-decimal-lts.spec (
+pub +put_decimal_spec : {M : Type 1} → statement M
++put_decimal_spec = close μ-put-decimal λ t. put-decimal-lts.spec (
   count-decimal-reads.Asked,
   count-decimal-reads.Learnt,
   put_reads.Asked,

@@ -6,10 +6,10 @@ use Rattle.text.proofs.DecimalText.{Counted, counts}
 use Rattle.text.proofs.count_decimal.Statement.{statement}
 use Rattle.text.proofs.count_decimal.Tie as tie
 
-abbrev invariant_loop : tie.invariant_loop
+abbrev invariant_loop : tie.invariant-loop-rest
 invariant_loop at number place₀ rest₀ place rest = Counted (place_after at (length (decimal number))) place rest
 
-abbrev decreases_loop : tie.decreases_loop
+abbrev decreases_loop : tie.decreases-loop-rest
 decreases_loop at number place₀ rest₀ place rest = rest
 
 pub count_decimal_spec : {M : Type 1} → statement M

@@ -25,8 +25,8 @@ abbrev note_widths_below : ℕ → In 2 note-widths-kinds.ps
 note_widths_below t =
     and 2 note-widths-kinds.ps (falls 2 note-widths-kinds.ps ◌<◌ μ-note-widths t) note-widths.Pre
 
-pub +note-widths-spec : {M : Type 1} → statement M
-+note-widths-spec = close μ-note-widths λ t. note-widths-lts.spec (
+pub +note_widths_spec : {M : Type 1} → statement M
++note_widths_spec = close μ-note-widths λ t. note-widths-lts.spec (
   note-width-reads.Asked,
   note-width-reads.Learnt,
   parts-at-reads.Asked,

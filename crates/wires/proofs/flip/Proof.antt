@@ -5,10 +5,10 @@ use Rattle.wires.proofs.WireOperations.{Flipping, flipping}
 use Rattle.wires.proofs.flip.Statement.{statement}
 use Rattle.wires.proofs.flip.Tie as tie
 
-abbrev invariant_loop : tie.invariant_loop
+abbrev invariant_loop : tie.invariant-loop-i
 invariant_loop wire place byte bit after₀ i₀ after i = (i ≤ block_length) × Flipping after₀ byte bit i after
 
-abbrev decreases_loop : tie.decreases_loop
+abbrev decreases_loop : tie.decreases-loop-i
 decreases_loop wire place byte bit after₀ i₀ after i = block_length - i
 
 pub flip_spec : {M : Type 1} → statement M

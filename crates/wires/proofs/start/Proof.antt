@@ -5,10 +5,10 @@ use Rattle.wires.proofs.WireOperations.{Written, write_none, byte_fits, write_by
 use Rattle.wires.proofs.start.Statement.{statement}
 use Rattle.wires.proofs.start.Tie as tie
 
-abbrev invariant_loop : tie.invariant_loop
+abbrev invariant_loop : tie.invariant-loop-i
 invariant_loop «data» ancillas word bits₀ i₀ bits i = (i ≤ 8) × Written word i bits
 
-abbrev decreases_loop : tie.decreases_loop
+abbrev decreases_loop : tie.decreases-loop-i
 decreases_loop «data» ancillas word bits₀ i₀ bits i = 8 - i
 
 pub start_spec : {M : Type 1} → statement M

@@ -10,27 +10,27 @@ use Rattle.decoded.proofs.WordsOfARecord.{storing_more, storing_done}
 use Rattle.decoded.proofs.write.put_numbers.Statement.{statement}
 use Rattle.decoded.proofs.write.put_numbers.Tie as tie
 
-abbrev invariant_loop : tie.invariant_loop
+abbrev invariant_loop : tie.invariant-loop-left
 invariant_loop table at count program₀ place from₀ to₀ left₀ program from to left =
     (to + left ≤ program_length) × (from + 3 * left < 2 ^ 64) × (sets program₀ to₀ (words_from left₀ table from₀) ≡ sets program to (words_from left table from))
 
-abbrev decreases_loop : tie.decreases_loop
+abbrev decreases_loop : tie.decreases-loop-left
 decreases_loop table at count program₀ place from₀ to₀ left₀ program from to left = left
 
-loop_holds : tie.Need-loop-init invariant_loop decreases_loop
+loop_holds : tie.Need-loop-left-init invariant_loop decreases_loop
 loop_holds c = (omega arith, omega arith, refl)
 
-loop_again : tie.Need-loop-preserved invariant_loop decreases_loop
+loop_again : tie.Need-loop-left-preserved invariant_loop decreases_loop
 loop_again c =
     let begun = c.before.before in
-    let inv = begun.loop.invariant in (
+    let inv = begun.loop-left.invariant in (
       omega arith,
       omega arith,
-      inv.2 ∙ storing_more _ begun.loop.program _ _ begun.loop.left _ c.before.loop-test.true c.written-word.ensures,
+      inv.2 ∙ storing_more _ begun.loop-left.program _ _ begun.loop-left.left _ c.before.loop-left-test.true c.written_word.ensures,
     )
 
 returns : tie.Need-returns invariant_loop decreases_loop
-returns c = storing_done _ c.before.loop.program _ c.before.loop.to c.before.loop.left c.loop-test.false ∙ sym c.before.loop.invariant.2
+returns c = storing_done _ c.before.loop-left.program _ c.before.loop-left.to c.before.loop-left.left c.loop-left-test.false ∙ sym c.before.loop-left.invariant.2
 
 pub put_numbers_spec : {M : Type 1} → statement M
 put_numbers_spec = tie.close (tie.spec

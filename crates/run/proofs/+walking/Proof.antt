@@ -9,10 +9,10 @@ use Rattle.run.specs.RunOnWords.{walked}
 use Rattle.run.proofs.WalkOfAWord.{calling, walking}
 use Rattle.run.proofs.call.Reads as call
 use Rattle.run.proofs.call.Kinds as call-kinds
-use Rattle.run.proofs.+call_walk.Lts-call as call-lts
+use Rattle.run.proofs.+walking.Lts-call as call-lts
 use Rattle.run.proofs.walk.Reads as walk
 use Rattle.run.proofs.walk.Kinds as walk-kinds
-use Rattle.run.proofs.+call_walk.Lts-walk as walk-lts
+use Rattle.run.proofs.+walking.Lts-walk as walk-lts
 use Rattle.run.proofs.flip.Reads as flip-reads
 use Rattle.run.proofs.taken.Reads as taken-reads
 use Rattle.step.proofs.chosen.Reads as chosen-reads
@@ -21,8 +21,8 @@ use Rattle.step.proofs.remaining.Reads as remaining-reads
 use Rattle.decoded.proofs.root.Reads as root-reads
 use Rattle.decoded.proofs.step_at.Reads as step-at-reads
 use Rattle.step.proofs.touched.Reads as touched-reads
-use Rattle.run.proofs.+call_walk.{statement}
-use Rattle.run.proofs.+call_walk.Tie.{close}
+use Rattle.run.proofs.+walking.{statement}
+use Rattle.run.proofs.+walking.Tie.{close}
 
 abbrev μ-call : Measures 1 call-kinds.ps ℕ
 μ-call κs a = a.1.1.1.0 * 256
@@ -50,8 +50,8 @@ walk_Inv_loop program i depth list fuel word at₀ left₀ current₀ at left cu
 abbrev walk_μ_loop : walk-lts.decreases_loop
 walk_μ_loop program i depth list fuel word at₀ left₀ current₀ at left current = left
 
-pub +call-walk-spec : {M : Type 1} → statement M
-+call-walk-spec = close μ-call μ-walk (λ t. call-lts.spec (
+pub +walking_spec : {M : Type 1} → statement M
++walking_spec = close μ-call μ-walk (λ t. call-lts.spec (
   procedures-reads.Asked,
   procedures-reads.Learnt,
   root-reads.Asked,

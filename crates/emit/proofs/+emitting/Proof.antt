@@ -10,34 +10,34 @@ use borrow.Fn.Kinds.{In}
 use borrow.Fn.PlainCycle.{Measures, is, falls, and}
 use Rattle.emit.proofs.emit_bodies.Reads as emit-bodies
 use Rattle.emit.proofs.emit_bodies.Kinds as emit-bodies-kinds
-use Rattle.emit.proofs.+emit_bodies_emit_body_emit_body_left_emit_body_right_emit_call_emit_inner_emit_left_emit_rest_emit_right_emit_whole.Lts-emit_bodies as emit-bodies-lts
+use Rattle.emit.proofs.+emitting.Lts-emit_bodies as emit-bodies-lts
 use Rattle.emit.proofs.emit_body.Reads as emit-body
 use Rattle.emit.proofs.emit_body.Kinds as emit-body-kinds
-use Rattle.emit.proofs.+emit_bodies_emit_body_emit_body_left_emit_body_right_emit_call_emit_inner_emit_left_emit_rest_emit_right_emit_whole.Lts-emit_body as emit-body-lts
+use Rattle.emit.proofs.+emitting.Lts-emit_body as emit-body-lts
 use Rattle.emit.proofs.emit_body_left.Reads as emit-body-left
 use Rattle.emit.proofs.emit_body_left.Kinds as emit-body-left-kinds
-use Rattle.emit.proofs.+emit_bodies_emit_body_emit_body_left_emit_body_right_emit_call_emit_inner_emit_left_emit_rest_emit_right_emit_whole.Lts-emit_body_left as emit-body-left-lts
+use Rattle.emit.proofs.+emitting.Lts-emit_body_left as emit-body-left-lts
 use Rattle.emit.proofs.emit_body_right.Reads as emit-body-right
 use Rattle.emit.proofs.emit_body_right.Kinds as emit-body-right-kinds
-use Rattle.emit.proofs.+emit_bodies_emit_body_emit_body_left_emit_body_right_emit_call_emit_inner_emit_left_emit_rest_emit_right_emit_whole.Lts-emit_body_right as emit-body-right-lts
+use Rattle.emit.proofs.+emitting.Lts-emit_body_right as emit-body-right-lts
 use Rattle.emit.proofs.emit_call.Reads as emit-call
 use Rattle.emit.proofs.emit_call.Kinds as emit-call-kinds
-use Rattle.emit.proofs.+emit_bodies_emit_body_emit_body_left_emit_body_right_emit_call_emit_inner_emit_left_emit_rest_emit_right_emit_whole.Lts-emit_call as emit-call-lts
+use Rattle.emit.proofs.+emitting.Lts-emit_call as emit-call-lts
 use Rattle.emit.proofs.emit_inner.Reads as emit-inner
 use Rattle.emit.proofs.emit_inner.Kinds as emit-inner-kinds
-use Rattle.emit.proofs.+emit_bodies_emit_body_emit_body_left_emit_body_right_emit_call_emit_inner_emit_left_emit_rest_emit_right_emit_whole.Lts-emit_inner as emit-inner-lts
+use Rattle.emit.proofs.+emitting.Lts-emit_inner as emit-inner-lts
 use Rattle.emit.proofs.emit_left.Reads as emit-left
 use Rattle.emit.proofs.emit_left.Kinds as emit-left-kinds
-use Rattle.emit.proofs.+emit_bodies_emit_body_emit_body_left_emit_body_right_emit_call_emit_inner_emit_left_emit_rest_emit_right_emit_whole.Lts-emit_left as emit-left-lts
+use Rattle.emit.proofs.+emitting.Lts-emit_left as emit-left-lts
 use Rattle.emit.proofs.emit_rest.Reads as emit-rest
 use Rattle.emit.proofs.emit_rest.Kinds as emit-rest-kinds
-use Rattle.emit.proofs.+emit_bodies_emit_body_emit_body_left_emit_body_right_emit_call_emit_inner_emit_left_emit_rest_emit_right_emit_whole.Lts-emit_rest as emit-rest-lts
+use Rattle.emit.proofs.+emitting.Lts-emit_rest as emit-rest-lts
 use Rattle.emit.proofs.emit_right.Reads as emit-right
 use Rattle.emit.proofs.emit_right.Kinds as emit-right-kinds
-use Rattle.emit.proofs.+emit_bodies_emit_body_emit_body_left_emit_body_right_emit_call_emit_inner_emit_left_emit_rest_emit_right_emit_whole.Lts-emit_right as emit-right-lts
+use Rattle.emit.proofs.+emitting.Lts-emit_right as emit-right-lts
 use Rattle.emit.proofs.emit_whole.Reads as emit-whole
 use Rattle.emit.proofs.emit_whole.Kinds as emit-whole-kinds
-use Rattle.emit.proofs.+emit_bodies_emit_body_emit_body_left_emit_body_right_emit_call_emit_inner_emit_left_emit_rest_emit_right_emit_whole.Lts-emit_whole as emit-whole-lts
+use Rattle.emit.proofs.+emitting.Lts-emit_whole as emit-whole-lts
 use Rattle.controls.proofs.under.Reads as under-reads
 use Rattle.controls.proofs.with_control.Reads as with-control-reads
 use Rattle.emit.proofs.body_depth.Reads as body-depth-reads
@@ -62,10 +62,10 @@ use Rattle.decoded.proofs.root.Reads as root-reads
 use Rattle.decoded.proofs.step_at.Reads as step-at-reads
 use Rattle.step.proofs.touched.Reads as touched-reads
 use Rattle.decoded.proofs.is_wide.Reads as is-wide-reads
-use Rattle.emit.proofs.+emit_bodies_emit_body_emit_body_left_emit_body_right_emit_call_emit_inner_emit_left_emit_rest_emit_right_emit_whole.{
+use Rattle.emit.proofs.+emitting.{
   statement,
 }
-use Rattle.emit.proofs.+emit_bodies_emit_body_emit_body_left_emit_body_right_emit_call_emit_inner_emit_left_emit_rest_emit_right_emit_whole.Tie.{
+use Rattle.emit.proofs.+emitting.Tie.{
   close,
 }
 
@@ -761,9 +761,9 @@ emit_whole_meets t = emit-whole-lts.spec (
     (λ c. search wholes)
     (λ c. search wholes)
 
-pub +emit-bodies-emit-body-emit-body-left-emit-body-right-emit-call-emit-inner-emit-left-emit-rest-emit-right-emit-whole-spec :
+pub +emitting_spec :
     {M : Type 1} → statement M
-+emit-bodies-emit-body-emit-body-left-emit-body-right-emit-call-emit-inner-emit-left-emit-rest-emit-right-emit-whole-spec =
++emitting_spec =
     close
     μ-emit-bodies
     μ-emit-body

@@ -5,21 +5,21 @@ use borrow.Fn.Kinds.{In}
 use borrow.Fn.PlainCycle.{Measures, is, falls, and}
 use Rattle.table.proofs.read_children.Reads as read-children
 use Rattle.table.proofs.read_children.Kinds as read-children-kinds
-use Rattle.table.proofs.+read_children_read_many_read_tree.Lts-read_children as read-children-lts
+use Rattle.table.proofs.+reading.Lts-read_children as read-children-lts
 use Rattle.table.proofs.read_many.Reads as read-many
 use Rattle.table.proofs.read_many.Kinds as read-many-kinds
-use Rattle.table.proofs.+read_children_read_many_read_tree.Lts-read_many as read-many-lts
+use Rattle.table.proofs.+reading.Lts-read_many as read-many-lts
 use Rattle.table.proofs.read_tree.Reads as read-tree
 use Rattle.table.proofs.read_tree.Kinds as read-tree-kinds
-use Rattle.table.proofs.+read_children_read_many_read_tree.Lts-read_tree as read-tree-lts
+use Rattle.table.proofs.+reading.Lts-read_tree as read-tree-lts
 use Rattle.decoded.proofs.write.put_record.Reads as put-record-reads
 use Rattle.decoded.proofs.write.note_end.Reads as note-end-reads
 use Rattle.table.proofs.parts.Reads as parts-reads
 use Rattle.table.proofs.read_contents.Reads as read-contents-reads
 use Rattle.table.proofs.refusal.Reads as refusal-reads
 use Rattle.table.proofs.wanted.Reads as wanted-reads
-use Rattle.table.proofs.+read_children_read_many_read_tree.{statement}
-use Rattle.table.proofs.+read_children_read_many_read_tree.Tie.{close}
+use Rattle.table.proofs.+reading.{statement}
+use Rattle.table.proofs.+reading.Tie.{close}
 
 abbrev μ-read-children : Measures 2 read-children-kinds.ps ℕ
 μ-read-children κs a = a.1.1.0 * 1024 + 512
@@ -56,8 +56,8 @@ abbrev read_tree_below : ℕ → In 2 read-tree-kinds.ps
 read_tree_below t =
     and 2 read-tree-kinds.ps (falls 2 read-tree-kinds.ps ◌<◌ μ-read-tree t) read-tree.Pre
 
-pub +read-children-read-many-read-tree-spec : {M : Type 1} → statement M
-+read-children-read-many-read-tree-spec =
+pub +reading_spec : {M : Type 1} → statement M
++reading_spec =
     close μ-read-children μ-read-many μ-read-tree (λ t. read-children-lts.spec (
       parts-reads.Asked,
       parts-reads.Learnt,
@@ -88,10 +88,10 @@ pub +read-children-read-many-read-tree-spec : {M : Type 1} → statement M
     let second = c.before.before.before.before.before in
     let first = second.before.before.before.before.before in
     let counted = first.before.before.before in
-    children_done _ _ _ _ _ _ _ _ counted.before.parts.ensures first.read-many.ensures
-    _ _ second.before.before.before.tree.given.1
-    _ _ _ counted.parts2.ensures second.read-many2.ensures
-    _ _ _ c.before.before.before.tree2.given.1 c.note-end2.ensures))
+    children_done _ _ _ _ _ _ _ _ counted.before.parts-conditions.ensures first.read-many.ensures
+    _ _ second.before.before.before.tree-1.given.1
+    _ _ _ counted.parts-statements.ensures second.read_many-tree-2.ensures
+    _ _ _ c.before.before.before.tree-in-Read-tree-2-1.given.1 c.note_end-2.ensures))
     (λ t. read-many-lts.spec (
       read_tree_below t,
       read-tree.Post,
