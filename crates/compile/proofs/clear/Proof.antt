@@ -28,15 +28,15 @@ loop_less c = omega arith
 
 loop_again : tie.Need-loop-preserved invariant_loop decreases_loop
 loop_again c =
-    let at_loop = c.before in
+    let at_loop = c in
     let i = at_loop.loop.i in (
       omega arith,
-      ap (λ (l : List ℕ). set l i 0) at_loop.loop.invariant.1 ∙ fill_more i 0 at_loop.before.args.workspace.now (omega arith),
+      ap (λ (l : List ℕ). set l i 0) at_loop.loop.invariant.1 ∙ fill_more i 0 at_loop.args.workspace.now (omega arith),
       length-set at_loop.loop.workspace i 0 ∙ at_loop.loop.invariant.2,
     )
 
 same_length_lem : tie.Need-same-length invariant_loop decreases_loop
-same_length_lem c = c.before.loop.invariant.2
+same_length_lem c = c.loop.invariant.2
 
 done : (w l : List ℕ) (n : ℕ) → w ≡ replicate n 0 ++ drop n l → n ≡ length l → w ≡ replicate (length l) 0
 done w l n e h =
@@ -47,8 +47,8 @@ done w l n e h =
 
 returns : tie.Need-returns invariant_loop decreases_loop
 returns c =
-    let l = c.before in
-    done l.loop.workspace l.before.args.workspace.now l.loop.i c.before.loop.invariant.1 (omega arith)
+    let l = c in
+    done l.loop.workspace l.args.workspace.now l.loop.i c.loop.invariant.1 (omega arith)
 
 pub clear_spec : {M : Type 1} → statement M
 clear_spec =

@@ -11,6 +11,6 @@ emit_front_spec = tie.close (tie.spec
     (λ c. search delivering)
     (λ c κs. search delivering)
     (λ c. search delivering)
-    (λ c. let at_call = c.before.before in
-    let args = at_call.before.before.before.before.args in
+    (λ c. let at_call = c in
+    let args = at_call.args in
     front_emitted args.end args.text.now at_call.emit-main.new.1.1.0 _ (search delivering) (search delivering) (search delivering)))

@@ -26,7 +26,7 @@ put_members_spec = tie.close (tie.spec
     (λ c. search storing)
     (λ c κs. search storing)
     (λ c. search storing)
-    (λ c. storing_less _ _ c.before.before.before.before.loop-rest.invariant.1 c.before.before.before.loop-rest-test.true c.without_lowest-rest.ensures)
+    (λ c. storing_less _ _ c.loop-rest.invariant.1 c.loop-rest-test.true c.without_lowest-rest.ensures)
     (λ c. search storing)
     (λ c. search storing)
     (λ c. search storing))

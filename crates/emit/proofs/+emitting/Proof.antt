@@ -188,8 +188,8 @@ emit_bodies_meets t = emit-bodies-lts.spec (
     (λ c κs. search rules)
     (λ c κs. search rules)
     (λ c κs. search rules)
-    (λ c κs. let d = c.before.before.before in
-    search (rules, seek_falls _ _ _ _ _ _ d.before.before.before.seek.ensures d.before.before.if2.true d.precedence.ensures))
+    (λ c κs. let d = c in
+    search (rules, seek_falls _ _ _ _ _ _ d.seek.ensures d.if2.true d.precedence.ensures))
     (λ c. search rules)
     (λ c. search chaining)
     (λ c. search chaining)
@@ -459,18 +459,18 @@ emit_left_meets t = emit-left-lts.spec (
     (λ c κs. search rules)
     (λ c κs. search (
       rules,
-      c.before.before.before.before.with-control2.ensures,
-      c.before.before.before.before.before.before.before.emit-left4.ensures,
-      c.before.before.before.before.before.before.before.before.before.before.before.before.with-control.ensures,
-      c.before.before.before.before.before.before.before.before.before.before.before.before.before.touched2.ensures.0,
-      c.before.before.before.before.before.before.before.before.before.before.before.before.before.touched2.ensures.1,
-      c.before.before.before.before.before.before.before.before.before.before.before.before.before.before.before.before.found4.given,
-      c.before.before.before.before.before.before.before.before.before.before.before.before.before.before.before.before.before.before.step-at.ensures,
-      c.before.before.before.before.before.before.before.before.before.before.before.before.before.before.before.before.before.before.before.if2.false,
-      c.before.before.before.before.before.before.before.before.before.before.before.before.before.before.before.before.before.before.before.before.if1.false,
-      c.before.before.before.before.before.before.before.before.before.before.before.before.before.before.before.before.before.before.before.before.before.status.ensures,
-      c.before.before.before.before.before.before.before.before.before.before.before.before.before.before.before.before.before.before.before.before.before.before.before.before.ranges.depth,
-      c.before.before.before.before.before.before.before.before.before.before.before.before.before.before.before.before.before.before.before.before.before.before.before.before.requires.0,
+      c.with-control2.ensures,
+      c.emit-left4.ensures,
+      c.with-control.ensures,
+      c.touched2.ensures.0,
+      c.touched2.ensures.1,
+      c.found4.given,
+      c.step-at.ensures,
+      c.if2.false,
+      c.if1.false,
+      c.status.ensures,
+      c.ranges.depth,
+      c.requires.0,
     ))
     (λ c. search rules)
     (λ c. search rules)
@@ -603,20 +603,20 @@ emit_right_meets t = emit-right-lts.spec (
     (λ c κs. search rules)
     (λ c κs. search (
       rules,
-      c.before.before.before.before.with-control2.ensures,
-      c.before.before.before.before.before.before.before.emit-right4.ensures,
-      c.before.before.before.before.before.before.before.before.before.before.before.before.with-control.ensures,
-      c.before.before.before.before.before.before.before.before.before.before.before.before.before.touched.ensures.0,
-      c.before.before.before.before.before.before.before.before.before.before.before.before.before.touched.ensures.1,
-      c.before.before.before.before.before.before.before.before.before.before.before.before.before.before.before.before.found3.given,
-      c.before.before.before.before.before.before.before.before.before.before.before.before.before.before.before.before.before.before.step-at.ensures,
-      c.before.before.before.before.before.before.before.before.before.before.before.before.before.before.before.before.before.before.before.if3.false,
-      c.before.before.before.before.before.before.before.before.before.before.before.before.before.before.before.before.before.before.before.before.is_IsWide.ensures,
-      c.before.before.before.before.before.before.before.before.before.before.before.before.before.before.before.before.before.before.before.before.before.if2.false,
-      c.before.before.before.before.before.before.before.before.before.before.before.before.before.before.before.before.before.before.before.before.before.before.if1.false,
-      c.before.before.before.before.before.before.before.before.before.before.before.before.before.before.before.before.before.before.before.before.before.before.before.status.ensures,
-      c.before.before.before.before.before.before.before.before.before.before.before.before.before.before.before.before.before.before.before.before.before.before.before.before.before.before.ranges.depth,
-      c.before.before.before.before.before.before.before.before.before.before.before.before.before.before.before.before.before.before.before.before.before.before.before.before.before.before.requires.0,
+      c.with-control2.ensures,
+      c.emit-right4.ensures,
+      c.with-control.ensures,
+      c.touched.ensures.0,
+      c.touched.ensures.1,
+      c.found3.given,
+      c.step-at.ensures,
+      c.if3.false,
+      c.is_IsWide.ensures,
+      c.if2.false,
+      c.if1.false,
+      c.status.ensures,
+      c.ranges.depth,
+      c.requires.0,
     ))
     (λ c. search rules)
     (λ c. search rules)
@@ -635,10 +635,10 @@ emit_right_meets t = emit-right-lts.spec (
     (λ c. search rules)
     (λ c. search rights)
     (λ c. search rules)
-    (λ c. let e = c.before.before.before.before.before.before.before in
-    let d = e.before.before.before.before.before.before.before.before in
-    right_branches d.before.before.before.before.before.before.before.before.before.if2.false d.before.before.before.before.before.before.step-at.ensures (search (rules, d.before.before.before.before.found3.given)) d.before.touched.ensures.0 d.before.touched.ensures.1
-    d.with-control.ensures e.before.before.before.emit-right4.ensures e.with-control2.ensures c.before.before.emit-right5.ensures)
+    (λ c. let e = c in
+    let d = e in
+    right_branches d.if2.false d.step-at.ensures (search (rules, d.found3.given)) d.touched.ensures.0 d.touched.ensures.1
+    d.with-control.ensures e.emit-right4.ensures e.with-control2.ensures c.emit-right5.ensures)
     (λ c. search rules)
     (λ c. search rights)
     (λ c. search rights)
@@ -719,18 +719,18 @@ emit_whole_meets t = emit-whole-lts.spec (
     (λ c κs. search rules)
     (λ c κs. search (
       rules,
-      c.before.before.before.before.with-control2.ensures,
-      c.before.before.before.before.before.before.before.emit-whole4.ensures,
-      c.before.before.before.before.before.before.before.before.before.before.before.before.with-control.ensures,
-      c.before.before.before.before.before.before.before.before.before.before.before.before.before.touched2.ensures.0,
-      c.before.before.before.before.before.before.before.before.before.before.before.before.before.touched2.ensures.1,
-      c.before.before.before.before.before.before.before.before.before.before.before.before.before.before.before.before.found4.given,
-      c.before.before.before.before.before.before.before.before.before.before.before.before.before.before.before.before.before.before.step-at.ensures,
-      c.before.before.before.before.before.before.before.before.before.before.before.before.before.before.before.before.before.before.before.if2.false,
-      c.before.before.before.before.before.before.before.before.before.before.before.before.before.before.before.before.before.before.before.before.if1.false,
-      c.before.before.before.before.before.before.before.before.before.before.before.before.before.before.before.before.before.before.before.before.before.status.ensures,
-      c.before.before.before.before.before.before.before.before.before.before.before.before.before.before.before.before.before.before.before.before.before.before.before.before.ranges.depth,
-      c.before.before.before.before.before.before.before.before.before.before.before.before.before.before.before.before.before.before.before.before.before.before.before.before.requires.0,
+      c.with-control2.ensures,
+      c.emit-whole4.ensures,
+      c.with-control.ensures,
+      c.touched2.ensures.0,
+      c.touched2.ensures.1,
+      c.found4.given,
+      c.step-at.ensures,
+      c.if2.false,
+      c.if1.false,
+      c.status.ensures,
+      c.ranges.depth,
+      c.requires.0,
     ))
     (λ c. search rules)
     (λ c. search rules)

@@ -28,10 +28,10 @@ emit_back_spec = tie.close (tie.spec
     (λ c. search following)
     (λ c κs. search following)
     (λ c. search following)
-    (λ c. let swapped = c.before.before in
-    let in_loop = swapped.before.before.before.before.before in
-    let inv = in_loop.before.loop-i.invariant in
-    let i = in_loop.before.loop-i.i in
+    (λ c. let swapped = c in
+    let in_loop = swapped in
+    let inv = in_loop.loop-i.invariant in
+    let i = in_loop.loop-i.i in
     let same : i - 1 + 1 ≡ i = omega (arith, in_loop.loop-i-test.true) in (
       omega (arith, inv.0),
       search following,

@@ -25,10 +25,10 @@ emit_entries_back_spec = tie.close (tie.spec
     (λ c. search entering)
     (λ c κs. search entering)
     (λ c. search entering)
-    (λ c. let called = c.before.before in
-    let in_loop = called.before.before.before in
-    let inv = in_loop.before.loop-a.invariant in
-    let a = in_loop.before.loop-a.a in
+    (λ c. let called = c in
+    let in_loop = called in
+    let inv = in_loop.loop-a.invariant in
+    let a = in_loop.loop-a.a in
     let same : a - 1 + 1 ≡ a = omega (arith, in_loop.loop-a-test.true) in (
       omega (arith, in_loop.loop-a-test.true),
       omega (arith, inv.1),

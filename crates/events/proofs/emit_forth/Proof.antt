@@ -28,9 +28,9 @@ emit_forth_spec = tie.close (tie.spec
     (λ c κs. search following)
     (λ c. search following)
     (λ c. search following)
-    (λ c. let swapped = c.before.before in
-    let in_loop = swapped.before.before.before.before.before in
-    let inv = in_loop.before.loop-i.invariant in (
+    (λ c. let swapped = c in
+    let in_loop = swapped in
+    let inv = in_loop.loop-i.invariant in (
       omega (arith, in_loop.loop-i-test.true),
       search following,
       forth_next _ _ _ _ _ _ _ _ swapped.emit_swap.ensures in_loop.loop-i-test.true inv.2,

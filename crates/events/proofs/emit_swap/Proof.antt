@@ -15,13 +15,13 @@ emit_swap_spec = tie.close (tie.spec
     (λ c. search placing)
     (λ c. search (
       placing,
-      c.before.before.put_swap.ensures,
-      c.before.before.before.before.if-status-eq0.true,
-      c.before.before.before.before.before.status-2.ensures,
-      c.before.before.before.before.before.before.before.with_gate.ensures,
-      c.before.before.before.before.before.before.before.before.swap_length.ensures,
-      c.before.before.before.before.before.before.before.before.before.before.used-at.ensures,
-      c.before.before.before.before.before.before.before.before.before.before.before.before.if-status-ne0.false,
-      c.before.before.before.before.before.before.before.before.before.before.before.before.before.status.ensures,
+      c.put_swap.ensures,
+      c.if-status-eq0.true,
+      c.status-2.ensures,
+      c.with_gate.ensures,
+      c.swap_length.ensures,
+      c.used-at.ensures,
+      c.if-status-ne0.false,
+      c.status.ensures,
     ))
     (λ c. search placing))

@@ -21,11 +21,11 @@ take_spec = tie.close (tie.spec
     (λ c. search takings)
     (λ c. search (
       takings,
-      c.before.before.larger.ensures,
-      c.before.before.before.highest.ensures,
-      c.before.before.before.before.before.before.before.fill_slot.ensures,
-      c.before.before.before.before.before.before.before.before.before.if-next-gt-LAST_WIRE.false,
-      c.before.before.before.before.before.before.before.before.before.before.next-next.ensures,
-      c.before.before.before.before.before.before.before.before.before.before.before.before.if-status-ne0.false,
-      c.before.before.before.before.before.before.before.before.before.before.before.before.before.status.ensures,
+      c.larger.ensures,
+      c.highest.ensures,
+      c.fill_slot.ensures,
+      c.if-next-gt-LAST_WIRE.false,
+      c.next-next.ensures,
+      c.if-status-ne0.false,
+      c.status.ensures,
     )))

@@ -11,8 +11,8 @@ pub list_read_spec : {M : Type 1} → statement M
 list_read_spec = tie.close (tie.spec
     (λ c. search fronts)
     (λ c κs. search reads)
-    (λ c. let enough : most_input ≤ length c.before.before.before.before.before.args.buffer.now = omega arith in
+    (λ c. let enough : most_input ≤ length c.args.buffer.now = omega arith in
     (search (reads, enough), (search (reads, enough), search reads)))
     (λ c κs. search reads)
-    (λ c. let enough : most_input ≤ length c.before.before.before.before.args.buffer.now = omega arith in
+    (λ c. let enough : most_input ≤ length c.args.buffer.now = omega arith in
     (search (reads, enough), (search (reads, enough), search reads))))

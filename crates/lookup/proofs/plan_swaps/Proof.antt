@@ -41,8 +41,8 @@ plan_swaps_spec = tie.close (tie.spec
       search planning,
       search planning,
       search planning,
-      built_touched _ _ (omega arith) c.before.build.ensures.1,
-      plan_starts _ _ _ _ _ _ _ (omega arith) refl refl refl c.before.build.ensures.0,
+      built_touched _ _ (omega arith) c.build.ensures.1,
+      plan_starts _ _ _ _ _ _ _ (omega arith) refl refl refl c.build.ensures.0,
     ))
     (λ c. search rules)
     (λ c κs. search rules)
@@ -54,10 +54,10 @@ plan_swaps_spec = tie.close (tie.spec
     (λ c κs. search rules)
     (λ c. search planning)
     (λ c. search planning)
-    (λ c. let planned = c.before.before.before.before.before in
-    let asked = planned.before.before.before in
-    let in_loop = asked.before.before.before.before in
-    let inv = in_loop.before.loop-i.invariant in
+    (λ c. let planned = c in
+    let asked = planned in
+    let in_loop = asked in
+    let inv = in_loop.loop-i.invariant in
     let less = in_loop.loop-i-test.true in (
       search planning,
       search planning,
@@ -67,10 +67,10 @@ plan_swaps_spec = tie.close (tie.spec
       search planning,
       search planning,
       search planning,
-      rest_next _ _ _ _ inv.8 c.before.without_lowest-wires.ensures,
+      rest_next _ _ _ _ inv.8 c.without_lowest-wires.ensures,
       rest_next _ _ _ _ inv.9 c.without_lowest-qubits.ensures,
       touched_next _ _ _ _ _ _ _ _ _ _ less inv.2 inv.1 inv.4 inv.10 planned.plan_swap-len.ensures.1.1 planned.plan_swap-len.ensures.1.0,
       plan_next _ _ _ _ _ _ _ _ _ _ _ _ _ _ _ inv.0 less inv.2 (rest_first _ _ _ _ inv.8 asked.next_member-in-loop-i.ensures)
-          (rest_first _ _ _ _ inv.9 asked.before.next_member.ensures) planned.plan_swap-len.ensures.0 inv.11,
+          (rest_first _ _ _ _ inv.9 asked.next_member.ensures) planned.plan_swap-len.ensures.0 inv.11,
     ))
     (λ c. (search planning, (search planning, search planning))))

@@ -13,5 +13,5 @@ permitted_spec =
     (λ c. search rules)
     (λ c. search maps)
     (λ c. search rules)
-    (λ c. record { fits = omega (arith, maps_fit c.before.before.args.kind) })
+    (λ c. record { fits = omega (arith, maps_fit c.args.kind) })
     (λ c. search maps))

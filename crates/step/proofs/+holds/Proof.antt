@@ -67,14 +67,14 @@ pub +holds_spec : {M : Type 1} → statement M
     (λ c. search testing)
     (λ c. search testing)
     (λ c. search testing)
-    (λ c. let b = c.before.before in
-    held_and _ _ _ _ _ b.before.before.before.before.before.if-depth-eq0.false b.before.before.before.before.step_at-step.ensures _ _ _
-    b.holds.ensures b.before.before.step-in-Both-1.given.1 c.before.if-holds.true _ c.holds-then-holds.ensures)
+    (λ c. let b = c in
+    held_and _ _ _ _ _ b.if-depth-eq0.false b.step_at-step.ensures _ _ _
+    b.holds.ensures b.in-Both.is c.if-holds.true _ c.holds-then-holds.ensures)
     (λ c. search testing)
     (λ c. search testing)
-    (λ c. let b = c.before.before in
-    held_or _ _ _ _ _ b.before.before.before.before.before.if-depth-eq0.false b.before.before.before.before.step_at-step.ensures _ _ _
-    b.holds-in-Either.ensures b.before.before.step-in-Either-1.given.1 c.before.if-holds-2.false _ c.holds-else-holds-2.ensures)
+    (λ c. let b = c in
+    held_or _ _ _ _ _ b.if-depth-eq0.false b.step_at-step.ensures _ _ _
+    b.holds-in-Either.ensures b.in-Either.is c.if-holds-2.false _ c.holds-else-holds-2.ensures)
     (λ c. search testing)
     (λ c. search testing)
     (λ c. search testing)

@@ -21,23 +21,23 @@ abbrev decreases_loop : tie.decreases-loop-left
 decreases_loop words at list left₀ k₀ rest₀ left k rest = left
 
 loop_holds : tie.Need-loop-left-init invariant_loop decreases_loop
-loop_holds c = (omega arith, removed_begins _ _ c.before.args.list _ c.removal_count-left.ensures)
+loop_holds c = (omega arith, removed_begins _ _ c.args.list _ c.removal_count-left.ensures)
 
 returns : tie.Need-returns-then-rest-eq0 invariant_loop decreases_loop
-returns c = removed_nothing _ _ _ _ _ _ c.before.before.loop-left.rest c.if-rest-eq0.true c.before.before.loop-left.invariant.1
+returns c = removed_nothing _ _ _ _ _ _ c.loop-left.rest c.if-rest-eq0.true c.loop-left.invariant.1
 
 loop_again : tie.Need-loop-left-preserved invariant_loop decreases_loop
 loop_again c =
-    let valued = c.before in
-    let at_loop = valued.before.before.before.before in
+    let valued = c in
+    let at_loop = valued in
     let fits : SFits w32 valued.value.result = search rules in (
       omega arith,
-      removed_more _ _ at_loop.loop-left.left _ _ at_loop.loop-left.rest _ _ _ valued.before.removal.ensures fits
-          valued.value.ensures c.remove-rest.ensures valued.before.before.before.loop-left-test.true ∙ at_loop.loop-left.invariant.1,
+      removed_more _ _ at_loop.loop-left.left _ _ at_loop.loop-left.rest _ _ _ valued.removal.ensures fits
+          valued.value.ensures c.remove-rest.ensures valued.loop-left-test.true ∙ at_loop.loop-left.invariant.1,
     )
 
 returns_2 : tie.Need-returns invariant_loop decreases_loop
-returns_2 c = removed_ends _ _ _ _ _ (members_of c.before.loop-left.rest) c.loop-left-test.false ∙ c.before.loop-left.invariant.1
+returns_2 c = removed_ends _ _ _ _ _ (members_of c.loop-left.rest) c.loop-left-test.false ∙ c.loop-left.invariant.1
 
 pub remaining_spec : {M : Type 1} → statement M
 remaining_spec =

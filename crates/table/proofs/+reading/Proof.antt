@@ -85,13 +85,13 @@ pub +reading_spec : {M : Type 1} → statement M
     (λ c. search trees)
     (λ c κs. search trees)
     (λ c.
-    let second = c.before.before.before.before.before in
-    let first = second.before.before.before.before.before in
-    let counted = first.before.before.before in
-    children_done _ _ _ _ _ _ _ _ counted.before.parts-conditions.ensures first.read-many.ensures
-    _ _ second.before.before.before.tree-1.given.1
+    let second = c in
+    let first = second in
+    let counted = first in
+    children_done _ _ _ _ _ _ _ _ counted.parts-conditions.ensures first.read_many-tree.ensures
+    _ _ second.in-Read.is
     _ _ _ counted.parts-statements.ensures second.read_many-tree-2.ensures
-    _ _ _ c.before.before.before.tree-in-Read-tree-2-1.given.1 c.note_end-2.ensures))
+    _ _ _ c.in-Read-tree.is c.note_end-2.ensures))
     (λ t. read-many-lts.spec (
       read_tree_below t,
       read-tree.Post,

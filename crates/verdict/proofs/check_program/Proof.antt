@@ -30,12 +30,12 @@ faults_requires c κs = search rules
 
 returns_3 : tie.Need-returns-3
 returns_3 c =
-    let faulty = c.before in
-    let narrow = faulty.before.before.before in
-    let wide = narrow.before in
-    let kept = wide.before.before.before in
-    let lacks = kept.before in
-    let filled = lacks.before.before.before in (
+    let faulty = c in
+    let narrow = faulty in
+    let wide = narrow in
+    let kept = wide in
+    let lacks = kept in
+    let filled = lacks in (
       checked_twelve _ _ _ filled.fill-reach.ensures _ lacks.any-lacks-removal.ensures kept.if1.false _ _ wide.any-too-wide.ensures
           narrow.if2.false _ faulty.faults.ensures c.if3.true,
       search checks,
@@ -43,12 +43,12 @@ returns_3 c =
 
 returns_4 : tie.Need-returns-4
 returns_4 c =
-    let faulty = c.before in
-    let narrow = faulty.before.before.before in
-    let wide = narrow.before in
-    let kept = wide.before.before.before in
-    let lacks = kept.before in
-    let filled = lacks.before.before.before in (
+    let faulty = c in
+    let narrow = faulty in
+    let wide = narrow in
+    let kept = wide in
+    let lacks = kept in
+    let filled = lacks in (
       checked_none _ _ _ filled.fill-reach.ensures _ lacks.any-lacks-removal.ensures kept.if1.false _ _ wide.any-too-wide.ensures
           narrow.if2.false _ faulty.faults.ensures c.if3.false,
       search checks,

@@ -37,12 +37,12 @@ loop_less c = search judging
 
 loop_again : tie.Need-loop-preserved invariant_loop decreases_loop
 loop_again c =
-    let counted = c.before.before in
-    let rooted = counted.before.before in
-    let at_loop = rooted.before.before.before in
-    let byte : at_loop.before.args.p < 256 = search rules in (
-      judged_more _ _ at_loop.loop.program _ _ at_loop.before.args.p _ _ at_loop.loop.invariant.1 byte rooted.root.ensures at_loop.loop.invariant.0
-          counted.note-widths.ensures c.before.if1.false,
+    let counted = c in
+    let rooted = counted in
+    let at_loop = rooted in
+    let byte : at_loop.args.p < 256 = search rules in (
+      judged_more _ _ at_loop.loop.program _ _ at_loop.args.p _ _ at_loop.loop.invariant.1 byte rooted.root.ensures at_loop.loop.invariant.0
+          counted.note-widths.ensures c.if1.false,
       search judging,
     )
 

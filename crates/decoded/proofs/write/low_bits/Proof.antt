@@ -6,8 +6,8 @@ use Rattle.decoded.proofs.write.low_bits.Tie as tie
 
 pub low_bits_spec : {M : Type 1} → statement M
 low_bits_spec = tie.close (tie.spec
-    (λ c. bits_far c.before.args.z (search rules) c.if-z-ltminus65536.true)
-    (λ c. bits_high c.before.before.args.z (search rules) c.if-z-gt65535.true)
-    (λ c. raised_fits c.before.before.args.z (search rules) c.before.if-z-ltminus65536.false c.if-z-gt65535.false)
-    (λ c. raised_cast c.before.before.args.z (search rules) c.before.if-z-ltminus65536.false c.if-z-gt65535.false)
-    (λ c. bits_raised c.before.before.args.z (search rules) c.before.if-z-ltminus65536.false c.if-z-gt65535.false))
+    (λ c. bits_far c.args.z (search rules) c.if-z-ltminus65536.true)
+    (λ c. bits_high c.args.z (search rules) c.if-z-gt65535.true)
+    (λ c. raised_fits c.args.z (search rules) c.if-z-ltminus65536.false c.if-z-gt65535.false)
+    (λ c. raised_cast c.args.z (search rules) c.if-z-ltminus65536.false c.if-z-gt65535.false)
+    (λ c. bits_raised c.args.z (search rules) c.if-z-ltminus65536.false c.if-z-gt65535.false))

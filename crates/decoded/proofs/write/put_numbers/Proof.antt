@@ -22,15 +22,15 @@ loop_holds c = (omega arith, omega arith, refl)
 
 loop_again : tie.Need-loop-left-preserved invariant_loop decreases_loop
 loop_again c =
-    let begun = c.before.before in
+    let begun = c in
     let inv = begun.loop-left.invariant in (
       omega arith,
       omega arith,
-      inv.2 ∙ storing_more _ begun.loop-left.program _ _ begun.loop-left.left _ c.before.loop-left-test.true c.written_word.ensures,
+      inv.2 ∙ storing_more _ begun.loop-left.program _ _ begun.loop-left.left _ c.loop-left-test.true c.written_word.ensures,
     )
 
 returns : tie.Need-returns invariant_loop decreases_loop
-returns c = storing_done _ c.before.loop-left.program _ c.before.loop-left.to c.before.loop-left.left c.loop-left-test.false ∙ sym c.before.loop-left.invariant.2
+returns c = storing_done _ c.loop-left.program _ c.loop-left.to c.loop-left.left c.loop-left-test.false ∙ sym c.loop-left.invariant.2
 
 pub put_numbers_spec : {M : Type 1} → statement M
 put_numbers_spec = tie.close (tie.spec
