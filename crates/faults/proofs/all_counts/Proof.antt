@@ -6,10 +6,10 @@ use Rattle.faults.specs.CallLengths.{counts_below}
 use Rattle.faults.proofs.all_counts.Statement.{statement}
 use Rattle.faults.proofs.all_counts.Tie as tie
 
-abbrev invariant_loop : tie.invariant_loop
+abbrev invariant_loop : tie.invariant-loop-f
 invariant_loop program p all₀ f₀ all f = (f ≤ p) × (all ≡ counts_below program f)
 
-abbrev decreases_loop : tie.decreases_loop
+abbrev decreases_loop : tie.decreases-loop-f
 decreases_loop program p all₀ f₀ all f = p - f
 
 pub all_counts_spec : {M : Type 1} → statement M

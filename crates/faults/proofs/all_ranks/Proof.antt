@@ -7,10 +7,10 @@ use Rattle.faults.specs.RowTable.{ranks_below}
 use Rattle.faults.proofs.all_ranks.Statement.{statement}
 use Rattle.faults.proofs.all_ranks.Tie as tie
 
-abbrev invariant_loop : tie.invariant_loop
+abbrev invariant_loop : tie.invariant-loop-f
 invariant_loop matrix p all₀ f₀ all f = (f ≤ body_count) × (all ≡ ranks_below matrix p f)
 
-abbrev decreases_loop : tie.decreases_loop
+abbrev decreases_loop : tie.decreases-loop-f
 decreases_loop matrix p all₀ f₀ all f = body_count - f
 
 pub all_ranks_spec : {M : Type 1} → statement M

@@ -6,10 +6,10 @@ use Rattle.faults.specs.RowTable.{filled}
 use Rattle.faults.proofs.fill.Statement.{statement}
 use Rattle.faults.proofs.fill.Tie as tie
 
-abbrev invariant_loop : tie.invariant_loop
+abbrev invariant_loop : tie.invariant-loop-m
 invariant_loop program n matrix known₀ ranks sums m₀ known m = (m ≤ n) × (known ≡ filled program ranks sums n m known₀)
 
-abbrev decreases_loop : tie.decreases_loop
+abbrev decreases_loop : tie.decreases-loop-m
 decreases_loop program n matrix known₀ ranks sums m₀ known m = n - m
 
 pub fill_spec : {M : Type 1} → statement M

@@ -6,10 +6,10 @@ use Rattle.faults.specs.RowTable.{filled_length}
 use Rattle.faults.proofs.fill_length.Statement.{statement}
 use Rattle.faults.proofs.fill_length.Tie as tie
 
-abbrev invariant_loop : tie.invariant_loop
+abbrev invariant_loop : tie.invariant-loop-k
 invariant_loop program m ranks known₀ highest k₀ known k = (k ≤ highest) × (known ≡ filled_length program ranks k m known₀)
 
-abbrev decreases_loop : tie.decreases_loop
+abbrev decreases_loop : tie.decreases-loop-k
 decreases_loop program m ranks known₀ highest k₀ known k = highest - k
 
 pub fill_length_spec : {M : Type 1} → statement M

@@ -6,10 +6,10 @@ use Rattle.faults.specs.RowTable.{filled_rank}
 use Rattle.faults.proofs.fill_rank.Statement.{statement}
 use Rattle.faults.proofs.fill_rank.Tie as tie
 
-abbrev invariant_loop : tie.invariant_loop
+abbrev invariant_loop : tie.invariant-loop-f
 invariant_loop program k m ranks known₀ p f₀ known f = (f ≤ p) × (known ≡ filled_rank program ranks f k m known₀)
 
-abbrev decreases_loop : tie.decreases_loop
+abbrev decreases_loop : tie.decreases-loop-f
 decreases_loop program k m ranks known₀ p f₀ known f = p - f
 
 pub fill_rank_spec : {M : Type 1} → statement M

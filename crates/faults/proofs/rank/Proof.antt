@@ -6,10 +6,10 @@ use Rattle.faults.specs.RowTable.{rank_below}
 use Rattle.faults.proofs.rank.Statement.{statement}
 use Rattle.faults.proofs.rank.Tie as tie
 
-abbrev invariant_loop : tie.invariant_loop
+abbrev invariant_loop : tie.invariant-loop-x
 invariant_loop matrix f p n₀ x₀ n x = (x ≤ p) × (n ≤ x) × (n ≡ rank_below matrix f x)
 
-abbrev decreases_loop : tie.decreases_loop
+abbrev decreases_loop : tie.decreases-loop-x
 decreases_loop matrix f p n₀ x₀ n x = p - x
 
 pub rank_spec : {M : Type 1} → statement M

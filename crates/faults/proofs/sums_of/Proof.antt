@@ -3,15 +3,15 @@ use Rattle.model.specs.Limits.{most_qubits}
 use Rattle.faults.proofs.RemovalCounts.{counting}
 use Prim.Native.Nat.{◌≤◌, ◌-◌}
 use mathlib.Core.Path.{◌≡◌}
-use mathlib.Core.Logic.{⊎_elim}
 use Rattle.faults.specs.CallLengths.{sums_below}
 use Rattle.faults.proofs.sums_of.Statement.{statement}
 use Rattle.faults.proofs.sums_of.Tie as tie
+use Rattle.faults.proofs.sums_of.Lts.{then-contains, else-contains}
 
-abbrev invariant_loop : tie.invariant_loop
+abbrev invariant_loop : tie.invariant-loop-j
 invariant_loop counts sums₀ j₀ sums j = (j ≤ most_qubits) × (sums ≡ sums_below counts j)
 
-abbrev decreases_loop : tie.decreases_loop
+abbrev decreases_loop : tie.decreases-loop-j
 decreases_loop counts sums₀ j₀ sums j = most_qubits - j
 
 pub sums_of_spec : {M : Type 1} → statement M
@@ -26,5 +26,5 @@ sums_of_spec =
     (λ c. search counting)
     (λ c. search counting)
     (λ c. search counting)
-    (λ c. ⊎_elim (λ w. search counting) (λ w. search counting) c.if1.branch)
+    (λ c. elim c.if-contains.branch [ then-contains w ↦ search counting | else-contains w ↦ search counting ])
     (λ c. search counting))

@@ -11,7 +11,7 @@ use Rattle.decoded.proofs.procedures.Reads as procedures-reads
 procedures_requires : tie.Need-procedures-requires
 procedures_requires c κs = search rules
 
-one_lacks_removal_requires : tie.Need-one-lacks-removal-requires
+one_lacks_removal_requires : tie.Need-one_lacks_removal-requires
 one_lacks_removal_requires c κs = search rules
 
 returns : tie.Need-returns

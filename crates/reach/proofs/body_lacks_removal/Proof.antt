@@ -11,7 +11,7 @@ use Rattle.decoded.proofs.root.Reads as root-reads
 root_requires : tie.Need-root-requires
 root_requires c κs = search rules
 
-lacks_removal_requires : tie.Need-lacks-removal-requires
+lacks_removal_requires : tie.Need-lacks_removal-requires
 lacks_removal_requires c κs = search rules
 
 returns : tie.Need-returns

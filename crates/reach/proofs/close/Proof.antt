@@ -6,10 +6,10 @@ use Rattle.reach.proofs.MatrixOperations.{rows}
 use Rattle.reach.proofs.close.Statement.{statement}
 use Rattle.reach.proofs.close.Tie as tie
 
-abbrev invariant_loop : tie.invariant_loop
+abbrev invariant_loop : tie.invariant-loop-v
 invariant_loop matrix₀ p v₀ matrix v = (matrix ≡ closed v matrix₀) × (v ≤ p)
 
-abbrev decreases_loop : tie.decreases_loop
+abbrev decreases_loop : tie.decreases-loop-v
 decreases_loop matrix₀ p v₀ matrix v = p - v
 
 pub close_spec : {M : Type 1} → statement M

@@ -9,19 +9,19 @@ use Rattle.reach.proofs.close.Reads as close-reads
 use Rattle.reach.proofs.mark_bodies.Reads as mark-bodies-reads
 use Rattle.decoded.proofs.procedures.Reads as procedures-reads
 
-procedures_requires : tie.Need-procedures-requires
+procedures_requires : tie.Need-procedures-p-requires
 procedures_requires c κs = search rules
 
-returns : tie.Need-returns
+returns : tie.Need-returns-then-p-gt-MOST_PROCEDURES
 returns c = search bodies
 
-mark_bodies_requires : tie.Need-mark-bodies-requires
+mark_bodies_requires : tie.Need-mark_bodies-requires
 mark_bodies_requires c κs = search rules
 
 close_requires : tie.Need-close-requires
 close_requires c κs = search rules
 
-returns_2 : tie.Need-returns-2
+returns_2 : tie.Need-returns
 returns_2 c = search bodies
 
 pub fill_reach_spec : {M : Type 1} → statement M

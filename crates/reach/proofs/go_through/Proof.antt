@@ -7,10 +7,10 @@ use Rattle.reach.proofs.MatrixOperations.{rows}
 use Rattle.reach.proofs.go_through.Statement.{statement}
 use Rattle.reach.proofs.go_through.Tie as tie
 
-abbrev invariant_loop : tie.invariant_loop
+abbrev invariant_loop : tie.invariant-loop-f
 invariant_loop matrix₀ v f₀ matrix f = (matrix ≡ through f v matrix₀) × (f ≤ body_count)
 
-abbrev decreases_loop : tie.decreases_loop
+abbrev decreases_loop : tie.decreases-loop-f
 decreases_loop matrix₀ v f₀ matrix f = body_count - f
 
 pub go_through_spec : {M : Type 1} → statement M

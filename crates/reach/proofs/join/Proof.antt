@@ -7,10 +7,10 @@ use Rattle.reach.proofs.MatrixOperations.{rows}
 use Rattle.reach.proofs.join.Statement.{statement}
 use Rattle.reach.proofs.join.Tie as tie
 
-abbrev invariant_loop : tie.invariant_loop
+abbrev invariant_loop : tie.invariant-loop-g
 invariant_loop matrix₀ f v g₀ matrix g = (matrix ≡ joined g f v matrix₀) × (g ≤ body_count)
 
-abbrev decreases_loop : tie.decreases_loop
+abbrev decreases_loop : tie.decreases-loop-g
 decreases_loop matrix₀ f v g₀ matrix g = body_count - g
 
 pub join_spec : {M : Type 1} → statement M

@@ -7,10 +7,10 @@ use Rattle.reach.proofs.CallsOfAStatement.{bodies}
 use Rattle.reach.proofs.mark_bodies.Statement.{statement}
 use Rattle.reach.proofs.mark_bodies.Tie as tie
 
-abbrev invariant_loop : tie.invariant_loop
+abbrev invariant_loop : tie.invariant-loop-f
 invariant_loop program p matrix₀ f₀ matrix f = (matrix ≡ marked_below (body_at program) f matrix₀) × (f ≤ p)
 
-abbrev decreases_loop : tie.decreases_loop
+abbrev decreases_loop : tie.decreases-loop-f
 decreases_loop program p matrix₀ f₀ matrix f = p - f
 
 pub mark_bodies_spec : {M : Type 1} → statement M

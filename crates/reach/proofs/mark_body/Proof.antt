@@ -11,7 +11,7 @@ use Rattle.decoded.proofs.root.Reads as root-reads
 root_requires : tie.Need-root-requires
 root_requires c κs = search rules
 
-mark_calls_requires : tie.Need-mark-calls-requires
+mark_calls_requires : tie.Need-mark_calls-requires
 mark_calls_requires c κs = search rules
 
 returns : tie.Need-returns

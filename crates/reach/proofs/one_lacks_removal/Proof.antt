@@ -8,10 +8,10 @@ use Rattle.reach.proofs.CallsOfAStatement.{bodies}
 use Rattle.reach.proofs.one_lacks_removal.Statement.{statement}
 use Rattle.reach.proofs.one_lacks_removal.Tie as tie
 
-abbrev invariant_loop : tie.invariant_loop
+abbrev invariant_loop : tie.invariant-loop-f
 invariant_loop program p matrix f₀ f = (any_below f (lacks_in matrix program) ≡ false) × (f ≤ p)
 
-abbrev decreases_loop : tie.decreases_loop
+abbrev decreases_loop : tie.decreases-loop-f
 decreases_loop program p matrix f₀ f = p - f
 
 pub one_lacks_removal_spec : {M : Type 1} → statement M

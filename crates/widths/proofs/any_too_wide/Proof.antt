@@ -8,10 +8,10 @@ use Rattle.widths.proofs.any_too_wide.Lts as lts
 use Rattle.decoded.proofs.procedures.Reads as procedures-reads
 use Rattle.widths.proofs.one_too_wide.Reads as one-too-wide-reads
 
-procedures_requires : tie.Need-procedures-requires
+procedures_requires : tie.Need-procedures-p-requires
 procedures_requires c κs = search rules
 
-one_too_wide_requires : tie.Need-one-too-wide-requires
+one_too_wide_requires : tie.Need-one_too_wide-requires
 one_too_wide_requires c κs = search rules
 
 returns : tie.Need-returns

@@ -14,10 +14,10 @@ sum_requires c κs = search rules
 larger_requires : tie.Need-larger-requires
 larger_requires c κs = search rules
 
-returns : tie.Need-returns
+returns : tie.Need-returns-then-in_turn
 returns c = search keeping
 
-returns_2 : tie.Need-returns-2
+returns_2 : tie.Need-returns-else-in_turn
 returns_2 c = search keeping
 
 pub joined_spec : {M : Type 1} → statement M

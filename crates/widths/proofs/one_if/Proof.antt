@@ -5,10 +5,10 @@ use Rattle.widths.proofs.one_if.Tie as tie
 use Rattle.widths.proofs.one_if.Reads as reads
 use Rattle.widths.proofs.one_if.Lts as lts
 
-returns : tie.Need-returns
+returns : tie.Need-returns-then-counts
 returns c = search keeping
 
-returns_2 : tie.Need-returns-2
+returns_2 : tie.Need-returns-else-counts
 returns_2 c = search keeping
 
 pub one_if_spec : {M : Type 1} → statement M
