@@ -196,7 +196,9 @@ module _ (prog : List ℕ) (k : ℕ) (ws : List ℕ) {n : ℕ} (T : Tallied n ws
       (bodies_up_to prog k v (keys_from (slot_procedure ws d + 1) (keys v all)) all (all ++ own) (next + length own))
   unfolding bodies_up_to bodies shared
   shared_first zero h e = absurd (omega arith)
-  shared_first (suc v) h e = rw (e, seek_calls ws T base upto last m from d O N lt)
+  shared_first (suc v) h e =
+      let calls : calls_to (suc v) (slot_procedure ws d) all ≡ slot_of ws d ∷ later_calls ws upto d = rw e (seek_calls ws T base upto last m from d O N lt) in
+      rw calls
 
   pub up_found : bodies_left prog k m from all next ≡
       around (program_at prog) (chains_in prog k) (slot_of ws d) (later_calls ws upto d) next

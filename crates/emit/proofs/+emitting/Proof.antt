@@ -189,7 +189,7 @@ emit_bodies_meets t = emit-bodies-lts.spec (
     (λ c κs. search rules)
     (λ c κs. search rules)
     (λ c κs. let d = c in
-    search (rules, seek_falls _ _ _ _ _ _ d.seek.ensures d.if2.true d.precedence.ensures))
+    search (rules, seek_falls _ _ _ _ _ _ d.seek-d.ensures d.if-d-upto.true d.precedence.ensures))
     (λ c. search rules)
     (λ c. search chaining)
     (λ c. search chaining)
@@ -459,15 +459,15 @@ emit_left_meets t = emit-left-lts.spec (
     (λ c κs. search rules)
     (λ c κs. search (
       rules,
-      c.with-control2.ensures,
-      c.emit-left4.ensures,
-      c.with-control.ensures,
-      c.touched2.ensures.0,
-      c.touched2.ensures.1,
-      c.found4.given,
-      c.step-at.ensures,
-      c.if2.false,
-      c.if1.false,
+      c.with_control-in-Branches.ensures,
+      c.emit_left-in-Branches.ensures,
+      c.with_control.ensures,
+      c.touched-q.ensures.0,
+      c.touched-q.ensures.1,
+      c.in-Branches.is,
+      c.step_at-found.ensures,
+      c.if-depth-eq0.false,
+      c.if-status-ne0.false,
       c.status.ensures,
       c.ranges.depth,
       c.requires.0,
@@ -603,17 +603,17 @@ emit_right_meets t = emit-right-lts.spec (
     (λ c κs. search rules)
     (λ c κs. search (
       rules,
-      c.with-control2.ensures,
-      c.emit-right4.ensures,
-      c.with-control.ensures,
-      c.touched.ensures.0,
-      c.touched.ensures.1,
-      c.found3.given,
-      c.step-at.ensures,
-      c.if3.false,
-      c.is_IsWide.ensures,
-      c.if2.false,
-      c.if1.false,
+      c.with_control-in-Branches.ensures,
+      c.emit_right-second.ensures,
+      c.with_control.ensures,
+      c.touched-q.ensures.0,
+      c.touched-q.ensures.1,
+      c.in-Branches.is,
+      c.step_at-found.ensures,
+      c.if-not-is_wide.false,
+      c.is_wide.ensures,
+      c.if-depth-eq0.false,
+      c.if-status-ne0.false,
       c.status.ensures,
       c.ranges.depth,
       c.requires.0,
@@ -637,8 +637,8 @@ emit_right_meets t = emit-right-lts.spec (
     (λ c. search rules)
     (λ c. let e = c in
     let d = e in
-    right_branches d.if2.false d.step-at.ensures (search (rules, d.found3.given)) d.touched.ensures.0 d.touched.ensures.1
-    d.with-control.ensures e.emit-right4.ensures e.with-control2.ensures c.emit-right5.ensures)
+    right_branches d.if-depth-eq0.false d.step_at-found.ensures (search (rules, d.in-Branches.is)) d.touched-q.ensures.0 d.touched-q.ensures.1
+    d.with_control.ensures e.emit_right-second.ensures e.with_control-in-Branches.ensures c.emit_right-in-Branches.ensures)
     (λ c. search rules)
     (λ c. search rights)
     (λ c. search rights)
@@ -719,15 +719,15 @@ emit_whole_meets t = emit-whole-lts.spec (
     (λ c κs. search rules)
     (λ c κs. search (
       rules,
-      c.with-control2.ensures,
-      c.emit-whole4.ensures,
-      c.with-control.ensures,
-      c.touched2.ensures.0,
-      c.touched2.ensures.1,
-      c.found4.given,
-      c.step-at.ensures,
-      c.if2.false,
-      c.if1.false,
+      c.with_control-in-Branches.ensures,
+      c.emit_whole-in-Branches.ensures,
+      c.with_control.ensures,
+      c.touched-q.ensures.0,
+      c.touched-q.ensures.1,
+      c.in-Branches.is,
+      c.step_at-found.ensures,
+      c.if-depth-eq0.false,
+      c.if-status-ne0.false,
       c.status.ensures,
       c.ranges.depth,
       c.requires.0,

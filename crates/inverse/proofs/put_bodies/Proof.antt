@@ -8,11 +8,11 @@ use Rattle.inverse.proofs.CopiedRecords.{bodies}
 use Rattle.inverse.proofs.put_bodies.Statement.{statement}
 use Rattle.inverse.proofs.put_bodies.Tie as tie
 
-abbrev invariant_loop : tie.invariant_loop
+abbrev invariant_loop : tie.invariant-loop-f
 invariant_loop table program p room₀ at place₀ f₀ room place f =
     (length room ≡ length room₀) × (written room place ≡ puts (turned_below table program f) room₀ at) × (f ≤ p)
 
-abbrev decreases_loop : tie.decreases_loop
+abbrev decreases_loop : tie.decreases-loop-f
 decreases_loop table program p room₀ at place₀ f₀ room place f = p - f
 
 pub put_bodies_spec : {M : Type 1} → statement M

@@ -8,11 +8,11 @@ use Rattle.inverse.proofs.CopiedRecords.{copying}
 use Rattle.inverse.proofs.put_piece.Statement.{statement}
 use Rattle.inverse.proofs.put_piece.Tie as tie
 
-abbrev invariant_loop : tie.invariant_loop
+abbrev invariant_loop : tie.invariant-loop-i
 invariant_loop table from to room₀ at i₀ place₀ room i place =
     (length room ≡ length room₀) × (puts (piece table from to) room₀ at ≡ puts (piece table i to) room place)
 
-abbrev decreases_loop : tie.decreases_loop
+abbrev decreases_loop : tie.decreases-loop-i
 decreases_loop table from to room₀ at i₀ place₀ room i place = to - i
 
 pub put_piece_spec : {M : Type 1} → statement M

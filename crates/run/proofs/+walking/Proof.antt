@@ -43,11 +43,11 @@ abbrev walk_below : ℕ → In 1 walk-kinds.ps
 walk_below t = and 1 walk-kinds.ps (falls 1 walk-kinds.ps ◌<◌ μ-walk t) walk.Pre
 
 -- what the statement at record `at` makes of the word as it is now is what the whole statement makes of the word given
-abbrev walk_Inv_loop : walk-lts.invariant_loop
+abbrev walk_Inv_loop : walk-lts.invariant-loop-left
 walk_Inv_loop program i depth list fuel word at₀ left₀ current₀ at left current =
     (left ≤ depth) × (walked program left at (members_of list) fuel current ≡ walked program depth i (members_of list) fuel word)
 
-abbrev walk_μ_loop : walk-lts.decreases_loop
+abbrev walk_μ_loop : walk-lts.decreases-loop-left
 walk_μ_loop program i depth list fuel word at₀ left₀ current₀ at left current = left
 
 pub +walking_spec : {M : Type 1} → statement M

@@ -10,25 +10,25 @@ use Rattle.reach.proofs.any_lacks_removal.Reads as any-lacks-removal-reads
 use Rattle.reach.proofs.fill_reach.Reads as fill-reach-reads
 use Rattle.widths.proofs.any_too_wide.Reads as any-too-wide-reads
 
-fill_reach_requires : tie.Need-fill-reach-requires
+fill_reach_requires : tie.Need-fill_reach-requires
 fill_reach_requires c κs = search rules
 
-any_lacks_removal_requires : tie.Need-any-lacks-removal-requires
+any_lacks_removal_requires : tie.Need-any_lacks_removal-requires
 any_lacks_removal_requires c κs = search rules
 
-returns : tie.Need-returns
+returns : tie.Need-returns-then-any_lacks_removal
 returns c = (search checks, search checks)
 
-any_too_wide_requires : tie.Need-any-too-wide-requires
+any_too_wide_requires : tie.Need-any_too_wide-requires
 any_too_wide_requires c κs = search rules
 
-returns_2 : tie.Need-returns-2
+returns_2 : tie.Need-returns-then-any_too_wide
 returns_2 c = (search checks, search checks)
 
 faults_requires : tie.Need-faults-requires
 faults_requires c κs = search rules
 
-returns_3 : tie.Need-returns-3
+returns_3 : tie.Need-returns-then-faults
 returns_3 c =
     let faulty = c in
     let narrow = faulty in
@@ -36,12 +36,12 @@ returns_3 c =
     let kept = wide in
     let lacks = kept in
     let filled = lacks in (
-      checked_twelve _ _ _ filled.fill-reach.ensures _ lacks.any-lacks-removal.ensures kept.if1.false _ _ wide.any-too-wide.ensures
-          narrow.if2.false _ faulty.faults.ensures c.if3.true,
+      checked_twelve _ _ _ filled.fill_reach.ensures _ lacks.any_lacks_removal.ensures kept.if-any_lacks_removal.false _ _ wide.any_too_wide.ensures
+          narrow.if-any_too_wide.false _ faulty.faults.ensures c.if-faults.true,
       search checks,
     )
 
-returns_4 : tie.Need-returns-4
+returns_4 : tie.Need-returns
 returns_4 c =
     let faulty = c in
     let narrow = faulty in
@@ -49,8 +49,8 @@ returns_4 c =
     let kept = wide in
     let lacks = kept in
     let filled = lacks in (
-      checked_none _ _ _ filled.fill-reach.ensures _ lacks.any-lacks-removal.ensures kept.if1.false _ _ wide.any-too-wide.ensures
-          narrow.if2.false _ faulty.faults.ensures c.if3.false,
+      checked_none _ _ _ filled.fill_reach.ensures _ lacks.any_lacks_removal.ensures kept.if-any_lacks_removal.false _ _ wide.any_too_wide.ensures
+          narrow.if-any_too_wide.false _ faulty.faults.ensures c.if-faults.false,
       search checks,
     )
 

@@ -8,31 +8,31 @@ use Rattle.verdict.proofs.check_table.Lts as lts
 use Rattle.table.proofs.read_table.Reads as read-table-reads
 use Rattle.verdict.proofs.check_program.Reads as check-program-reads
 
-returns : tie.Need-returns
+returns : tie.Need-returns-then-n-eq0
 returns c = (search verdicts, (search verdicts, search verdicts))
 
-returns_2 : tie.Need-returns-2
+returns_2 : tie.Need-returns-then-n-gt-MOST_N
 returns_2 c = (search verdicts, (search verdicts, search verdicts))
 
-read_table_requires : tie.Need-read-table-requires
+read_table_requires : tie.Need-read_table-answer-requires
 read_table_requires c κs = search rules
 
-enum_known_answer : tie.Need-enum-known-answer
+enum_known_answer : tie.Need-enum_known-answer
 enum_known_answer c = search rules
 
-enum_told : tie.Need-enum-told
+enum_told : tie.Need-enum_told-1
 enum_told c = search rules
 
-cast_check_program : tie.Need-overflow-cast-check-program
+cast_check_program : tie.Need-overflow_cast-n
 cast_check_program c = search rules
 
-check_program_requires : tie.Need-check-program-requires
+check_program_requires : tie.Need-check_program-requires
 check_program_requires c κs = search rules
 
-returns_3 : tie.Need-returns-3
+returns_3 : tie.Need-returns-in-Refused
 returns_3 c = (search verdicts, (search verdicts, search verdicts))
 
-returns_4 : tie.Need-returns-4
+returns_4 : tie.Need-returns-in-Read
 returns_4 c = (search verdicts, (search verdicts, search verdicts))
 
 pub check_table_spec : {M : Type 1} → statement M

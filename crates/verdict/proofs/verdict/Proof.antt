@@ -7,22 +7,22 @@ use Rattle.verdict.proofs.verdict.Reads as reads
 use Rattle.verdict.proofs.verdict.Lts as lts
 use Rattle.verdict.proofs.check_table.Reads as check-table-reads
 
-check_table_requires : tie.Need-check-table-requires
+check_table_requires : tie.Need-check_table-number-requires
 check_table_requires c κs = search rules
 
-cast_number : tie.Need-overflow-cast-number
+cast_number : tie.Need-overflow_cast-number
 cast_number c = search rules
 
-returns : tie.Need-returns
+returns : tie.Need-returns-then-number-ne0
 returns c = search answers
 
-cast_result : tie.Need-overflow-cast-result
+cast_result : tie.Need-overflow_cast-result
 cast_result c = search rules
 
-returns_2 : tie.Need-returns-2
+returns_2 : tie.Need-returns-then-space-lt-LEAST_WORKSPACE
 returns_2 c = search answers
 
-returns_3 : tie.Need-returns-3
+returns_3 : tie.Need-returns
 returns_3 c = search answers
 
 pub verdict_spec : {M : Type 1} → statement M
