@@ -8,35 +8,35 @@ use native.Mathlib.Omega.{arith}
 use Rattle.compile.proofs.clear.Statement.{statement}
 use Rattle.compile.proofs.clear.Tie as tie
 
-abbrev invariant_loop : tie.invariant_loop
+abbrev invariant_loop : tie.invariant-loop-i
 invariant_loop w₀ i₀ w i = (i ≤ length w₀) × (w ≡ replicate i 0 ++ drop i w₀) × (length w ≡ length w₀)
 
-abbrev decreases_loop : tie.decreases_loop
+abbrev decreases_loop : tie.decreases-loop-i
 decreases_loop w₀ i₀ w i = length w₀ - i
 
-loop_holds : tie.Need-loop-init invariant_loop decreases_loop
+loop_holds : tie.Need-loop-i-init invariant_loop decreases_loop
 loop_holds c = (omega arith, refl, refl)
 
-slice_write_workspace : tie.Need-slice-write-workspace invariant_loop decreases_loop
+slice_write_workspace : tie.Need-bounds-workspace-i invariant_loop decreases_loop
 slice_write_workspace c = omega arith
 
-add_i : tie.Need-overflow-add-i invariant_loop decreases_loop
+add_i : tie.Need-overflow_add-i invariant_loop decreases_loop
 add_i c = omega arith
 
-loop_less : tie.Need-loop-smaller invariant_loop decreases_loop
+loop_less : tie.Need-loop-i-smaller invariant_loop decreases_loop
 loop_less c = omega arith
 
-loop_again : tie.Need-loop-preserved invariant_loop decreases_loop
+loop_again : tie.Need-loop-i-preserved invariant_loop decreases_loop
 loop_again c =
     let at_loop = c in
-    let i = at_loop.loop.i in (
+    let i = at_loop.loop-i.i in (
       omega arith,
-      ap (λ (l : List ℕ). set l i 0) at_loop.loop.invariant.1 ∙ fill_more i 0 at_loop.args.workspace.now (omega arith),
-      length-set at_loop.loop.workspace i 0 ∙ at_loop.loop.invariant.2,
+      ap (λ (l : List ℕ). set l i 0) at_loop.loop-i.invariant.1 ∙ fill_more i 0 at_loop.args.workspace.now (omega arith),
+      length-set at_loop.loop-i.workspace i 0 ∙ at_loop.loop-i.invariant.2,
     )
 
-same_length_lem : tie.Need-same-length invariant_loop decreases_loop
-same_length_lem c = c.loop.invariant.2
+same_length_lem : tie.Need-shape_of-workspace invariant_loop decreases_loop
+same_length_lem c = c.loop-i.invariant.2
 
 done : (w l : List ℕ) (n : ℕ) → w ≡ replicate n 0 ++ drop n l → n ≡ length l → w ≡ replicate (length l) 0
 done w l n e h =
@@ -48,7 +48,7 @@ done w l n e h =
 returns : tie.Need-returns invariant_loop decreases_loop
 returns c =
     let l = c in
-    done l.loop.workspace l.args.workspace.now l.loop.i c.loop.invariant.1 (omega arith)
+    done l.loop-i.workspace l.args.workspace.now l.loop-i.i c.loop-i.invariant.1 (omega arith)
 
 pub clear_spec : {M : Type 1} → statement M
 clear_spec =

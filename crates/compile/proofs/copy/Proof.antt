@@ -8,11 +8,11 @@ use Rattle.compile.proofs.TextAndRoom.{copying}
 use Rattle.compile.proofs.copy.Statement.{statement}
 use Rattle.compile.proofs.copy.Tie as tie
 
-abbrev invariant_loop : tie.invariant_loop
+abbrev invariant_loop : tie.invariant-loop-i
 invariant_loop text used room₀ count i₀ room i =
     (count ≡ min used (min (length text) (length room))) × (length room ≡ length room₀) × Storing room₀ 0 (take used text) room i i
 
-abbrev decreases_loop : tie.decreases_loop
+abbrev decreases_loop : tie.decreases-loop-i
 decreases_loop text used room₀ count i₀ room i = count - i
 
 pub copy_spec : {M : Type 1} → statement M

@@ -13,4 +13,4 @@ emit_front_spec = tie.close (tie.spec
     (λ c. search delivering)
     (λ c. let at_call = c in
     let args = at_call.args in
-    front_emitted args.end args.text.now at_call.emit-main.new.1.1.0 _ (search delivering) (search delivering) (search delivering)))
+    front_emitted args.end args.text.now at_call.emit_main.new.room _ (search delivering) (search delivering) (search delivering)))
