@@ -1,5 +1,7 @@
 // The listing program: "reads the byte n and then a table on standard input", and prints the table's circuit, or the refusal's number. Where
 // files are named as arguments it does the same with each of them in turn; `-` names standard input.
+#![tactic(auto)]
+
 ghost use Rattle.std.specs.Prelude.{◌≡◌, List, ◌++◌, ℕ, ◌≤◌, length, take, drop};
 ghost use Rattle.model.specs.Limits.{most_circuit};
 ghost use Rattle.model.specs.Answers.{circuit_read};
@@ -8,9 +10,10 @@ ghost use Rattle.io.specs.Counts.{IsPrefixLen};
 ghost use Rattle.text.specs.Inputs.{BeginsWith};
 
 use compile::compile;
-use libc::STDIN_FILENO;
 use limits::{LEAST_WORKSPACE, MOST_CIRCUIT, MOST_LISTING, MOST_RECORDS, MOST_REMOVALS};
 use lines::list_circuit;
+use std::io::Read;
+use std::rt::{Env, Files};
 use text::refusal_line;
 
 // The longest record: map, kind, removals behind their count, and number a; a number has three bytes.
@@ -79,29 +82,29 @@ fn list_read(text: &mut [u8; MOST_LISTING], buffer: &[u8; INPUT_LENGTH], count: 
     list(text, bytes)
 }
 
-// What can be read from a descriptor, listed.
-fn list_descriptor(fd: i32) {
+// What can be read from an input, listed.
+fn list_input(rt: &(impl Print + Eprint + AllocGlobal), input: &mut impl Read) {
     let mut buffer = [0u8; INPUT_LENGTH];
     let mut text = [0u8; MOST_LISTING];
-    let count = io::read_full(fd, &mut buffer);
+    let count = inputs::read_full(input, &mut buffer);
     let length = list_read(&mut text, &buffer, count);
-    inputs::print(&text[..length]);
+    inputs::print(rt, &text[..length]);
 }
 
-fn list_argument(i: usize) {
-    let fd = inputs::open(i);
-    if fd < 0 {
+fn list_argument(rt: &(impl Env + Files + Input + Print + Eprint + AllocGlobal), i: usize) {
+    let Some(mut source) = inputs::open(rt, i) else {
         return;
-    }
-    list_descriptor(fd);
-    inputs::close(fd);
+    };
+    list_input(rt, &mut source);
+    inputs::close(source);
 }
 
-fn main() {
-    if os::arg_count() < 2 {
-        list_descriptor(STDIN_FILENO);
+fn main(rt: HostRuntime) {
+    let count = inputs::argument_count(&rt);
+    if count < 2 {
+        list_input(&rt, &mut rt.reader());
     }
-    for i in 1..os::arg_count() {
-        list_argument(i);
+    for i in 1..count {
+        list_argument(&rt, i);
     }
 }

@@ -1,13 +1,16 @@
 // The page program: "reads a circuit on standard input and prints its page, or 14 alone where it is not well formed". Where files are named as
 // arguments it does the same with each of them in turn; `-` names standard input.
+#![tactic(auto)]
+
 ghost use Rattle.std.specs.Prelude.{◌≡◌, List, ◌++◌, ℕ, length, drop};
 ghost use Rattle.io.specs.Counts.{IsPrefixLen};
 ghost use Rattle.text.specs.Inputs.{BeginsWith};
 ghost use Rattle.page.specs.Parts.{page_part};
 
 use bands::page_band;
-use libc::STDIN_FILENO;
 use limits::{MOST_BAND, MOST_CIRCUIT};
+use std::io::Read;
+use std::rt::{Env, Files};
 use text::refusal_line;
 
 // One byte more than a circuit can have: enough to know that an input is too long.
@@ -61,16 +64,16 @@ fn put_part_read(
     put_part(text, bytes, at)
 }
 
-// The page of what can be read from a descriptor, band by band. A place is above the one before it, or 0, which ends the page.
-fn print_page(fd: i32) {
+// The page of what can be read from an input, band by band. A place is above the one before it, or 0, which ends the page.
+fn print_page(rt: &(impl Print + Eprint + AllocGlobal), input: &mut impl Read) {
     let mut buffer = [0u8; INPUT_LENGTH];
     let mut text = [0u8; MOST_BAND];
-    let count = io::read_full(fd, &mut buffer);
+    let count = inputs::read_full(input, &mut buffer);
     let mut at = 0;
     loop {
         let part = put_part_read(&mut text, &buffer, count, at);
         let length = part.length;
-        if !inputs::print(&text[..length]) {
+        if !inputs::print(rt, &text[..length]) {
             return;
         }
         if part.next <= at {
@@ -80,20 +83,20 @@ fn print_page(fd: i32) {
     }
 }
 
-fn print_argument(i: usize) {
-    let fd = inputs::open(i);
-    if fd < 0 {
+fn print_argument(rt: &(impl Env + Files + Input + Print + Eprint + AllocGlobal), i: usize) {
+    let Some(mut source) = inputs::open(rt, i) else {
         return;
-    }
-    print_page(fd);
-    inputs::close(fd);
+    };
+    print_page(rt, &mut source);
+    inputs::close(source);
 }
 
-fn main() {
-    if os::arg_count() < 2 {
-        print_page(STDIN_FILENO);
+fn main(rt: HostRuntime) {
+    let count = inputs::argument_count(&rt);
+    if count < 2 {
+        print_page(&rt, &mut rt.reader());
     }
-    for i in 1..os::arg_count() {
-        print_argument(i);
+    for i in 1..count {
+        print_argument(&rt, i);
     }
 }

@@ -1,13 +1,16 @@
 // The worked programs of document 01 that "run in a program beside a second interpreter". Each argument names a file that holds, in
 // hexadecimal, the byte n, a start word, the length of the room and a table. For each the program prints its name and three answers: the
 // number of the verdict, number and end word of the run, number and length of compile.
+#![tactic(auto)]
+
 ghost use Rattle.std.specs.Prelude.{◌<◌};
 ghost use Rattle.io.specs.Counts.{IsPrefixLen};
 
 use answers::Answer;
 use foq::{foq_compile, foq_run, foq_verdict};
-use libc::STDOUT_FILENO;
 use limits::LEAST_WORKSPACE;
+use std::rt::{Env, Files};
+use std::{fs, io, str};
 
 // What a hexadecimal digit stands for; no other byte is in the files.
 fn digit(byte: u8) -> u8
@@ -40,75 +43,94 @@ fn spelled(text: &[u8], bytes: &mut [u8]) -> usize
     count
 }
 
-fn print_number(number: u64) {
-    io::write_all(STDOUT_FILENO, b" ");
-    io::print_decimal(STDOUT_FILENO, number);
+fn print_answer(rt: &impl Print, name: &str, answer: Answer) -> io::Result<()> {
+    let number = answer.number;
+    let value = answer.value;
+    print!(rt; " {name} {number} {value}")
 }
 
-fn print_answer(name: &[u8], answer: Answer) {
-    io::write_all(STDOUT_FILENO, name);
-    print_number(answer.number as u64);
-    print_number(answer.value);
-}
-
-fn print_verdict(n: u8, table: &[u8], workspace: &mut [u8]) {
+fn print_verdict(rt: &impl Print, n: u8, table: &[u8], workspace: &mut [u8]) -> io::Result<()> {
     let number = foq_verdict(table, n as u32, workspace);
-    io::write_all(STDOUT_FILENO, b" verdict");
-    print_number(number as u64);
+    print!(rt; " verdict {number}")
 }
 
-fn print_run(n: u8, word: u8, table: &[u8], workspace: &mut [u8]) {
+fn print_run(
+    rt: &impl Print,
+    n: u8,
+    word: u8,
+    table: &[u8],
+    workspace: &mut [u8],
+) -> io::Result<()> {
     let answer = foq_run(table, n as u32, word as u64, workspace);
-    print_answer(b" run", answer);
+    print_answer(rt, "run", answer)
 }
 
-fn print_compile(n: u8, length: u8, table: &[u8], workspace: &mut [u8]) {
+fn print_compile(
+    rt: &impl Print,
+    n: u8,
+    length: u8,
+    table: &[u8],
+    workspace: &mut [u8],
+) -> io::Result<()> {
     let mut room = [0u8; 255];
     let end = length as usize;
     let answer = foq_compile(table, n as u32, &mut room[0..end], workspace);
-    print_answer(b" compile", answer);
+    print_answer(rt, "compile", answer)
 }
 
-fn print_answers(n: u8, word: u8, room: u8, table: &[u8], workspace: &mut [u8]) {
-    print_verdict(n, table, workspace);
-    print_run(n, word, table, workspace);
-    print_compile(n, room, table, workspace);
+fn print_answers(
+    rt: &impl Print,
+    n: u8,
+    word: u8,
+    room: u8,
+    table: &[u8],
+    workspace: &mut [u8],
+) -> io::Result<()> {
+    print_verdict(rt, n, table, workspace)?;
+    print_run(rt, n, word, table, workspace)?;
+    print_compile(rt, n, room, table, workspace)
 }
 
-fn print_case(case: &[u8]) {
+fn print_case(rt: &impl Print, case: &[u8]) -> io::Result<()> {
     let mut workspace = [0u8; LEAST_WORKSPACE];
     if 3 <= case.len() {
-        print_answers(case[0], case[1], case[2], &case[3..], &mut workspace);
+        print_answers(rt, case[0], case[1], case[2], &case[3..], &mut workspace)?;
     }
+    Ok(())
 }
 
-fn read_file(name: &[u8], text: &mut [u8]) -> usize
+// Of a file that cannot be opened nothing is read.
+fn read_file(rt: &impl Files, name: &[u8], text: &mut [u8]) -> usize
     ensures { IsPrefixLen result text.new }
 {
-    let fd = os::open_read(name);
-    let count = io::read_full(fd, text);
-    libc::close(fd);
-    count
+    let Ok(name) = str::from_utf8(name) else {
+        return 0;
+    };
+    match fs::open(rt, name) {
+        Ok(mut file) => inputs::read_full(&mut file, text),
+        Err(_) => 0,
+    }
 }
 
-fn print_file(name: &[u8]) {
+fn print_file(rt: &(impl Files + Print), name: &[u8]) -> io::Result<()> {
     let mut text = [0u8; 512];
     let mut case = [0u8; 128];
-    let count = read_file(name, &mut text);
+    let count = read_file(rt, name, &mut text);
     let length = spelled(&text[..count], &mut case);
-    print_case(&case[..length]);
+    print_case(rt, &case[..length])
 }
 
-fn print_argument(i: usize) {
+fn print_argument(rt: &(impl Env + Files + Print), i: usize) -> io::Result<()> {
     let mut name = [0u8; 64];
-    let length = os::arg(i, &mut name);
-    io::write_all(STDOUT_FILENO, &name[..length]);
-    print_file(&name[..length]);
-    io::write_all(STDOUT_FILENO, b"\n");
+    let length = inputs::argument(rt, i, &mut name);
+    rt.write_all(&name[..length])?;
+    print_file(rt, &name[..length])?;
+    println!(rt)
 }
 
-fn main() {
-    for i in 1..os::arg_count() {
-        print_argument(i);
+fn main(rt: HostRuntime) -> io::Result<()> {
+    for i in 1..inputs::argument_count(&rt) {
+        print_argument(&rt, i)?;
     }
+    Ok(())
 }
