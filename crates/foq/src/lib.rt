@@ -1,4 +1,6 @@
-// The functions that a station's host calls. Every number, length and content of a slice has its answer.
+// The functions that a station's host calls; `foq_c` exports each to C. Every number, length and content of a slice has its answer.
+#![tactic(auto)]
+
 ghost use Rattle.std.specs.Prelude.{◌≡◌, length};
 ghost use Rattle.model.specs.Answers.{inverse_table, circuit_read, circuit_run, room_after, workspace_after};
 ghost use Rattle.model.specs.Answers as model;
@@ -10,8 +12,7 @@ use answers::{Answer, CircuitBlock, CircuitHeader, PageBand};
 use compile::clear;
 
 // The verdict: 0 for an accepted table, otherwise the refusal's number.
-#[unsafe(no_mangle)]
-pub extern "C" fn foq_verdict(table: &[u8], n: u32, workspace: &mut [u8]) -> u32
+pub fn foq_verdict(table: &[u8], n: u32, workspace: &mut [u8]) -> u32
     ensures value { result ≡ model.number (model.verdict table.now n (length workspace.old)) }
     ensures workspace_after { workspace.new ≡ workspace_after workspace.old }
 {
@@ -21,8 +22,7 @@ pub extern "C" fn foq_verdict(table: &[u8], n: u32, workspace: &mut [u8]) -> u32
 }
 
 // The run: the end word, or the refusal's number and 0.
-#[unsafe(no_mangle)]
-pub extern "C" fn foq_run(table: &[u8], n: u32, word: u64, workspace: &mut [u8]) -> Answer
+pub fn foq_run(table: &[u8], n: u32, word: u64, workspace: &mut [u8]) -> Answer
     ensures value { result ≡ answer_of (model.run table.now n word (length workspace.old)) }
     ensures workspace_after { workspace.new ≡ workspace_after workspace.old }
 {
@@ -33,8 +33,7 @@ pub extern "C" fn foq_run(table: &[u8], n: u32, word: u64, workspace: &mut [u8])
 
 // Compile: the circuit's length, or the refusal's number and 0. The room is written only on success. Demand 3 holds of what is written there: the
 // circuit ends as the run does from every start word, and its bytes and counts are the emission's.
-#[unsafe(no_mangle)]
-pub extern "C" fn foq_compile(table: &[u8], n: u32, room: &mut [u8], workspace: &mut [u8]) -> Answer
+pub fn foq_compile(table: &[u8], n: u32, room: &mut [u8], workspace: &mut [u8]) -> Answer
     ensures value { result ≡ length_answer (model.compile table.now n (length room.old) (length workspace.old)) }
     ensures room_after { room.new ≡
         room_after (model.compile table.now n (length room.old) (length workspace.old)) room.old }
@@ -50,8 +49,7 @@ pub extern "C" fn foq_compile(table: &[u8], n: u32, room: &mut [u8], workspace: 
 
 // The inverse: the length of the table that undoes this one, or the refusal's number and 0. The room is written only on success. What is written there
 // is accepted at the same n, running one after the other gives the start word, and inverting again gives the first table's bytes.
-#[unsafe(no_mangle)]
-pub extern "C" fn foq_inverse(table: &[u8], n: u32, room: &mut [u8]) -> Answer
+pub fn foq_inverse(table: &[u8], n: u32, room: &mut [u8]) -> Answer
     ensures value { result ≡ length_answer (inverse_table table.now n (length room.old)) }
     ensures room_after { room.new ≡ room_after (inverse_table table.now n (length room.old)) room.old }
     ensures inverted { Inverted table.now n result room.new }
@@ -60,24 +58,21 @@ pub extern "C" fn foq_inverse(table: &[u8], n: u32, room: &mut [u8]) -> Answer
 }
 
 // The circuit reader: n, ancillas and gate count, or the refusal's number and zeros.
-#[unsafe(no_mangle)]
-pub extern "C" fn foq_circuit_read(bytes: &[u8]) -> CircuitHeader
+pub fn foq_circuit_read(bytes: &[u8]) -> CircuitHeader
     ensures { result ≡ header_of (circuit_read bytes.now) }
 {
     circuit::read_circuit(bytes)
 }
 
 // The circuit run: the block of wires, or the refusal's number and zeros.
-#[unsafe(no_mangle)]
-pub extern "C" fn foq_circuit_run(bytes: &[u8], word: u64) -> CircuitBlock
+pub fn foq_circuit_run(bytes: &[u8], word: u64) -> CircuitBlock
     ensures { result ≡ block_answer (circuit_run bytes.now word) }
 {
     circuit_run::run_circuit(bytes, word)
 }
 
 // A circuit's listing: its length, or the refusal's number and 0. The text takes the whole listing, or nothing where it is too short for it.
-#[unsafe(no_mangle)]
-pub extern "C" fn foq_circuit_list(circuit: &[u8], text: &mut [u8]) -> Answer
+pub fn foq_circuit_list(circuit: &[u8], text: &mut [u8]) -> Answer
     ensures value { result ≡ length_answer (circuit_list circuit.now (length text.old)) }
     ensures text_after { text.new ≡ room_after (circuit_list circuit.now (length text.old)) text.old }
 {
@@ -86,8 +81,7 @@ pub extern "C" fn foq_circuit_list(circuit: &[u8], text: &mut [u8]) -> Answer
 
 // One band of a circuit's page: its length and the place of the next band, or the refusal's number and zeros. Place 0 asks for the first band. The text
 // takes the whole band, or nothing where it is too short for it.
-#[unsafe(no_mangle)]
-pub extern "C" fn foq_page_band(circuit: &[u8], place: u64, text: &mut [u8]) -> PageBand
+pub fn foq_page_band(circuit: &[u8], place: u64, text: &mut [u8]) -> PageBand
     ensures value { result ≡ band_answer (page_band circuit.now place) }
     ensures text_after { text.new ≡ text_after (page_band circuit.now place) text.old }
 {
