@@ -9,7 +9,7 @@ fn main() -> ExitCode {
     println!("cargo:rerun-if-changed={}", archive.display());
     if !archive.is_file() {
         eprintln!(
-            "target/staticlib/libfoq.a is missing: run `rt staticlib foq` in the repository first"
+            "target/staticlib/libfoq.a is missing: run `tools/archive` in the repository first"
         );
         return ExitCode::FAILURE;
     }

@@ -38,8 +38,8 @@
 //! `host/include/foq.h`.
 //!
 //! The functions here give a [`Result`]; those of [`border`] give the structs
-//! that C sees. The archive must be there before this crate is built: `rt
-//! staticlib foq` in the repository makes it.
+//! that C sees. The archive must be there before this crate is built:
+//! `tools/archive` in the repository makes it.
 
 pub mod border;
 mod refusal;

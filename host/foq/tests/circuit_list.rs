@@ -477,7 +477,7 @@ fn circuits_of_tables_are_listed_as_the_tables_are() {
 #[test]
 fn the_listing_program_prints_the_same() {
     let program = repository("target/bin/listing");
-    assert!(program.is_file(), "it is not built: rt check listing");
+    assert!(program.is_file(), "it is not built: run tools/archive");
     let mut random = Random::from_seed(101);
     let mut counts = Counts::new();
     for input in program_inputs(&mut random, 300) {

@@ -14,7 +14,7 @@ use std::process::Command;
 /// this input.
 fn assert_reported(name: &str, input: &[u8]) {
     let program = repository("target/bin").join(name);
-    assert!(program.is_file(), "it is not built: rt check {name}");
+    assert!(program.is_file(), "it is not built: run tools/archive");
     let file = scratch(&format!("full-output-{name}.input"));
     fs::write(&file, input).unwrap();
     let full = File::options().write(true).open("/dev/full").unwrap();

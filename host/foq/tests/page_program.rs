@@ -20,7 +20,7 @@ use std::time::Duration;
 
 fn page_program() -> PathBuf {
     let program = repository("target/bin/page");
-    assert!(program.is_file(), "it is not built: rt check page");
+    assert!(program.is_file(), "it is not built: run tools/archive");
     program
 }
 
