@@ -1,2 +1,0 @@
--- What the proof of `spelled` uses.
-mod ByteCount
