@@ -368,7 +368,7 @@ fn band_said(bytes: &[u8], place: u64) -> Given {
 /// Where the gates of a band are read. For place 0 it is behind the header, if
 /// the whole circuit is well formed. Another place is where it says, if that is
 /// behind the first gate's and within a circuit that is not too long: `foq.h`
-/// leaves these two open, and the definition, `pageBand`, refuses them.
+/// leaves these two open, and the definition, `page_band`, refuses them.
 fn gates_at(bytes: &[u8], place: u64) -> Option<usize> {
     if place == 0 {
         return read_circuit(bytes).ok().map(|_| HEADER);
