@@ -1,5 +1,7 @@
 // The answers that C gets. What each says is `answer_of`, `length_answer`, `header_of`, `block_answer` and `band_answer` in specs/Structs.antt. This crate has
 // no function.
+#![tactic(auto)]
+
 use limits::BLOCK_LENGTH;
 
 // A number, and beside 0 the value: a run's end word, or the length of what was written into a room or a text.

@@ -1,4 +1,6 @@
 // Document 02, S-1: one band of a circuit's page, its rows put from the marks of its gates.
+#![tactic(auto)]
+
 ghost use Rattle.std.specs.Prelude.{◌≡◌, ◌+◌, ◌-◌, ◌*◌, ◌≤◌, length, get_or, replicate};
 ghost use Rattle.limits.specs.Sizes.{wire_count};
 ghost use Rattle.model.specs.Limits.{header_length, not_well_formed};

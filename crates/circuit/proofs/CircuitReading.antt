@@ -12,7 +12,7 @@ use Rattle.model.specs.Limits.{not_well_formed, table_stops, most_qubits, most_w
 use Rattle.model.specs.Reading.{Input, Parsed, parsed, refused, and_then, provided, byte}
 use Rattle.model.specs.Gates.{Gate}
 use Rattle.model.specs.Circuit.{Circuit, read_gate, read_gates, four_byte_number, whole_circuit, circuit_of, read_circuit}
-use Rattle.model.specs.Answers.{gives, refuses, number, well_formed, circuit_read}
+use Rattle.model.specs.Answers.{gives, refuses, well_formed, circuit_read}
 use Rattle.model.proofs.BooleanLaws.{by_lt}
 use Rattle.model.proofs.ByteAtAPlace.{byte_there, byte_past}
 use Rattle.circuit.specs.GatesInBytes.{input_at, fills}

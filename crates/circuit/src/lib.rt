@@ -1,4 +1,6 @@
 // "The circuit": a circuit's bytes are read and checked (refusal 14).
+#![tactic(auto)]
+
 ghost use Rattle.std.specs.Prelude.{◌≡◌, [], ◌+◌, ◌*◌};
 ghost use Rattle.model.specs.Circuit.{wire_list, read_gate, read_gates, gate_is_well_formed};
 ghost use Rattle.model.specs.Reading.{optional};

@@ -1,4 +1,6 @@
 // The circuit run: the gates of a circuit act in order, each as it is read, on wires that go by value through each gate.
+#![tactic(auto)]
+
 ghost use Rattle.std.specs.Prelude.{◌≡◌};
 ghost use Rattle.model.specs.Gates.{fires, act};
 ghost use Rattle.model.specs.Circuit.{read_gates};

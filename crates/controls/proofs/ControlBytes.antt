@@ -1,7 +1,7 @@
 -- The bytes of gates under controls: their maps, their lengths, and the stores that put them into a room.
 use mathlib.Core.Path.{◌≡◌, refl, sym, ap, ◌∙◌}
 use mathlib.Core.Bool.{true}
-use mathlib.Core.List.{List, [], ◌∷◌, ◌++◌, append-nil}
+use mathlib.Core.List.{List, [], ◌∷◌, append-nil}
 use Prim.Native.Nat.{ℕ, suc, ◌+◌, ◌≤◌, ◌<◌, min, max}
 use native.Mathlib.Numerals.{add-one}
 use native.Mathlib.Omega.{arith}
@@ -9,7 +9,7 @@ use mir.Syntax.{w8, w64}
 use mir.Val.{Fits}
 use borrow.Author.Rules.{rules}
 use borrow.Author.Tests.{lt-ltb, le-ltb}
-use lib.ListN.{length, get_or, drop, set, length-append}
+use lib.ListN.{length, drop, set, length-append}
 use lib.Seq.{sets}
 use Rattle.limits.specs.Sizes.{set_length, swap_length}
 use Rattle.model.specs.Lists.{entry}
@@ -21,7 +21,7 @@ use Rattle.circuit.proofs.GateBytes.{sets_past, sets_append}
 use Rattle.sets.specs.Sets.{members_of}
 use Rattle.sets.proofs.Members.{members_length, members_empty}
 use Rattle.sets.proofs.Readings.{members_split}
-use Rattle.controls.specs.ControlWords.{high_wire, wires_in, controls_of, Only, only}
+use Rattle.controls.specs.ControlWords.{wires_in, controls_of, Only, only}
 
 -- an empty set has no member
 pub count_none : (w : ℕ) → w ≡ 0 → 0 ≡ length (members_of w)

@@ -6,10 +6,9 @@ use mathlib.Core.List.{List, [], ◌∷◌, ◌++◌, append-nil}
 use Prim.Native.Nat.{ℕ, zero, suc, ◌+◌, ◌-◌, ◌*◌, ◌%◌, ◌^◌, ◌≤◌, ◌<◌}
 use native.Mathlib.Omega.{arith}
 use borrow.Author.Rules.{rules}
-use borrow.Author.Tests.{lt-ltb, le-ltb, eq-eqb, ne_eqb}
-use lib.Dec.{eqb}
+use borrow.Author.Tests.{lt-ltb, le-ltb}
 use lib.Bits.{bit_or}
-use lib.ListN.{length, get_or, drop}
+use lib.ListN.{get_or, drop}
 use mir.Syntax.{w8, w64}
 use mir.Val.{Fits}
 use Rattle.limits.specs.Sizes.{set_length}
@@ -18,15 +17,15 @@ use Rattle.model.specs.Meaning.{state_of, bit}
 use Rattle.model.specs.Gates.{Controls, no_controls, insert, asked, with_control}
 use Rattle.model.specs.Emission.{under}
 use Rattle.model.proofs.BooleanLaws.{by_bool, by_eq, by_lt, by_order}
-use Rattle.model.proofs.GateLaws.{insert_before, insert_there, insert_behind, asked_wire, asked_none, control_none}
-use Rattle.model.proofs.ListLaws.{member_head, member_tail}
+use Rattle.model.proofs.GateLaws.{insert_before, insert_there, insert_behind, asked_wire, asked_none}
+use Rattle.model.proofs.ListLaws.{member_head}
 use Rattle.model.proofs.WordBits.{shifted}
 use Rattle.sets.specs.Sets.{members_of}
 use Rattle.sets.proofs.Filtering.{picked, picked_yes, picked_no, picked_same, picked_bounds}
 use Rattle.sets.proofs.BitLaws.{or_bit, power_same, power_other}
-use Rattle.sets.proofs.Members.{state_bit, state_zero, members_bounds, members_empty}
+use Rattle.sets.proofs.Members.{state_bit, state_zero, members_empty}
 use Rattle.sets.proofs.Readings.{members_split}
-use Rattle.controls.specs.ControlWords.{asked_within, with_qubit, high_wire, wires_in, controls_of, high_in, controls_from, list_from, At, Only, only}
+use Rattle.controls.specs.ControlWords.{asked_within, with_qubit, high_wire, controls_of, high_in, controls_from, list_from, At, Only, only}
 
 -- a wire below all others goes first
 insert_front : (w : ℕ) (l : List ℕ) → ((v : ℕ) → member v l ≡ true → w < v) → insert w l ≡ w ∷ l

@@ -1,6 +1,8 @@
 // Where a statement that is emitted stands, its site, in four words: the wires up to 64 that are asked for 1 and those that are asked for 0, each a set; a wire above 64
 // that is asked for 1, 0 for none; and the statement's list. The ancilla of a body or of an entry is asked for 1: it is in the first set up to 64, above that in the
 // third word. And the bytes of gates under such controls.
+#![tactic(auto)]
+
 ghost use Rattle.std.specs.Prelude.{◌≡◌, true, ◌+◌, length};
 ghost use Rattle.std.proofs.lemmas.List.Edits.{sets};
 ghost use Rattle.model.specs.Gates.{no_controls, flip, swap_of};

@@ -1,16 +1,16 @@
 -- What the words of a record say is the record that was read, with its removals.
-use Prim.Native.Nat.{ℕ, zero, suc, ◌+◌, ◌-◌, ◌*◌, ◌/◌, ◌%◌, ◌≤◌, ◌<◌}
+use Prim.Native.Nat.{ℕ, zero, suc, ◌+◌, ◌*◌, ◌/◌, ◌%◌, ◌≤◌, ◌<◌}
 use native.Mathlib.Omega.{arith}
 use mathlib.Core.Path.{◌≡◌, refl, sym, ap, ◌∙◌}
 use mathlib.Core.Bool.{Bool, true, false, cond}
 use mathlib.Core.List.{List, [], ◌∷◌, ◌++◌}
-use borrow.Author.Tests.{lt-ltb, le-ltb, eq-eqb, ne_eqb, ltb-false}
+use borrow.Author.Tests.{lt-ltb, eq-eqb, ne_eqb}
 use lib.Dec.{eqb, ltb}
 use lib.ListN.{length, get_or}
 use Rattle.limits.specs.Sizes.{place_count}
 use Rattle.model.specs.Limits.{most_removals}
 use Rattle.model.specs.Reading.{signed16, required_map}
-use Rattle.model.proofs.BooleanLaws.{by_bool, by_eq}
+use Rattle.model.proofs.BooleanLaws.{by_eq}
 use Rattle.model.proofs.RoundTrip.{Bytes}
 use Rattle.records.specs.declared.Number.{Number}
 use Rattle.records.specs.declared.Record.{Record}

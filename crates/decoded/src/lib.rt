@@ -1,5 +1,7 @@
 // A table decoded: every record that was read is put down once, as words of its own, and check, run and emission walk over these words. This crate owns them:
 // where they stand, what is asked of them and what is put down there. No other crate has an index into them.
+#![tactic(auto)]
+
 ghost use Rattle.std.specs.Prelude.{◌≡◌, [], ◌∷◌, ltb, length};
 ghost use Rattle.decoded.specs.Layout.{
   record_count,

@@ -1,7 +1,7 @@
 -- What is known of the widths of a statement is known of its parts, and tells whether a part is wide and a call recursive.
-use mathlib.Core.Path.{◌≡◌, refl, sym, ap, ◌∙◌, subst}
+use mathlib.Core.Path.{◌≡◌, refl}
 use mathlib.Core.Bool.{Bool, true, false, cond}
-use mathlib.Core.List.{List, []}
+use mathlib.Core.List.{List}
 use Prim.Native.Nat.{ℕ, zero, suc, ◌-◌, ◌≤◌, ◌<◌, min}
 use native.Mathlib.Numerals.{sub-one}
 use native.Mathlib.Omega.{arith}
@@ -18,8 +18,6 @@ use Rattle.decoded.specs.declared.Step.{Step}
 use Rattle.decoded.specs.declared.Step.TheVariants as step
 use Rattle.decoded.specs.Steps.{step_at}
 use Rattle.decoded.proofs.StatementAtARecord.{at_step}
-use Rattle.decoded.specs.declared.Parts.{Parts}
-use Rattle.decoded.specs.declared.Parts.TheVariants as parts
 use Rattle.decoded.specs.Steps.{parts_of, parts_at}
 use Rattle.widths.specs.KeptWidths.{OfParts, Known}
 use Rattle.emit.specs.WalkPromises.{KnownIn}

@@ -13,7 +13,7 @@ use Rattle.model.specs.Emission.{Chains, Invocation, Key, key_of, keys, is_of, c
 use Rattle.model.proofs.BooleanLaws.{by_eq, by_lt, not_true_false}
 use Rattle.model.proofs.ListLaws.{member_head, member_tail, member_cases, not_in_nil}
 use Rattle.agreement.proofs.InvocationsOfABody.{Mem}
-use Rattle.agreement.proofs.KeysOfALength.{InOrder, OrderOf, is_of_lem, of_is, calls_here, calls_past, keys_in_order, keys_called, keys_order}
+use Rattle.agreement.proofs.KeysOfALength.{InOrder, is_of_lem, of_is, calls_here, calls_past, keys_in_order, keys_called, keys_order}
 use Rattle.decoded.specs.DecodedTable.{program_at}
 use Rattle.events.specs.Scan.{slot_at, slot_list_length, slot_procedure, slot_of, Tallied, held_in}
 use Rattle.events.specs.Slots.{precedence_in, Waits, NextSlot}

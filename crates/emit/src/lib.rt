@@ -1,5 +1,7 @@
 // "Emission" in code: one walk over the program places the gates. A walker is lent where its statement stands (its list, and the controls in force), the room for the
 // circuit's bytes, the slots of the ancillas, and where the emission is.
+#![tactic(auto)]
+
 ghost use Rattle.std.specs.Prelude.{◌≡◌};
 ghost use Rattle.controls.specs.ControlWords.{controls_from, list_from};
 ghost use Rattle.sets.specs.Sets.{members_of};

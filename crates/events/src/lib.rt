@@ -1,6 +1,8 @@
 // The events of an emission: an ancilla taken, a gate placed, ancillas given back; and the runs of them that ask no table: swaps, the gates of an entry,
 // the two ends of a call. Where an emission is stands in words that are lent (`State`). Ancillas keep their invocations in slots, two words for each, in which the
 // next body is sought.
+#![tactic(auto)]
+
 ghost use Rattle.std.specs.Prelude.{◌≡◌, cond, [], ◌∷◌, reverse, ◌+◌, ◌-◌, ◌*◌, ◌≤◌, max, length, get_or, set, leb, ltb};
 ghost use Rattle.model.specs.Gates.{flip, swap_of};
 ghost use Rattle.model.specs.Emission as model;

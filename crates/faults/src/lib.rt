@@ -1,5 +1,7 @@
 // Refusal 12 in polynomial time: the positions that each body touches of a list of each length, in one table, filled by length and rank. Lengths
 // that no call can lead to are left out.
+#![tactic(auto)]
+
 ghost use Rattle.std.specs.Prelude.{◌≡◌, min, suc};
 ghost use Rattle.model.specs.Limits.{most_qubits};
 ghost use Rattle.model.specs.Meaning.{digit};

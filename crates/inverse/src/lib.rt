@@ -1,5 +1,7 @@
 // Document 02, S-5: the inverse of a table, in one walk over the tree that was read. Every record is copied once, as it stands; of a sequence the second
 // statement comes before the first.
+#![tactic(auto)]
+
 ghost use Rattle.std.specs.Prelude.{◌≡◌, suc, length};
 ghost use Rattle.model.specs.Answers.{inverse_table, room_after};
 ghost use Rattle.answers.specs.Structs.{length_answer};

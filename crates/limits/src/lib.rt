@@ -1,4 +1,6 @@
 // The limits and refusals of documents 01 and 02 as constants, and the sizes that follow from them. No other crate has a limit of its own.
+#![tactic(auto)]
+
 ghost use Rattle.std.specs.Prelude.{◌≡◌, [], ◌∷◌};
 ghost use Rattle.model.specs.Limits.{
   table_edition,

@@ -1,5 +1,7 @@
 // "Worked programs", on the listing: its lines, put into a text one behind the other. Each function that puts takes the place from which it puts
 // its bytes and gives the place behind them; where the text has ended it counts on.
+#![tactic(auto)]
+
 ghost use Rattle.std.specs.Prelude.{◌≡◌, ◌∷◌, ◌++◌, ◌+◌, length, leb};
 ghost use Rattle.model.specs.Answers.{circuit_read, room_after};
 ghost use Rattle.model.specs.Listing.{space, plus, decimal, signed, hyphens, control_text, gate_line, first_line, listed, circuit_list};

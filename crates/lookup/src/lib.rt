@@ -1,5 +1,7 @@
 // Document 02, S-3: the swaps of an entry, planned. A lookup says for each qubit which wire holds it, and for each wire which qubit it holds. It is built before
 // the loop over k and updated at each swap, so no list is searched; and every entry of it that is read or written is counted.
+#![tactic(auto)]
+
 ghost use Rattle.std.specs.Prelude.{◌≡◌, ◌+◌, ◌*◌, ◌≤◌, ◌<◌, min, length, get_or, set};
 ghost use Rattle.limits.specs.Sizes.{set_length, lookup_length};
 ghost use Rattle.sets.specs.Sets.{members_of};

@@ -1,4 +1,6 @@
 // Document 02, S-1: the marks of the gates of one band, a column for each gate and in it a byte for each number of a wire. Each gate is decoded once.
+#![tactic(auto)]
+
 ghost use Rattle.std.specs.Prelude.{◌≡◌, ◌+◌, ◌*◌, set};
 ghost use Rattle.limits.specs.Sizes.{wire_count};
 ghost use Rattle.model.specs.Gates.{no_controls, targets};

@@ -1,4 +1,6 @@
 // Which procedure reaches which, and refusal 10: a recursive call without removal.
+#![tactic(auto)]
+
 ghost use Rattle.std.specs.Prelude.{◌≡◌, suc};
 ghost use Rattle.limits.specs.Sizes.{body_count};
 ghost use Rattle.model.specs.Reach.{lacks_removal, any_below};

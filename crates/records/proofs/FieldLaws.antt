@@ -16,7 +16,7 @@ use mir.Facts.{to_z_pos, to_z-of_z}
 use types.Run.{OneOf, miss}
 use denote.Enum.Declared.{tag_of}
 use Rattle.limits.specs.Sizes.{place_count, kind_count}
-use Rattle.model.specs.Reading.{permitted_maps, signed16, most_base, required_map, optional_map, permitted, stands}
+use Rattle.model.specs.Reading.{permitted_maps, signed16, most_base, required_map, optional_map, permitted}
 use Rattle.model.proofs.BooleanLaws.{and_left, and_right}
 use Rattle.records.specs.contracts.Answer.{the_type}
 use Rattle.records.specs.declared.Number.{Number}

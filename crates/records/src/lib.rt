@@ -1,4 +1,6 @@
 // The records of a table, one at a time, read with refusals 1 and 6.
+#![tactic(auto)]
+
 ghost use Rattle.std.specs.Prelude.{◌≡◌};
 ghost use Rattle.model.specs.Reading.{signed16, required_map, stands};
 ghost use Rattle.model.specs.Reading as model;

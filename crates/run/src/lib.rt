@@ -1,4 +1,6 @@
 // The run of a word: one walk through the table, along the one path that the word takes.
+#![tactic(auto)]
+
 ghost use Rattle.std.specs.Prelude.{cond, ◌≡◌, min};
 ghost use Rattle.model.specs.Limits.{most_qubits};
 ghost use Rattle.decoded.specs.DecodedTable.{program_at};

@@ -1,4 +1,6 @@
 // Sets of qubits 1 to 64 as words: qubit q is in the set where bit q - 1 stands.
+#![tactic(auto)]
+
 ghost use Rattle.std.specs.Prelude.{◌≡◌, min, ◌-◌, length, take, drop};
 ghost use Rattle.model.specs.Lists.{qubits, entry, remove, position};
 ghost use Rattle.sets.specs.Sets.{members_of, within, entries_at};

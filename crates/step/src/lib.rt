@@ -1,4 +1,6 @@
 // What the step of a record asks of a list of qubits, which is a set: values of numbers, removals, the qubit that is touched, and whether a condition holds.
+#![tactic(auto)]
+
 ghost use Rattle.std.specs.Prelude.{cond, ◌≡◌, ◌≤◌, min};
 ghost use Rattle.limits.specs.Sizes.{set_length};
 ghost use Rattle.model.specs.Limits.{most_qubits};

@@ -1,5 +1,5 @@
 -- What the reader's answers say, with the program that it leaves: what was read, and where in the table each statement stands.
-use Rattle.std.specs.Prelude.{ℕ, zero, suc, ◌+◌, ◌-◌, ◌≤◌, ◌<◌, ◌≡◌, cond, List, length, take, drop, ltb}
+use Rattle.std.specs.Prelude.{ℕ, ◌+◌, ◌-◌, ◌≤◌, ◌<◌, ◌≡◌, cond, List, length, take, drop, ltb}
 use Rattle.decoded.specs.Layout.{record_count, program_length}
 use Rattle.model.specs.Limits.{most_records, most_procedures}
 use Rattle.model.specs.Syntax.{Statement, skip, NOT, sequence, if, qcase, call, Program}

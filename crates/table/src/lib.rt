@@ -1,4 +1,6 @@
 // Whole tables: trees in preorder are read with refusals 1 to 8, and every record is put down in the program as it is read.
+#![tactic(auto)]
+
 ghost use Rattle.std.specs.Prelude.{◌≡◌, ◌+◌, ◌-◌, ◌<◌};
 ghost use Rattle.model.specs.Limits.{most_records};
 ghost use Rattle.model.specs.Reading.{read_table};

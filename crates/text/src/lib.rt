@@ -1,5 +1,7 @@
 // Bytes put into a text one behind the other: what the listing and the page are made of. Each function takes the place from which it puts its
 // bytes and gives the place behind them. Where the text has ended it writes nothing but counts on, so an empty text measures.
+#![tactic(auto)]
+
 ghost use Rattle.std.specs.Prelude.{◌≡◌, [], ◌∷◌, length};
 ghost use Rattle.model.specs.Listing.{decimal, refusal_line};
 ghost use Rattle.text.specs.AppendedBytes.{written, next_place, place_after, last_two, puts};

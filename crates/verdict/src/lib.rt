@@ -1,4 +1,6 @@
 // The verdict on a table: accepted, or the one refusal that document 01's order fixes. Everything here works in local memory.
+#![tactic(auto)]
+
 ghost use Rattle.std.specs.Prelude.{◌≡◌};
 ghost use Rattle.model.specs.Answers.{accepted};
 ghost use Rattle.model.specs.Answers as model;

@@ -1,4 +1,6 @@
 // Widths: refusal 11, and the width of every statement, counted once and kept with the program.
+#![tactic(auto)]
+
 ghost use Rattle.std.specs.Prelude.{◌≡◌, ◌+◌, suc, min, max};
 ghost use Rattle.model.specs.Meaning.{digit};
 ghost use Rattle.decoded.specs.DecodedTable.{procedure_count};

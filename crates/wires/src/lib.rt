@@ -1,4 +1,6 @@
 // The wires of a running circuit, passed by value through each gate.
+#![tactic(auto)]
+
 ghost use Rattle.std.specs.Prelude.{◌≡◌, ◌^◌, ltb};
 ghost use Rattle.model.specs.Meaning.{flipped, state_of};
 ghost use Rattle.model.specs.Gates.{exchange, renamed};

@@ -1,7 +1,7 @@
 -- `list_fits` meets its contract. The loop keeps: the wires behind the first fit exactly where none so far was bad and those that are left fit.
 use mathlib.Core.Path.{◌≡◌}
 use mathlib.Core.Bool.{not, ◌&&◌}
-use Prim.Native.Nat.{◌+◌, ◌-◌, ◌≤◌}
+use Prim.Native.Nat.{◌-◌, ◌≤◌}
 use lib.ListN.{length, get_or}
 use Rattle.circuit.specs.GateChecks.{list_fits}
 use Rattle.circuit.specs.GatesInBytes.{part}

@@ -20,7 +20,7 @@ seek_spec = tie.close (tie.spec
     (λ c. search seeking)
     (λ c. search seeking)
     (λ c. elim c.if-number-last.branch [
-      then-number-last+then-greatest-number w ↦ search seeking
+      | then-number-last+then-greatest-number w ↦ search seeking
       | then-number-last+else-greatest-number w ↦ search seeking
       | else-number-last w ↦ search seeking
     ])

@@ -3,10 +3,6 @@ use Rattle.reach.proofs.CallsOfAStatement.{bodies}
 use borrow.Author.Rules.{rules}
 use Rattle.reach.proofs.any_lacks_removal.Statement.{statement}
 use Rattle.reach.proofs.any_lacks_removal.Tie as tie
-use Rattle.reach.proofs.any_lacks_removal.Reads as reads
-use Rattle.reach.proofs.any_lacks_removal.Lts as lts
-use Rattle.reach.proofs.one_lacks_removal.Reads as one-lacks-removal-reads
-use Rattle.decoded.proofs.procedures.Reads as procedures-reads
 
 procedures_requires : tie.Need-procedures-requires
 procedures_requires c κs = search rules

@@ -3,10 +3,6 @@ use Rattle.reach.proofs.CallsOfAStatement.{bodies}
 use borrow.Author.Rules.{rules}
 use Rattle.reach.proofs.body_lacks_removal.Statement.{statement}
 use Rattle.reach.proofs.body_lacks_removal.Tie as tie
-use Rattle.reach.proofs.body_lacks_removal.Reads as reads
-use Rattle.reach.proofs.body_lacks_removal.Lts as lts
-use Rattle.reach.proofs.lacks_removal.Reads as lacks-removal-reads
-use Rattle.decoded.proofs.root.Reads as root-reads
 
 root_requires : tie.Need-root-requires
 root_requires c κs = search rules

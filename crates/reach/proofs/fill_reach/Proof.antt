@@ -3,11 +3,6 @@ use Rattle.reach.proofs.CallsOfAStatement.{bodies}
 use borrow.Author.Rules.{rules}
 use Rattle.reach.proofs.fill_reach.Statement.{statement}
 use Rattle.reach.proofs.fill_reach.Tie as tie
-use Rattle.reach.proofs.fill_reach.Reads as reads
-use Rattle.reach.proofs.fill_reach.Lts as lts
-use Rattle.reach.proofs.close.Reads as close-reads
-use Rattle.reach.proofs.mark_bodies.Reads as mark-bodies-reads
-use Rattle.decoded.proofs.procedures.Reads as procedures-reads
 
 procedures_requires : tie.Need-procedures-p-requires
 procedures_requires c κs = search rules

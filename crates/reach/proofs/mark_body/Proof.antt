@@ -3,10 +3,6 @@ use Rattle.reach.proofs.CallsOfAStatement.{bodies}
 use borrow.Author.Rules.{rules}
 use Rattle.reach.proofs.mark_body.Statement.{statement}
 use Rattle.reach.proofs.mark_body.Tie as tie
-use Rattle.reach.proofs.mark_body.Reads as reads
-use Rattle.reach.proofs.mark_body.Lts as lts
-use Rattle.reach.proofs.mark_calls.Reads as mark-calls-reads
-use Rattle.decoded.proofs.root.Reads as root-reads
 
 root_requires : tie.Need-root-requires
 root_requires c κs = search rules

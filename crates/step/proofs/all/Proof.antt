@@ -3,9 +3,6 @@ use Rattle.step.proofs.Removals.{lists}
 use borrow.Author.Rules.{rules}
 use Rattle.step.proofs.all.Statement.{statement}
 use Rattle.step.proofs.all.Tie as tie
-use Rattle.step.proofs.all.Reads as reads
-use Rattle.step.proofs.all.Lts as lts
-use Rattle.sets.proofs.full.Reads as full-reads
 
 full_requires : tie.Need-full-requires
 full_requires c κs = search rules

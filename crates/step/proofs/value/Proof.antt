@@ -3,10 +3,6 @@ use Rattle.step.proofs.NumberValues.{value_constant, value_size, value_left}
 use borrow.Author.Rules.{rules}
 use Rattle.step.proofs.value.Statement.{statement}
 use Rattle.step.proofs.value.Tie as tie
-use Rattle.step.proofs.value.Reads as reads
-use Rattle.step.proofs.value.Lts as lts
-use Rattle.sets.proofs.size.Reads as size-reads
-use Rattle.step.proofs.sum.Reads as sum-reads
 
 enum_known_a : tie.Need-enum_known-a
 enum_known_a c = search rules

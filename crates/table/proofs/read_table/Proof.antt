@@ -3,10 +3,6 @@ use Rattle.table.proofs.WholeTable.{tables}
 use borrow.Author.Rules.{rules}
 use Rattle.table.proofs.read_table.Statement.{statement}
 use Rattle.table.proofs.read_table.Tie as tie
-use Rattle.table.proofs.read_table.Reads as reads
-use Rattle.table.proofs.read_table.Lts as lts
-use Rattle.decoded.proofs.write.put_count.Reads as put-count-reads
-use Rattle.table.proofs.read_bodies.Reads as read-bodies-reads
 
 returns : tie.Need-returns-then-table-lt2
 returns c = search tables

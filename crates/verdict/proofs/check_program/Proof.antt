@@ -3,12 +3,6 @@ use Rattle.verdict.proofs.AcceptanceAndRefusal.{checks, checked_twelve, checked_
 use borrow.Author.Rules.{rules}
 use Rattle.verdict.proofs.check_program.Statement.{statement}
 use Rattle.verdict.proofs.check_program.Tie as tie
-use Rattle.verdict.proofs.check_program.Reads as reads
-use Rattle.verdict.proofs.check_program.Lts as lts
-use Rattle.faults.proofs.faults.Reads as faults-reads
-use Rattle.reach.proofs.any_lacks_removal.Reads as any-lacks-removal-reads
-use Rattle.reach.proofs.fill_reach.Reads as fill-reach-reads
-use Rattle.widths.proofs.any_too_wide.Reads as any-too-wide-reads
 
 fill_reach_requires : tie.Need-fill_reach-requires
 fill_reach_requires c κs = search rules

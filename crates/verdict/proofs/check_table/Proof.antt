@@ -3,10 +3,6 @@ use Rattle.verdict.proofs.AcceptanceAndRefusal.{verdicts}
 use borrow.Author.Rules.{rules}
 use Rattle.verdict.proofs.check_table.Statement.{statement}
 use Rattle.verdict.proofs.check_table.Tie as tie
-use Rattle.verdict.proofs.check_table.Reads as reads
-use Rattle.verdict.proofs.check_table.Lts as lts
-use Rattle.table.proofs.read_table.Reads as read-table-reads
-use Rattle.verdict.proofs.check_program.Reads as check-program-reads
 
 returns : tie.Need-returns-then-n-eq0
 returns c = (search verdicts, (search verdicts, search verdicts))

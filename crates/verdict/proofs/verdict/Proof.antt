@@ -3,9 +3,6 @@ use Rattle.verdict.proofs.AcceptanceAndRefusal.{answers}
 use borrow.Author.Rules.{rules}
 use Rattle.verdict.proofs.verdict.Statement.{statement}
 use Rattle.verdict.proofs.verdict.Tie as tie
-use Rattle.verdict.proofs.verdict.Reads as reads
-use Rattle.verdict.proofs.verdict.Lts as lts
-use Rattle.verdict.proofs.check_table.Reads as check-table-reads
 
 check_table_requires : tie.Need-check_table-number-requires
 check_table_requires c κs = search rules

@@ -3,10 +3,6 @@ use Rattle.widths.proofs.CountedWidths.{judging}
 use borrow.Author.Rules.{rules}
 use Rattle.widths.proofs.any_too_wide.Statement.{statement}
 use Rattle.widths.proofs.any_too_wide.Tie as tie
-use Rattle.widths.proofs.any_too_wide.Reads as reads
-use Rattle.widths.proofs.any_too_wide.Lts as lts
-use Rattle.decoded.proofs.procedures.Reads as procedures-reads
-use Rattle.widths.proofs.one_too_wide.Reads as one-too-wide-reads
 
 procedures_requires : tie.Need-procedures-p-requires
 procedures_requires c κs = search rules

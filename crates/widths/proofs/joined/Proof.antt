@@ -3,10 +3,6 @@ use Rattle.widths.proofs.CountedWidths.{keeping}
 use borrow.Author.Rules.{rules}
 use Rattle.widths.proofs.joined.Statement.{statement}
 use Rattle.widths.proofs.joined.Tie as tie
-use Rattle.widths.proofs.joined.Reads as reads
-use Rattle.widths.proofs.joined.Lts as lts
-use Rattle.widths.proofs.larger.Reads as larger-reads
-use Rattle.widths.proofs.sum.Reads as sum-reads
 
 sum_requires : tie.Need-sum-requires
 sum_requires c κs = search rules

@@ -2,8 +2,6 @@
 use Rattle.widths.proofs.CountedWidths.{keeping}
 use Rattle.widths.proofs.one_if.Statement.{statement}
 use Rattle.widths.proofs.one_if.Tie as tie
-use Rattle.widths.proofs.one_if.Reads as reads
-use Rattle.widths.proofs.one_if.Lts as lts
 
 returns : tie.Need-returns-then-counts
 returns c = search keeping

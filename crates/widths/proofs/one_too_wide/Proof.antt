@@ -6,10 +6,6 @@ use Rattle.widths.specs.KeptWidths.{Judged}
 use Rattle.widths.proofs.CountedWidths.{judging, judged_more}
 use Rattle.widths.proofs.one_too_wide.Statement.{statement}
 use Rattle.widths.proofs.one_too_wide.Tie as tie
-use Rattle.widths.proofs.one_too_wide.Reads as reads
-use Rattle.widths.proofs.one_too_wide.Lts as lts
-use Rattle.decoded.proofs.root.Reads as root-reads
-use Rattle.widths.proofs.note_widths.Reads as note-widths-reads
 
 abbrev invariant_loop : tie.invariant-loop-f
 invariant_loop program₀ p matrix f₀ program f = Judged matrix program₀ f false program × (f ≤ p)
