@@ -59,7 +59,7 @@
  *
  *     foq_verdict       46 KiB
  *     foq_run          101 KiB
- *     foq_compile      167 KiB
+ *     foq_compile      168 KiB
  *     foq_inverse       46 KiB
  *     foq_circuit_read   1 KiB
  *     foq_circuit_run    1 KiB
