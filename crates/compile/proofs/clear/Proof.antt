@@ -28,11 +28,10 @@ loop_less c = omega arith
 
 loop_again : tie.Need-loop-i-preserved invariant_loop decreases_loop
 loop_again c =
-    let at_loop = c in
-    let i = at_loop.loop-i.i in (
+    let i = c.loop-i.i in (
       omega arith,
-      ap (λ (l : List ℕ). set l i 0) at_loop.loop-i.invariant.1 ∙ fill_more i 0 at_loop.args.workspace.now (omega arith),
-      length-set at_loop.loop-i.workspace i 0 ∙ at_loop.loop-i.invariant.2,
+      ap (λ (l : List ℕ). set l i 0) c.loop-i.invariant.1 ∙ fill_more i 0 c.args.workspace.now (omega arith),
+      length-set c.loop-i.workspace i 0 ∙ c.loop-i.invariant.2,
     )
 
 same_length_lem : tie.Need-shape_of-workspace invariant_loop decreases_loop
@@ -47,8 +46,7 @@ done w l n e h =
 
 returns : tie.Need-returns invariant_loop decreases_loop
 returns c =
-    let l = c in
-    done l.loop-i.workspace l.args.workspace.now l.loop-i.i c.loop-i.invariant.1 (omega arith)
+    done c.loop-i.workspace c.args.workspace.now c.loop-i.i c.loop-i.invariant.1 (omega arith)
 
 pub clear_spec : {M : Type 1} → statement M
 clear_spec =

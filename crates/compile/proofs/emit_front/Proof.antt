@@ -11,6 +11,5 @@ emit_front_spec = tie.close (tie.spec
     (λ c. search delivering)
     (λ c κs. search delivering)
     (λ c. search delivering)
-    (λ c. let at_call = c in
-    let args = at_call.args in
-    front_emitted args.end args.text.now at_call.emit_main.new.room _ (search delivering) (search delivering) (search delivering)))
+    (λ c. let args = c.args in
+    front_emitted args.end args.text.now c.emit_main.new.room _ (search delivering) (search delivering) (search delivering)))

@@ -188,8 +188,7 @@ emit_bodies_meets t = emit-bodies-lts.spec (
     (λ c κs. search rules)
     (λ c κs. search rules)
     (λ c κs. search rules)
-    (λ c κs. let d = c in
-    search (rules, seek_falls _ _ _ _ _ _ d.seek-d.ensures d.if-d-upto.true d.precedence.ensures))
+    (λ c κs. search (rules, seek_falls _ _ _ _ _ _ c.seek-d.ensures (search rules) c.precedence.ensures))
     (λ c. search rules)
     (λ c. search chaining)
     (λ c. search chaining)
@@ -635,10 +634,8 @@ emit_right_meets t = emit-right-lts.spec (
     (λ c. search rules)
     (λ c. search rights)
     (λ c. search rules)
-    (λ c. let e = c in
-    let d = e in
-    right_branches d.if-depth-eq0.false d.step_at-found.ensures (search (rules, d.in-Branches.is)) d.touched-q.ensures.0 d.touched-q.ensures.1
-    d.with_control.ensures e.emit_right-second.ensures e.with_control-in-Branches.ensures c.emit_right-in-Branches.ensures)
+    (λ c. right_branches c.if-depth-eq0.false c.step_at-found.ensures (search (rules, c.in-Branches.is)) c.touched-q.ensures.0 c.touched-q.ensures.1
+    c.with_control.ensures c.emit_right-second.ensures c.with_control-in-Branches.ensures c.emit_right-in-Branches.ensures)
     (λ c. search rules)
     (λ c. search rights)
     (λ c. search rights)

@@ -23,30 +23,18 @@ faults_requires : tie.Need-faults-requires
 faults_requires c κs = search rules
 
 returns_3 : tie.Need-returns-then-faults
-returns_3 c =
-    let faulty = c in
-    let narrow = faulty in
-    let wide = narrow in
-    let kept = wide in
-    let lacks = kept in
-    let filled = lacks in (
-      checked_twelve _ _ _ filled.fill_reach.ensures _ lacks.any_lacks_removal.ensures kept.if-any_lacks_removal.false _ _ wide.any_too_wide.ensures
-          narrow.if-any_too_wide.false _ faulty.faults.ensures c.if-faults.true,
-      search checks,
-    )
+returns_3 c = (
+  checked_twelve _ _ _ c.fill_reach.ensures _ c.any_lacks_removal.ensures c.if-any_lacks_removal.false _ _ c.any_too_wide.ensures
+      c.if-any_too_wide.false _ c.faults.ensures c.if-faults.true,
+  search checks,
+)
 
 returns_4 : tie.Need-returns
-returns_4 c =
-    let faulty = c in
-    let narrow = faulty in
-    let wide = narrow in
-    let kept = wide in
-    let lacks = kept in
-    let filled = lacks in (
-      checked_none _ _ _ filled.fill_reach.ensures _ lacks.any_lacks_removal.ensures kept.if-any_lacks_removal.false _ _ wide.any_too_wide.ensures
-          narrow.if-any_too_wide.false _ faulty.faults.ensures c.if-faults.false,
-      search checks,
-    )
+returns_4 c = (
+  checked_none _ _ _ c.fill_reach.ensures _ c.any_lacks_removal.ensures c.if-any_lacks_removal.false _ _ c.any_too_wide.ensures
+      c.if-any_too_wide.false _ c.faults.ensures c.if-faults.false,
+  search checks,
+)
 
 pub check_program_spec : {M : Type 1} → statement M
 check_program_spec =
