@@ -6,6 +6,7 @@ use Rattle.model.specs.Syntax.{Number, skip, NOT, qcase}
 use Rattle.model.specs.Lists.{touched}
 use Rattle.records.specs.Fields.{number_of}
 use Rattle.decoded.specs.DecodedTable.{first_number, removals_in, test_at, statement_at}
+use Rattle.decoded.specs.declared.Program.{Program}
 use Rattle.decoded.specs.declared.Step.{Step}
 use Rattle.decoded.specs.declared.Step.TheVariants as step
 use Rattle.decoded.specs.Steps.{touched_by, step_at}
@@ -13,20 +14,20 @@ use native.Mathlib.Numerals.{sub-one}
 use Rattle.decoded.proofs.StatementByStep.{IsStepOf, statement_step}
 
 -- what the step says of the statement; its parts are one less deep
-says : (g : List ℕ) (depth i : ℕ) (st : Step) → (depth ≡ 0 → ⊥) → st ≡ step_at g i →
+says : (g : Program) (depth i : ℕ) (st : Step) → (depth ≡ 0 → ⊥) → st ≡ step_at g i →
     IsStepOf (test_at g (depth - 1)) (statement_at g (depth - 1)) g st (statement_at g depth i)
 says g zero i st deep e = absurd (deep refl)
 says g (suc d) i st deep e = rw (sub-one, e) (statement_step g d i)
 
 -- the same, of the step that was found to be x
-pub at_step : (g : List ℕ) (depth i : ℕ) {st : Step} → (depth ≡ 0 → ⊥) → st ≡ step_at g i → {x : Step} → st ≡ x →
+pub at_step : (g : Program) (depth i : ℕ) {st : Step} → (depth ≡ 0 → ⊥) → st ≡ step_at g i → {x : Step} → st ≡ x →
     IsStepOf (test_at g (depth - 1)) (statement_at g (depth - 1)) g x (statement_at g depth i)
 at_step g depth i {st = st} deep steps e =
     subst (λ (y : Step). IsStepOf (test_at g (depth - 1)) (statement_at g (depth - 1)) g y (statement_at g depth i)) e
     (says g depth i st deep steps)
 
 -- NOT and qcase by the qubit that they touch
-module _ (g : List ℕ) (depth i : ℕ) (l : List ℕ) {st : Step} (deep : depth ≡ 0 → ⊥) (steps : st ≡ step_at g i) {q at : ℕ} (t : q ≡ touched_by g at l) where
+module _ (g : Program) (depth i : ℕ) (l : List ℕ) {st : Step} (deep : depth ≡ 0 → ⊥) (steps : st ≡ step_at g i) {q at : ℕ} (t : q ≡ touched_by g at l) where
   pub at_touches : st ≡ step.Touches at → (rs : List Number) × (a : Number) × (statement_at g depth i ≡ NOT rs a) × (q ≡ touched rs a l)
   at_touches e = (removals_in g at, number_of (first_number g at), at_step g depth i deep steps e, t)
 
@@ -36,7 +37,7 @@ module _ (g : List ℕ) (depth i : ℕ) (l : List ℕ) {st : Step} (deep : depth
   at_branches e = (removals_in g at, number_of (first_number g at), at_step g depth i deep steps e, t)
 
 -- at depth 0 there is nothing
-pub spent_skip : (g : List ℕ) (depth i : ℕ) → depth ≡ 0 → statement_at g depth i ≡ skip
+pub spent_skip : (g : Program) (depth i : ℕ) → depth ≡ 0 → statement_at g depth i ≡ skip
 unfolding statement_at
 spent_skip g depth i e = rw e
 
@@ -55,7 +56,7 @@ Idle (step.Both a b) = Unit {0}
 Idle (step.Either a b) = Unit {0}
 Idle (step.Negates a) = Unit {0}
 
-pub idle_skip : (g : List ℕ) (depth i : ℕ) {st : Step} → (depth ≡ 0 → ⊥) → st ≡ step_at g i → (x : Step) → st ≡ x →
+pub idle_skip : (g : Program) (depth i : ℕ) {st : Step} → (depth ≡ 0 → ⊥) → st ≡ step_at g i → (x : Step) → st ≡ x →
     Idle x → statement_at g depth i ≡ skip
 idle_skip g depth i deep steps step.Nothing e o = at_step g depth i deep steps e
 idle_skip g depth i deep steps (step.Touches at) e o = absurd o

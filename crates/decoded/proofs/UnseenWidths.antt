@@ -1,33 +1,23 @@
 -- A width that is kept stands there, and all else is as it was. Widths are seen by no statement: two programs that differ in nothing else have the same
 -- statements.
-use Prim.Native.Nat.{ℕ, zero, suc, ◌+◌, ◌%◌, ◌≤◌, ◌<◌}
-use native.Mathlib.Omega.{arith}
-use mathlib.Core.Path.{◌≡◌, refl, ap, ◌∙◌}
-use mathlib.Core.List.{List, ◌∷◌, map}
-use lib.ListN.{length, length-set}
-use lib.Seq.{get_or-set_same, get_or-set_other}
+use Rattle.std.proofs.Common.{length-set, ℕ, zero, suc, ◌+◌, ◌≤◌, ◌≡◌, refl, ap, ap₂, ◌∙◌, length, List, ◌∷◌, arith}
+use mathlib.Core.List.{map}
+use Rattle.std.proofs.lemmas.List.{set_past}
+use lib.ListN.{get_or}
 use Rattle.model.specs.Limits.{most_records, most_depth}
 use Rattle.model.specs.Lists.{range}
-use Rattle.model.proofs.BooleanLaws.{by_lt}
+use Rattle.model.specs.Syntax.{Statement}
+use Rattle.model.proofs.BooleanLaws.{by_eq, by_lt}
 use Rattle.records.specs.declared.Record.{Record}
 use Rattle.records.specs.declared.Record.TheVariants as kind
 use Rattle.records.specs.Fields.{number_of}
-use Rattle.decoded.specs.Layout.{
-  widths_at,
-  records_at,
-  roots_at,
-  root_count,
-  end_field,
-  place_field,
-  procedure_field,
-  count_field,
-  number_field,
-  removals_field,
-  program_length,
-  row_at,
-}
+use Rattle.decoded.specs.declared.Entry.{Entry}
+use Rattle.decoded.specs.declared.Program.{Program}
 use Rattle.decoded.specs.DecodedTable.{
-  word_in,
+  Whole,
+  no_number,
+  blank,
+  entry_of,
   start_of,
   end_of,
   root_of,
@@ -47,67 +37,61 @@ use Rattle.decoded.specs.DecodedTable.{
   Unseen,
 }
 use Rattle.decoded.specs.Steps.{step_of, step_at, parts_at, parts_of}
-use Rattle.decoded.proofs.FieldsInWords.{HeldAt, held}
-use Rattle.decoded.proofs.WordsOfARecord.{kept_in, kept_out}
+use Rattle.decoded.proofs.KeptRecords.{entry_there, entry_other}
 
-module _ (i w : ℕ) (g : List ℕ) where
+module _ (i w : ℕ) (g : Program) where
   -- the width stands there, every other width and all else are as they were
-  pub width_there : length g ≡ program_length → i ≤ most_records → width_in (with_width i w g) i ≡ w
-  width_there long l = rw (← kept_in i w g l) (get_or-set_same g (widths_at + i) w 0 (omega arith))
-
-  elsewhere : (k : ℕ) → (k ≡ widths_at + i → ⊥) → word_in (with_width i w g) k ≡ word_in g k
-  elsewhere k n = by_lt most_records i
-      (λ l. rw (← kept_out i w g l))
-      (λ l. rw (← kept_in i w g l) (get_or-set_other g (widths_at + i) k w 0 n))
+  pub width_there : Whole g → i ≤ most_records → width_in (with_width i w g) i ≡ w
+  width_there whole l = ap (λ (x : Entry). x.width) (entry_there g i (record (entry_of g i) { width = w }) (rw whole.entries (omega arith)))
 
   pub width_other : (j : ℕ) → (j ≡ i → ⊥) → width_in (with_width i w g) j ≡ width_in g j
-  width_other j n = elsewhere (widths_at + j) (λ e. n (omega arith))
+  width_other j n = ap (λ (x : Entry). x.width) (entry_other g i j (record (entry_of g i) { width = w }) n)
 
   pub width_unseen : Unseen g (with_width i w g)
-  width_unseen = by_lt most_records i
-      (λ l. rw (← kept_out i w g l) (record { head = λ k m. refl; rows = λ k m. refl }))
-      (λ l. record { head = λ k m. elsewhere k (λ e. omega arith); rows = λ k m. elsewhere k (λ e. omega arith) })
+  width_unseen = record { procedures = refl; roots = refl; entries = same }
+    where
+      at_i : ◌≡◌ {A = Entry} (record (entry_of (with_width i w g) i) { width = 0 }) (record (entry_of g i) { width = 0 })
+      at_i = by_lt i (length g.entries)
+          (λ l. ap (λ (x : Entry). record x { width = 0 }) (entry_there g i (record (entry_of g i) { width = w }) l))
+          (λ l. ap (λ (es : List Entry). record (get_or es i blank) { width = 0 }) (set_past g.entries i (record (entry_of g i) { width = w }) l))
 
-  pub width_long : length (with_width i w g) ≡ length g
-  width_long = by_lt most_records i (λ l. rw (← kept_out i w g l)) (λ l. rw (← kept_in i w g l) (length-set g (widths_at + i) w))
+      same : (k : ℕ) → ◌≡◌ {A = Entry} (record (entry_of (with_width i w g) k) { width = 0 }) (record (entry_of g k) { width = 0 })
+      same k = by_eq k i (λ e. rw e at_i) (λ n. ap (λ (x : Entry). record x { width = 0 }) (entry_other g i k (record (entry_of g i) { width = w }) n))
 
-pub unseen_then : {g h k : List ℕ} → Unseen g h → Unseen h k → Unseen g k
-unseen_then u v = record { head = λ n l. v.head n l ∙ u.head n l; rows = λ n l. v.rows n l ∙ u.rows n l }
+  pub width_whole : Whole g → Whole (with_width i w g)
+  width_whole whole = record { roots = whole.roots; entries = length-set g.entries i (record (entry_of g i) { width = w }) ∙ whole.entries }
 
-module _ (g h : List ℕ) (u : Unseen g h) where
+pub unseen_then : {g h k : Program} → Unseen g h → Unseen h k → Unseen g k
+unseen_then u v =
+    record { procedures = v.procedures ∙ u.procedures; roots = v.roots ∙ u.roots; entries = λ i. v.entries i ∙ u.entries i }
+
+module _ (g h : Program) (u : Unseen g h) where
   pub same_end : (i : ℕ) → end_of h i ≡ end_of g i
-  same_end i = u.rows (row_at i + end_field) (omega arith)
+  same_end i = ap (λ (x : Entry). x.end) (u.entries i)
 
   pub same_start : (i : ℕ) → start_of h i ≡ start_of g i
-  same_start i = u.rows (row_at i + place_field) (omega arith)
+  same_start i = ap (λ (x : Entry). x.place) (u.entries i)
 
-  pub same_root : (f : ℕ) → f < root_count → root_of h f ≡ root_of g f
-  same_root f l = u.head (roots_at + f) (omega arith)
+  pub same_root : (f : ℕ) → root_of h f ≡ root_of g f
+  same_root f = rw u.roots
 
   pub same_count : procedure_count h ≡ procedure_count g
-  same_count = ap (λ (w : ℕ). w % 256) (u.head 0 (omega arith))
+  same_count = u.procedures
 
-  same_from : (n at k : ℕ) → records_at ≤ at → removals_from n h at k ≡ removals_from n g at k
+  same_from : (n i k : ℕ) → removals_from n h i k ≡ removals_from n g i k
   unfolding removals_from
-  same_from zero at k l = refl
-  same_from (suc n) at k l =
-      rw (u.rows (at + removals_field + k) (omega arith)) (ap (λ rs. number_of (removal_number g at k) ∷ rs) (same_from n at (k + 1) l))
+  same_from zero i k = refl
+  same_from (suc n) i k =
+      let one : removal_number h i k ≡ removal_number g i k = ap (λ (x : Entry). get_or x.removals.numbers k no_number) (u.entries i) in
+      rw one (ap (λ rs. number_of (removal_number g i k) ∷ rs) (same_from n i (k + 1)))
 
-  same_removals : (at : ℕ) → records_at ≤ at → removals_in h at ≡ removals_in g at
-  same_removals at l = rw (u.rows (at + count_field) (omega arith)) (same_from (word_in g (at + count_field)) at 0 l)
+  same_removals : (i : ℕ) → removals_in h i ≡ removals_in g i
+  same_removals i =
+      let all : (entry_of h i).removals.count ≡ (entry_of g i).removals.count = ap (λ (x : Entry). x.removals.count) (u.entries i) in
+      rw all (same_from (entry_of g i).removals.count i 0)
 
-  same_record : (i : ℕ) → record_in h (row_at i) ≡ record_in g (row_at i)
-  unfolding record_in
-  same_record i =
-      rw (
-        u.rows (row_at i) (omega arith),
-        u.rows (row_at i + number_field) (omega arith),
-        u.rows (row_at i + procedure_field) (omega arith),
-        u.rows (row_at i + removals_field) (omega arith),
-      )
-
-  here : (i q : ℕ) → q ≡ row_at i → removals_in h q ≡ removals_in g q
-  here i q e = same_removals q (omega arith)
+  same_record : (i : ℕ) → record_in h i ≡ record_in g i
+  same_record i = ap (λ (x : Entry). x.read) (u.entries i)
 
   step_same : (i : ℕ) (r : Record) → step_of h i r ≡ step_of g i r
   unfolding step_of
@@ -125,7 +109,7 @@ module _ (g h : List ℕ) (u : Unseen g h) where
   step_same i kind.Negation = refl
 
   pub same_step : (i : ℕ) → step_at h i ≡ step_at g i
-  same_step i = rw (same_record i) (step_same i (record_in g (row_at i)))
+  same_step i = rw (same_record i) (step_same i (record_in g i))
 
   pub same_parts : (i : ℕ) → parts_at h i ≡ parts_at g i
   same_parts i = ap parts_of (same_step i)
@@ -148,40 +132,39 @@ module _ (g h : List ℕ) (u : Unseen g h) where
   pub same_test : (depth i : ℕ) → test_at h depth i ≡ test_at g depth i
   unfolding test_at
   same_test zero i = refl
-  same_test (suc d) i = rw (same_record i) (test_same d i (same_test d) (record_in g (row_at i)))
+  same_test (suc d) i = rw (same_record i) (test_same d i (same_test d) (record_in g i))
 
-  statement_same : (d i : ℕ) → ((j : ℕ) → statement_at h d j ≡ statement_at g d j) → (r : Record) → HeldAt g (row_at i) r →
+  statement_same : (d i : ℕ) → ((j : ℕ) → statement_at h d j ≡ statement_at g d j) → (r : Record) →
       statement_of (test_at h d) (statement_at h d) h i r ≡ statement_of (test_at g d) (statement_at g d) g i r
   unfolding statement_of
-  statement_same d i s kind.Skip o = refl
-  statement_same d i s (kind.Not q a) o = rw (here i q o.0)
-  statement_same d i s kind.Sequence o = rw (s (i + 1), same_end (i + 1), s (end_of g (i + 1)))
-  statement_same d i s kind.If o =
+  statement_same d i s kind.Skip = refl
+  statement_same d i s (kind.Not q a) = rw (same_removals i)
+  statement_same d i s kind.Sequence = rw (s (i + 1), same_end (i + 1), s (end_of g (i + 1)))
+  statement_same d i s kind.If =
       rw (same_test d (i + 1), same_end (i + 1), s (end_of g (i + 1)), same_end (end_of g (i + 1)), s (end_of g (end_of g (i + 1))))
-  statement_same d i s (kind.Qcase q a) o = rw (here i q o.0, s (i + 1), same_end (i + 1), s (end_of g (i + 1)))
-  statement_same d i s (kind.Call q f) o = rw (here i q o)
-  statement_same d i s (kind.Greater a b) o = refl
-  statement_same d i s (kind.AtLeast a b) o = refl
-  statement_same d i s (kind.Equal a b) o = refl
-  statement_same d i s kind.And o = refl
-  statement_same d i s kind.Or o = refl
-  statement_same d i s kind.Negation o = refl
+  statement_same d i s (kind.Qcase q a) = rw (same_removals i, s (i + 1), same_end (i + 1), s (end_of g (i + 1)))
+  statement_same d i s (kind.Call q f) = rw (same_removals i)
+  statement_same d i s (kind.Greater a b) = refl
+  statement_same d i s (kind.AtLeast a b) = refl
+  statement_same d i s (kind.Equal a b) = refl
+  statement_same d i s kind.And = refl
+  statement_same d i s kind.Or = refl
+  statement_same d i s kind.Negation = refl
 
   pub same_statement : (depth i : ℕ) → statement_at h depth i ≡ statement_at g depth i
   unfolding statement_at
   same_statement zero i = refl
-  same_statement (suc d) i = rw (same_record i) (statement_same d i (same_statement d) (record_in g (row_at i)) (held g (row_at i)))
+  same_statement (suc d) i = rw (same_record i) (statement_same d i (same_statement d) (record_in g i))
 
-  pub same_body : (f : ℕ) → f < root_count → body_at h f ≡ body_at g f
-  same_body f l = rw (same_root f l) (same_statement most_depth (root_of g f))
+  pub same_body : (f : ℕ) → body_at h f ≡ body_at g f
+  same_body f = rw (same_root f) (same_statement most_depth (root_of g f))
 
-  same_bodies : (n f : ℕ) → f + n ≤ root_count → map (body_at h) (range n f) ≡ map (body_at g) (range n f)
+  same_bodies : (n f : ℕ) → map (body_at h) (range n f) ≡ map (body_at g) (range n f)
   unfolding range
-  same_bodies zero f l = refl
-  same_bodies (suc n) f l = rw (same_body f (omega arith)) (ap (λ ss. body_at g f ∷ ss) (same_bodies n (suc f) (omega arith)))
+  same_bodies zero f = refl
+  same_bodies (suc n) f = rw (same_body f) (ap (λ ss. body_at g f ∷ ss) (same_bodies n (suc f)))
 
   pub same_program : program_at h ≡ program_at g
   same_program =
-      let few : procedure_count g < 256 = omega arith in
-      let bodies = same_bodies (procedure_count g) 1 (omega arith) in
-      rw (same_count, same_body 0 (omega arith), bodies)
+      ap₂ (λ (m : Statement) (ps : List Statement). record { main = m; procedures = ps }) (same_body 0)
+      (ap (λ (n : ℕ). map (body_at h) (range n 1)) same_count ∙ same_bodies (procedure_count g) 1)

@@ -1,86 +1,118 @@
--- What reading leaves of a table: the words of its records. With them it is the tree of its statements.
-use Rattle.std.specs.Prelude.{ℕ, zero, suc, ◌+◌, ◌%◌, ◌≤◌, ◌<◌, ◌≡◌, cond, List, [], ◌∷◌, map, get_or, set, ltb, pos}
+-- What reading leaves of a table: what was put down of each record. With it the program is the tree of its statements.
+use Rattle.std.specs.Prelude.{ℕ, zero, suc, ◌+◌, ◌≡◌, cond, List, [], ◌∷◌, map, replicate, get_or, set, length, ltb, pos}
 use Rattle.limits.specs.Sizes.{place_count}
-use Rattle.model.specs.Limits.{most_depth, most_records}
+use Rattle.model.specs.Limits.{most_depth}
 use Rattle.model.specs.Syntax.{Number, constant, Condition, greater, at_least, equal, conjunction, disjunction, negation}
-use Rattle.model.specs.Syntax.{Statement, skip, NOT, sequence, if, qcase, call, Program}
+use Rattle.model.specs.Syntax.{Statement, skip, NOT, sequence, if, qcase, call}
+use Rattle.model.specs.Syntax as syntax
 use Rattle.model.specs.Lists.{range}
 use Rattle.records.specs.declared.Number as code
+use Rattle.records.specs.declared.Number.TheVariants as base
 use Rattle.records.specs.declared.Record.{Record}
 use Rattle.records.specs.declared.Record.TheVariants as kind
-use Rattle.records.specs.Fields.{number_of, by_fields, plain_record, touch_record, comparison_record}
-use Rattle.decoded.specs.Layout.{
-  roots_at,
-  widths_at,
-  records_at,
-  end_field,
-  place_field,
-  procedure_field,
-  count_field,
-  number_field,
-  removals_field,
-  program_length,
-  row_at,
-}
-use Rattle.decoded.specs.RecordWords.{word_number}
+use Rattle.records.specs.Fields.{number_of}
+use Rattle.decoded.specs.Layout.{record_count, root_count, removal_room}
+use Rattle.decoded.specs.declared.Removals.{Removals}
+use Rattle.decoded.specs.declared.Entry.{Entry}
+use Rattle.decoded.specs.declared.Program.{Program}
 
--- the word at a place, 0 past the end
-abbrev pub word_in : List ℕ → ℕ → ℕ
-word_in g at = get_or g at 0
+-- a number that was not put down
+abbrev pub no_number : code.Number
+no_number = base.Constant (pos 0)
 
--- of record i: its kind, its place in the table, the record behind its subtree, and its width
-abbrev pub kind_in : List ℕ → ℕ → ℕ
-kind_in g i = word_in g (row_at i)
+abbrev pub no_removals : Removals
+no_removals = record { count = 0; numbers = replicate removal_room no_number }
 
-abbrev pub start_of : List ℕ → ℕ → ℕ
-start_of g i = word_in g (row_at i + place_field)
+-- a record that was not put down
+abbrev pub blank : Entry
+blank = record { read = kind.Skip; removals = no_removals; place = 0; end = 0; width = 0 }
 
-abbrev pub end_of : List ℕ → ℕ → ℕ
-end_of g i = word_in g (row_at i + end_field)
+-- the program of no table yet
+abbrev pub nothing_read : Program
+nothing_read = record { procedures = 0; roots = replicate root_count 0; entries = replicate record_count blank }
 
-abbrev pub width_in : List ℕ → ℕ → ℕ
-width_in g i = word_in g (widths_at + i)
+-- a program has a root for every byte and room for every record: the type of its fields says so
+pub record Whole (g : Program) : Type 0 where
+  pub roots : length g.roots ≡ root_count
+  pub entries : length g.entries ≡ record_count
+
+-- what was put down of record i; past the last there is none
+abbrev pub entry_of : Program → ℕ → Entry
+entry_of g i = get_or g.entries i blank
+
+-- of record i: the record as it was read, its place in the table, the record behind its subtree, and its width
+abbrev pub record_in : Program → ℕ → Record
+record_in g i = (entry_of g i).read
+
+abbrev pub start_of : Program → ℕ → ℕ
+start_of g i = (entry_of g i).place
+
+abbrev pub end_of : Program → ℕ → ℕ
+end_of g i = (entry_of g i).end
+
+abbrev pub width_in : Program → ℕ → ℕ
+width_in g i = (entry_of g i).width
 
 -- the root of the body of procedure f, main at 0; and how many procedures there are
-abbrev pub root_of : List ℕ → ℕ → ℕ
-root_of g f = word_in g (roots_at + f)
+abbrev pub root_of : Program → ℕ → ℕ
+root_of g f = get_or g.roots f 0
 
-abbrev pub procedure_count : List ℕ → ℕ
-procedure_count g = word_in g 0 % 256
+abbrev pub procedure_count : Program → ℕ
+procedure_count g = g.procedures
 
--- of the record whose words begin at a place: numbers a and b, and its removals, the first being number 0
-abbrev pub first_number : List ℕ → ℕ → code.Number
-first_number g at = word_number (word_in g (at + number_field))
+-- number a of a record, and number b of a comparison
+unfoldable pub number_a : Record → code.Number
+number_a (kind.Not at a) = a
+number_a (kind.Qcase at a) = a
+number_a (kind.Greater a b) = a
+number_a (kind.AtLeast a b) = a
+number_a (kind.Equal a b) = a
+number_a kind.Skip = no_number
+number_a kind.Sequence = no_number
+number_a kind.If = no_number
+number_a (kind.Call at f) = no_number
+number_a kind.And = no_number
+number_a kind.Or = no_number
+number_a kind.Negation = no_number
 
-abbrev pub second_number : List ℕ → ℕ → code.Number
-second_number g at = word_number (word_in g (at + removals_field))
+unfoldable pub number_b : Record → code.Number
+number_b (kind.Greater a b) = b
+number_b (kind.AtLeast a b) = b
+number_b (kind.Equal a b) = b
+number_b (kind.Not at a) = no_number
+number_b (kind.Qcase at a) = no_number
+number_b kind.Skip = no_number
+number_b kind.Sequence = no_number
+number_b kind.If = no_number
+number_b (kind.Call at f) = no_number
+number_b kind.And = no_number
+number_b kind.Or = no_number
+number_b kind.Negation = no_number
 
-abbrev pub removal_number : List ℕ → ℕ → ℕ → code.Number
-removal_number g at k = word_number (word_in g (at + removals_field + k))
+-- of record i: numbers a and b, and its removals, the first being number 0
+abbrev pub first_number : Program → ℕ → code.Number
+first_number g i = number_a (record_in g i)
+
+abbrev pub second_number : Program → ℕ → code.Number
+second_number g i = number_b (record_in g i)
+
+abbrev pub removal_number : Program → ℕ → ℕ → code.Number
+removal_number g i k = get_or (entry_of g i).removals.numbers k no_number
 
 -- n of its removals, from number k on; and all of them
-unfoldable pub removals_from : ℕ → List ℕ → ℕ → ℕ → List Number
-removals_from zero g at k = []
-removals_from (suc n) g at k = number_of (removal_number g at k) ∷ removals_from n g at (k + 1)
+unfoldable pub removals_from : ℕ → Program → ℕ → ℕ → List Number
+removals_from zero g i k = []
+removals_from (suc n) g i k = number_of (removal_number g i k) ∷ removals_from n g i (k + 1)
 
-abbrev pub removals_in : List ℕ → ℕ → List Number
-removals_in g at = removals_from (word_in g (at + count_field)) g at 0
-
--- the record whose words begin at a place, by its kind; it has its removals there too
-unfoldable pub record_in : List ℕ → ℕ → Record
-record_in g at =
-    by_fields (word_in g at)
-    (touch_record (word_in g at) at (first_number g at))
-    (comparison_record (word_in g at) (first_number g at) (second_number g at))
-    (kind.Call at (word_in g (at + procedure_field) % 256))
-    (plain_record (word_in g at))
+abbrev pub removals_in : Program → ℕ → List Number
+removals_in g i = removals_from (entry_of g i).removals.count g i 0
 
 -- a condition that stands for what is none
 abbrev pub no_test : Condition
 no_test = equal (constant (pos 0)) (constant (pos 0))
 
 -- the condition of a record, where `part` gives those of its parts
-unfoldable pub test_of : (ℕ → Condition) → List ℕ → ℕ → Record → Condition
+unfoldable pub test_of : (ℕ → Condition) → Program → ℕ → Record → Condition
 test_of part g i (kind.Greater a b) = greater (number_of a) (number_of b)
 test_of part g i (kind.AtLeast a b) = at_least (number_of a) (number_of b)
 test_of part g i (kind.Equal a b) = equal (number_of a) (number_of b)
@@ -95,20 +127,20 @@ test_of part g i (kind.Qcase at a) = no_test
 test_of part g i (kind.Call at f) = no_test
 
 -- the condition at record i, of at most `depth` records from its root down
-unfoldable pub test_at : List ℕ → ℕ → ℕ → Condition
+unfoldable pub test_at : Program → ℕ → ℕ → Condition
 test_at g zero i = no_test
-test_at g (suc depth) i = test_of (test_at g depth) g i (record_in g (row_at i))
+test_at g (suc depth) i = test_of (test_at g depth) g i (record_in g i)
 
 -- the statement of a record: "a record's children follow it, first child first"
-unfoldable pub statement_of : (ℕ → Condition) → (ℕ → Statement) → List ℕ → ℕ → Record → Statement
+unfoldable pub statement_of : (ℕ → Condition) → (ℕ → Statement) → Program → ℕ → Record → Statement
 statement_of test part g i kind.Skip = skip
-statement_of test part g i (kind.Not at a) = NOT (removals_in g at) (number_of a)
+statement_of test part g i (kind.Not at a) = NOT (removals_in g i) (number_of a)
 statement_of test part g i kind.Sequence = sequence (part (i + 1)) (part (end_of g (i + 1)))
 statement_of test part g i kind.If =
     if (test (i + 1)) (part (end_of g (i + 1))) (part (end_of g (end_of g (i + 1))))
 statement_of test part g i (kind.Qcase at a) =
-    qcase (removals_in g at) (number_of a) (part (i + 1)) (part (end_of g (i + 1)))
-statement_of test part g i (kind.Call at f) = call (removals_in g at) f
+    qcase (removals_in g i) (number_of a) (part (i + 1)) (part (end_of g (i + 1)))
+statement_of test part g i (kind.Call at f) = call (removals_in g i) f
 statement_of test part g i (kind.Greater a b) = skip
 statement_of test part g i (kind.AtLeast a b) = skip
 statement_of test part g i (kind.Equal a b) = skip
@@ -117,34 +149,37 @@ statement_of test part g i kind.Or = skip
 statement_of test part g i kind.Negation = skip
 
 -- the statement at record i, of at most `depth` records from its root down
-unfoldable pub statement_at : List ℕ → ℕ → ℕ → Statement
+unfoldable pub statement_at : Program → ℕ → ℕ → Statement
 statement_at g zero i = skip
-statement_at g (suc depth) i = statement_of (test_at g depth) (statement_at g depth) g i (record_in g (row_at i))
+statement_at g (suc depth) i = statement_of (test_at g depth) (statement_at g depth) g i (record_in g i)
 
 -- the body of procedure f, main at 0
-abbrev pub body_at : List ℕ → ℕ → Statement
+abbrev pub body_at : Program → ℕ → Statement
 body_at g f = statement_at g most_depth (root_of g f)
 
 -- the program
-abbrev pub program_at : List ℕ → Program
+abbrev pub program_at : Program → syntax.Program
 program_at g = record { main = body_at g 0; procedures = map (body_at g) (range (procedure_count g) 1) }
 
--- the program with a value noted at a slot. A slot outside, or a value past 65535, would be passed over: reading comes to neither.
-unfoldable pub noted : List ℕ → ℕ → ℕ → List ℕ
-noted g slot value = cond (ltb slot program_length) (cond (ltb value place_count) (set g slot value) g) g
+-- the program with how many procedures there are; with the root of the body of f, main at 0; with the record behind the subtree of record i; and with the width of
+-- record i. A root or an end past 65535 would be passed over: reading comes to none.
+abbrev pub with_count : ℕ → Program → Program
+with_count p g = record g { procedures = p }
 
--- so the root of the body of f, main at 0, and the record behind the subtree of record i
-abbrev pub with_root : ℕ → ℕ → List ℕ → List ℕ
-with_root f i g = noted g (roots_at + f) i
+unfoldable pub with_root : ℕ → ℕ → Program → Program
+with_root f i g = cond (ltb i place_count) (record g { roots = set g.roots f i }) g
 
-abbrev pub with_end : ℕ → ℕ → List ℕ → List ℕ
-with_end i end g = noted g (row_at i + end_field) end
+abbrev pub with_entry : ℕ → Entry → Program → Program
+with_entry i e g = record g { entries = set g.entries i e }
 
--- the width of record i, kept; there is no record past the last
-unfoldable pub with_width : ℕ → ℕ → List ℕ → List ℕ
-with_width i w g = cond (ltb most_records i) g (set g (widths_at + i) w)
+unfoldable pub with_end : ℕ → ℕ → Program → Program
+with_end i end g = cond (ltb end place_count) (with_entry i (record (entry_of g i) { end = end }) g) g
+
+abbrev pub with_width : ℕ → ℕ → Program → Program
+with_width i w g = with_entry i (record (entry_of g i) { width = w }) g
 
 -- two programs differ in the widths that they keep, and in nothing else
-pub record Unseen (g h : List ℕ) : Type 0 where
-  pub head : (k : ℕ) → k < widths_at → word_in h k ≡ word_in g k
-  pub rows : (k : ℕ) → records_at ≤ k → word_in h k ≡ word_in g k
+pub record Unseen (g h : Program) : Type 0 where
+  pub procedures : h.procedures ≡ g.procedures
+  pub roots : h.roots ≡ g.roots
+  pub entries : (i : ℕ) → record (entry_of h i) { width = 0 } ≡ record (entry_of g i) { width = 0 }

@@ -1,4 +1,4 @@
 pub mod Layout
-pub mod RecordWords
 pub mod DecodedTable
+pub mod RecordsPutDown
 pub mod Steps

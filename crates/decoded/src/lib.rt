@@ -1,27 +1,11 @@
-// A table decoded: every record that was read is put down once, as words of its own, and check, run and emission walk over these words. This crate owns them:
-// where they stand, what is asked of them and what is put down there. No other crate has an index into them.
+// A table decoded: every record that was read is put down once, with what check, run and emission ask of it. This crate owns the program: where a record stands,
+// what is asked of it and what is put down there. No other crate sees its fields.
 #![tactic(auto)]
 
 ghost use Rattle.std.specs.Prelude.{◌≡◌, [], ◌∷◌, ltb, length};
-ghost use Rattle.decoded.specs.Layout.{
-  record_count,
-  roots_at,
-  root_count,
-  widths_at,
-  records_at,
-  end_field,
-  place_field,
-  procedure_field,
-  count_field,
-  number_field,
-  removals_field,
-  record_length,
-  program_length,
-  row_at,
-};
-ghost use Rattle.decoded.specs.RecordWords.{word_number};
+ghost use Rattle.decoded.specs.Layout.{record_count, root_count, removal_room};
 ghost use Rattle.decoded.specs.DecodedTable.{
-  word_in,
+  nothing_read,
   start_of,
   end_of,
   width_in,
@@ -35,48 +19,72 @@ ghost use Rattle.decoded.specs.DecodedTable.{
 ghost use Rattle.decoded.specs.Steps.{step_at, parts_of, parts_at};
 
 use limits::{MOST_RECORDS, MOST_REMOVALS};
-use records::{Number, based, signed};
+use records::{Number, Record};
 
-// How many procedures there are stands first, then the root of each body, a width for each record, and the words of each record. Record numbers are below
-// RECORD_COUNT. There are as many roots as a byte has numbers: a procedure's number needs no test.
+// Record numbers are below RECORD_COUNT. There are as many roots as a byte has numbers: a procedure's number needs no test.
 const RECORD_COUNT: usize = MOST_RECORDS + 1;
-
-const LAST_RECORD: u32 = MOST_RECORDS as u32;
-
-const ROOTS_AT: usize = 1;
 
 const ROOT_COUNT: usize = 256;
 
-const WIDTHS_AT: usize = ROOTS_AT + ROOT_COUNT;
+const REMOVAL_ROOM: usize = MOST_REMOVALS as usize;
 
-const RECORDS_AT: usize = WIDTHS_AT + RECORD_COUNT;
+// The removals of a record: so many numbers, the first one first. There is room for the most that a record has.
+#[derive(Clone, Copy)]
+struct Removals {
+    count: u8,
+    numbers: [Number; REMOVAL_ROOM],
+}
 
-// The words of a record: its kind, the record behind its subtree, its place in the table, the procedure that it calls, how many removals it has, number a, and
-// its removals, or number b in the place of the first. (A call has no number a.)
-const END_FIELD: usize = 1;
+const NO_REMOVALS: Removals = Removals {
+    count: 0,
+    numbers: [Number::Constant(0); REMOVAL_ROOM],
+};
 
-const PLACE_FIELD: usize = 2;
+// What is put down of a record: the record as it was read, its removals, its place in the table, the record behind its subtree, and its width.
+#[derive(Clone, Copy)]
+struct Entry {
+    read: Record,
+    removals: Removals,
+    place: u16,
+    end: u16,
+    width: u8,
+}
 
-const PROCEDURE_FIELD: usize = 3;
+const BLANK: Entry = Entry {
+    read: Record::Skip,
+    removals: NO_REMOVALS,
+    place: 0,
+    end: 0,
+    width: 0,
+};
 
-const COUNT_FIELD: usize = 4;
+// How many procedures there are, the root of each body, and what was put down of each record.
+#[derive(Drop)]
+pub struct Program {
+    procedures: u8,
+    roots: [u16; ROOT_COUNT],
+    entries: [Entry; RECORD_COUNT],
+}
 
-const NUMBER_FIELD: usize = 5;
+impl Program {
+    // Of no table yet.
+    pub fn new() -> Self
+        ensures { result ≡ nothing_read }
+    {
+        Program {
+            procedures: 0,
+            roots: [0; ROOT_COUNT],
+            entries: [BLANK; RECORD_COUNT],
+        }
+    }
+}
 
-const REMOVALS_FIELD: usize = 6;
-
-const RECORD_LENGTH: usize = REMOVALS_FIELD + MOST_REMOVALS as usize;
-
-pub const PROGRAM_LENGTH: usize = RECORDS_AT + RECORD_LENGTH * RECORD_COUNT;
-
-pub type Program = [u32; PROGRAM_LENGTH];
-
-// Where the words of a record begin: a step hands it on, and only functions of this crate look behind it.
+// A record by its number: a step hands it on.
 pub type Row = u32;
 
 pub mod write;
 
-// What a record does, whatever the list. Children go by their numbers, removals and numbers by the row of the record.
+// What a record does, whatever the list. Children go by their numbers, removals and numbers by the record's own.
 #[derive(Drop)]
 pub enum Step {
     // skip
@@ -111,171 +119,151 @@ pub enum Parts {
     Call(u8, Row),
 }
 
-// Each place is the definition's.
-fn layout() -> [usize; 13]
-    ensures { result ≡ record_count ∷ roots_at ∷ root_count ∷ widths_at ∷ records_at ∷ end_field ∷ place_field ∷ procedure_field ∷ count_field ∷ number_field ∷ removals_field ∷
-        record_length ∷ program_length ∷ [] }
+// Each size is the definition's.
+fn layout() -> [usize; 3]
+    ensures { result ≡ record_count ∷ root_count ∷ removal_room ∷ [] }
 {
-    [
-        RECORD_COUNT,
-        ROOTS_AT,
-        ROOT_COUNT,
-        WIDTHS_AT,
-        RECORDS_AT,
-        END_FIELD,
-        PLACE_FIELD,
-        PROCEDURE_FIELD,
-        COUNT_FIELD,
-        NUMBER_FIELD,
-        REMOVALS_FIELD,
-        RECORD_LENGTH,
-        PROGRAM_LENGTH,
-    ]
-}
-
-// A word, 0 past the end.
-fn word(program: &Program, at: usize) -> u32
-    ensures { result ≡ word_in program.now at }
-{
-    let words = &program[..];
-    if at < words.len() { words[at] } else { 0 }
-}
-
-// Where the words of record i begin.
-fn row(i: u32) -> usize
-    ensures { result ≡ row_at i }
-{
-    RECORDS_AT + RECORD_LENGTH * i as usize
+    [RECORD_COUNT, ROOT_COUNT, REMOVAL_ROOM]
 }
 
 // How many procedures has the program?
 pub fn procedures(program: &Program) -> u8
     ensures { result ≡ procedure_count program.now }
 {
-    (program[0] % 256) as u8
+    program.procedures
 }
 
 // The root of the body of f, main at 0.
 pub fn root(program: &Program, f: u8) -> u32
     ensures { result ≡ root_of program.now f }
 {
-    program[ROOTS_AT + f as usize]
+    program.roots[f as usize] as u32
 }
 
 // Where record i begins in the table.
 pub fn start(program: &Program, i: u32) -> usize
     ensures { result ≡ start_of program.now i }
 {
-    word(program, row(i) + PLACE_FIELD) as usize
+    program
+        .entries
+        .get(i as usize)
+        .map_or(0, |entry| entry.place as usize)
 }
 
 // Is the statement at record i wide? Is the call there recursive?
 pub fn is_wide(program: &Program, i: u32) -> bool
     ensures { result ≡ ltb 0 (width_in program.now i) }
 {
-    let words = &program[..];
-    let at = WIDTHS_AT + i as usize;
-    if at < words.len() {
-        0 < words[at]
-    } else {
-        false
-    }
+    program
+        .entries
+        .get(i as usize)
+        .map_or(false, |entry| 0 < entry.width)
 }
 
 // The record behind the subtree of record i.
 fn subtree_end(program: &Program, i: u32) -> u32
     ensures { result ≡ end_of program.now i }
 {
-    word(program, row(i) + END_FIELD)
+    program
+        .entries
+        .get(i as usize)
+        .map_or(0, |entry| entry.end as u32)
 }
 
-// The number of a word.
-fn number_of(word: u32) -> Number
-    ensures { result ≡ word_number word }
-{
-    based(
-        (word % 256) as u8,
-        signed((word / 256 % 256) as u8, (word / 65536 % 256) as u8),
-    )
-}
-
-// Number a of the record in a row.
+// Number a of record i.
+#[tactic(auto, unfolding(crate::specs::DecodedTable::number_a))]
 pub fn first_number(program: &Program, at: Row) -> Number
     ensures { result ≡ first_number program.now at }
 {
-    number_of(word(program, at as usize + NUMBER_FIELD))
+    let Some(entry) = program.entries.get(at as usize) else {
+        return Number::Constant(0);
+    };
+    match entry.read {
+        Record::Not(_, a) | Record::Qcase(_, a) => a,
+        Record::Greater(a, _) | Record::AtLeast(a, _) | Record::Equal(a, _) => a,
+        _ => Number::Constant(0),
+    }
 }
 
 // Number b of a comparison.
+#[tactic(auto, unfolding(crate::specs::DecodedTable::number_b))]
 pub fn second_number(program: &Program, at: Row) -> Number
     ensures { result ≡ second_number program.now at }
 {
-    number_of(word(program, at as usize + REMOVALS_FIELD))
+    let Some(entry) = program.entries.get(at as usize) else {
+        return Number::Constant(0);
+    };
+    match entry.read {
+        Record::Greater(_, b) | Record::AtLeast(_, b) | Record::Equal(_, b) => b,
+        _ => Number::Constant(0),
+    }
 }
 
-// How many removals has the record in a row?
+// How many removals has record i?
+#[tactic(auto, using(crate::proofs::RecordsOfAProgram::removals_length))]
 pub fn removal_count(program: &Program, at: Row) -> u32
     ensures { result ≡ length (removals_in program.now at) }
 {
-    word(program, at as usize + COUNT_FIELD)
+    program
+        .entries
+        .get(at as usize)
+        .map_or(0, |entry| entry.removals.count as u32)
 }
 
 // One of its removals; the first is number 0.
 pub fn removal(program: &Program, at: Row, k: u32) -> Number
     ensures { result ≡ removal_number program.now at k }
 {
-    number_of(word(program, at as usize + REMOVALS_FIELD + k as usize))
+    let Some(entry) = program.entries.get(at as usize) else {
+        return Number::Constant(0);
+    };
+    entry
+        .removals
+        .numbers
+        .get(k as usize)
+        .copied()
+        .unwrap_or(Number::Constant(0))
 }
 
-// What record i does: one match over the kinds 0 to 11. Past the last record there is none.
+// What record i does: one match over the kinds. Past the last record there is none.
+#[tactic(auto, unfolding(crate::specs::Steps::step_of))]
 pub fn step_at(program: &Program, i: u32) -> Step
     ensures { result ≡ step_at program.now i }
 {
-    let words = &program[..];
-    let at = row(i);
-    if words.len() <= at {
+    let Some(entry) = program.entries.get(i as usize) else {
         return Step::Nothing;
-    }
-    let kind = words[at];
+    };
     let first = i + 1;
-    let place = at as u32;
-    match kind {
-        0 => Step::Nothing,
-        1 => Step::Touches(place),
-        2 => Step::Sequence(first, subtree_end(program, first)),
-        3 => {
+    match entry.read {
+        Record::Skip => Step::Nothing,
+        Record::Not(_, _) => Step::Touches(i),
+        Record::Sequence => Step::Sequence(first, subtree_end(program, first)),
+        Record::If => {
             let second = subtree_end(program, first);
             Step::Chooses(first, second, subtree_end(program, second))
         }
-        4 => Step::Branches(place, first, subtree_end(program, first)),
-        5 => Step::Calls((word(program, at + PROCEDURE_FIELD) % 256) as u8, place),
-        6 => Step::Greater(place),
-        7 => Step::AtLeast(place),
-        8 => Step::Equal(place),
-        9 => Step::Both(first, subtree_end(program, first)),
-        10 => Step::Either(first, subtree_end(program, first)),
-        11 => Step::Negates(first),
-        _ => Step::Nothing,
+        Record::Qcase(_, _) => Step::Branches(i, first, subtree_end(program, first)),
+        Record::Call(_, f) => Step::Calls(f, i),
+        Record::Greater(_, _) => Step::Greater(i),
+        Record::AtLeast(_, _) => Step::AtLeast(i),
+        Record::Equal(_, _) => Step::Equal(i),
+        Record::And => Step::Both(first, subtree_end(program, first)),
+        Record::Or => Step::Either(first, subtree_end(program, first)),
+        Record::Negation => Step::Negates(first),
     }
 }
 
 // What a step is for calls.
+#[tactic(auto, unfolding(crate::specs::Steps::parts_of))]
 fn parts_of(found: Step) -> Parts
     ensures { result ≡ parts_of found }
 {
     match found {
-        Step::Nothing => Parts::Neither,
-        Step::Touches(_) => Parts::Neither,
         Step::Sequence(first, second) => Parts::Two(first, second, true),
         Step::Chooses(_, yes, no) => Parts::Two(yes, no, false),
         Step::Branches(_, zero, one) => Parts::Two(zero, one, false),
         Step::Calls(g, at) => Parts::Call(g, at),
-        Step::Greater(_) => Parts::Neither,
-        Step::AtLeast(_) => Parts::Neither,
-        Step::Equal(_) => Parts::Neither,
-        Step::Both(_, _) => Parts::Neither,
-        Step::Either(_, _) => Parts::Neither,
-        Step::Negates(_) => Parts::Neither,
+        _ => Parts::Neither,
     }
 }
 

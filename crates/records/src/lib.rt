@@ -76,7 +76,7 @@ pub enum Number {
 
 // A record of each kind. Removals stand in the table: here is the place of their count, 0 where there are none. It has 16 bits, as places in a decoded program have.
 // No Option: decoded's definitions have a record of this type too, which always has its removals, at the place of its words.
-#[derive(Drop)]
+#[derive(Clone, Copy)]
 pub enum Record {
     Skip,
     Not(u16, Number),
