@@ -1,5 +1,5 @@
 -- Laws of the readers of fields, turned as the code's needs are.
-use mathlib.Core.Path.{◌≡◌, sym, ap}
+use mathlib.Core.Path.{◌≡◌, sym, ap, ◌∙◌}
 use mathlib.Core.List.{List}
 use Prim.Native.Nat.{ℕ, zero, suc, ◌+◌, ◌-◌, ◌*◌, ◌≤◌, ◌<◌}
 use native.Mathlib.Numerals.{add-one}
@@ -10,7 +10,8 @@ use lib.IntN.{pos}
 use mir.Syntax.{w8, w16}
 use mir.Val.{Fits, to_z}
 use mir.Facts.{to_z_pos, to_z-neg}
-use Rattle.std.specs.Prelude.{Ok, Err}
+use Rattle.std.specs.Prelude.{Result, Ok, Err, IsErrAnd}
+use Rattle.std.proofs.lemmas.Result.{err_from_is_err_and}
 use Rattle.limits.specs.Sizes.{kind_count}
 use Rattle.limits.specs.declared.Refusal.{Refusal}
 use Rattle.model.specs.Reading.{permitted_maps, signed16, required_map}
@@ -19,6 +20,10 @@ use Rattle.records.specs.declared.Number.{Number}
 use Rattle.records.specs.declared.Number.TheVariants as base
 use Rattle.records.specs.declared.Record.TheVariants as kind
 use Rattle.records.specs.Fields.{based, written_at, number_at, numbers_at, plain_record}
+
+-- what goes out where a `?` hands out a refusal
+pub handed_out : {T : Type 0} (r : Result T Refusal) (why : Refusal) → IsErrAnd r (λ w. w ≡ why) → r ≡ Err why
+handed_out r why e = let p = err_from_is_err_and r e in p.1 ∙ ap Err p.2
 
 -- so many numbers, one after the other: the first is refused, or the others stand behind it
 pub numbers_refused : (bs : List ℕ) (at n : ℕ) (why : Refusal) → 0 < n → number_at bs at ≡ Err why → numbers_at n bs at ≡ Err why
