@@ -7,17 +7,19 @@ use native.Mathlib.Nat.{le_of_suc-le-suc, lt_of_le_of_lt, mod-lt}
 use native.Mathlib.Omega.{arith}
 use borrow.Author.Rules.{rules}
 use borrow.Author.Tests.{lt-ltb, le-ltb, ne_eqb, eqb-true}
-use lib.Bits.{bit_and, bit_or, and_le_r, or_lt}
+use lib.Bits.{bit_and, bit_or, and_le_r, or_lt, or_zero_r}
 use lib.Pow.{pow_pos}
 use lib.ListN.{length, get_or}
 use lib.Dec.{eqb, lit<}
 use mir.Syntax.{w64}
 use mir.Val.{Fits}
+use Rattle.std.specs.Prelude.{Option, Some, None}
+use Rattle.std.specs.Option.{SomeIff, unwrap_or}
 use Rattle.limits.specs.Sizes.{row_count}
 use Rattle.model.specs.Lists.{entry, member}
 use Rattle.model.specs.Meaning.{bit, state_of}
 use Rattle.model.specs.Reach.{any_below}
-use Rattle.model.proofs.BooleanLaws.{eqb_same, same_test, and_left, and_right, and_both, any_here, any_cases, any_same}
+use Rattle.model.proofs.BooleanLaws.{by_lt, eqb_same, same_test, and_left, and_right, and_both, any_here, any_cases, any_same}
 use Rattle.model.proofs.WordBits.{tested, shifted, zero_bit, past_bit}
 use Rattle.sets.specs.Sets.{members_of, entries_at}
 use Rattle.sets.proofs.BitLaws.{higher_bit, or_bit, and_bit}
@@ -29,13 +31,11 @@ use Rattle.faults.proofs.RowLaws.{up, up_at, up_below, none_row, row_is_lem}
 
 module _ (row q : ℕ) where
   -- one number more
-  pub mark_within : q < 64 → bit_or row ((1 * 2 ^ q) % 2 ^ 64) ≡ marked row q
+  pub mark_is : (shifted_to : Option ℕ) (b : ℕ) → SomeIff shifted_to (q < 64) ((1 * 2 ^ q) % 2 ^ 64) → b ≡ unwrap_or shifted_to 0 →
+      bit_or row b ≡ marked row q
   unfolding marked
-  mark_within l = rw (lt-ltb q 64 l, shifted 64 q l)
-
-  pub mark_past : 64 ≤ q → row ≡ marked row q
-  unfolding marked
-  mark_past l = rw (le-ltb q 64 l)
+  mark_is (Some x) b (l, e) is = rw (lt-ltb q 64 l, is, e, shifted 64 q l)
+  mark_is None b past is = by_lt q 64 (λ l. absurd (past l)) (λ l. rw (le-ltb q 64 l, is) (or_zero_r row))
 
   -- is it there?
   pub contains_within : q < 64 → eqb (bit_and (row / 2 ^ q) 1) 1 ≡ row_is row q
@@ -62,7 +62,7 @@ module _ (known : List ℕ) (f m at : ℕ) (here : at ≡ place f m) where
   pub known_past : row_count ≤ at → 0 ≡ known_row known f m
   known_past l = rw (← here, le-ltb at row_count l)
 
-pub ruleset rows = (rules, mark_within, mark_past, contains_within, contains_past, closes_again, closes_once, known_within, known_past)
+pub ruleset rows = (rules, mark_is, contains_within, contains_past, closes_again, closes_once, known_within, known_past)
 
 -- what a call touches: the positions of the callee's list as the entries that stand there, of which none is 0
 module _ (known : List ℕ) (f list : ℕ) where

@@ -125,43 +125,13 @@ module _ (g : List ℕ) (f m : ℕ) (known next : List ℕ) where
   row_filled root row at t s = rw (← at, ← t) s
 
   module _ (ranks : List ℕ) (k r : ℕ) (ranked : r ≡ rank_at ranks f) where
-    pub fill_ranked : r ≡ k → next ≡ filled_row g f m known → next ≡ filled_if g ranks k f m known
+    fill_ranked : r ≡ k → next ≡ filled_row g f m known → next ≡ filled_if g ranks k f m known
     unfolding filled_if
     fill_ranked e s = rw (← ranked, eq-eqb r k e) s
 
-    pub fill_other : (r ≡ k → ⊥) → known ≡ filled_if g ranks k f m known
+    fill_other : (r ≡ k → ⊥) → known ≡ filled_if g ranks k f m known
     unfolding filled_if
     fill_other n = rw (← ranked, ne_eqb r k n)
-
-module _ (g ranks : List ℕ) (now next first : List ℕ) where
-  -- procedure by procedure
-  module _ (f k m : ℕ) (so : now ≡ filled_rank g ranks f k m first) where
-    pub procedures_more : next ≡ filled_if g ranks k (f + 1) m now → next ≡ filled_rank g ranks (f + 1) k m first
-    unfolding filled_rank
-    procedures_more e = rw (add-one f, ← so, ← add-one f) e
-
-    pub procedures_end : (p : ℕ) → p ≡ procedure_count g → f ≤ p → p ≤ f → now ≡ filled_rank g ranks (procedure_count g) k m first
-    procedures_end p c a b = let e : f ≡ p = omega arith in so ∙ rw (e, c)
-
-  -- rank by rank
-  module _ (k m : ℕ) (so : now ≡ filled_length g ranks k m first) where
-    pub length_more : next ≡ filled_rank g ranks (procedure_count g) (k + 1) m now → next ≡ filled_length g ranks (k + 1) m first
-    unfolding filled_length
-    length_more e = rw (add-one k, ← so, ← add-one k) e
-
-    pub length_end : (p : ℕ) → p ≡ procedure_count g → k ≤ p → p ≤ k → now ≡ filled_length g ranks (procedure_count g) m first
-    length_end p c a b = let e : k ≡ p = omega arith in so ∙ rw (e, c)
-
-  -- length by length
-  module _ (sums n m : ℕ) (so : now ≡ filled g ranks sums n m first) where
-    pub lengths_more : next ≡ filled_asked g ranks sums (n - (m + 1)) (m + 1) now → next ≡ filled g ranks sums n (m + 1) first
-    unfolding filled
-    lengths_more e = rw (add-one m, ← so, ← add-one m) e
-
-    pub lengths_end : (matrix : List ℕ) (p counts : ℕ) → p ≡ procedure_count g → ranks ≡ ranks_in matrix p →
-        counts ≡ counts_below g (suc (procedure_count g)) → sums ≡ sums_below counts most_qubits →
-        m ≤ n → n ≤ m → now ≡ filled g (ranks_in matrix (procedure_count g)) (sums_in g) n n first
-    lengths_end matrix p counts q r c s a b = let e : m ≡ n = omega arith in rw (← c, ← s, ← q, ← r) (so ∙ rw e)
 
 module _ (g ranks : List ℕ) (first : List ℕ) where
   pub procedures_start : (k m : ℕ) → first ≡ filled_rank g ranks 0 k m first
@@ -178,13 +148,67 @@ module _ (g ranks : List ℕ) (first : List ℕ) where
 
   -- lengths that calls can lead to
   module _ (sums gone m : ℕ) (b : Bool) (e : b ≡ row_is sums gone) where
-    pub asked_yes : (next : List ℕ) → b ≡ true → next ≡ filled_length g ranks (procedure_count g) m first → next ≡ filled_asked g ranks sums gone m first
+    asked_yes : (next : List ℕ) → b ≡ true → next ≡ filled_length g ranks (procedure_count g) m first → next ≡ filled_asked g ranks sums gone m first
     unfolding filled_asked
     asked_yes next y h = rw (← e, y) h
 
-    pub asked_not : b ≡ false → first ≡ filled_asked g ranks sums gone m first
+    asked_not : b ≡ false → first ≡ filled_asked g ranks sums gone m first
     unfolding filled_asked
     asked_not n = rw (← e, n)
+
+-- one procedure, rank or length after the other: what was filled before number f, and what is with it
+below : (f : ℕ) → 1 ≤ f → f ≡ suc (f - 1)
+below f h = omega arith
+
+module _ (g ranks : List ℕ) (now first : List ℕ) where
+  -- procedures of one rank
+  module _ (f k m i : ℕ) (so : now ≡ filled_rank g ranks (f - 1) k m first) where
+    module _ (some : 1 ≤ f) (here : i ≡ f) where
+      one_more : (next : List ℕ) → next ≡ filled_if g ranks k f m now → next ≡ filled_rank g ranks i k m first
+      unfolding filled_rank
+      one_more next e = rw (here, below f some, ← so, ← below f some) e
+
+      module _ (r : ℕ) (ranked : r ≡ rank_at ranks f) where
+        pub rank_with : (next : List ℕ) → r ≡ k → next ≡ filled_row g f m now → next ≡ filled_rank g ranks i k m first
+        rank_with next e s = one_more next (fill_ranked g f m now next ranks k r ranked e s)
+
+        pub rank_without : (r ≡ k → ⊥) → now ≡ filled_rank g ranks i k m first
+        rank_without n = one_more now (fill_other g f m now now ranks k r ranked n)
+
+    pub rank_filled : i ≡ f - 1 → now ≡ filled_rank g ranks i k m first
+    rank_filled e = rw e so
+
+  -- ranks of one length
+  module _ (k m i : ℕ) (so : now ≡ filled_length g ranks (k - 1) m first) where
+    pub length_with : 1 ≤ k → i ≡ k → (next : List ℕ) → next ≡ filled_rank g ranks (procedure_count g) k m now → next ≡ filled_length g ranks i m first
+    unfolding filled_length
+    length_with some here next e = rw (here, below k some, ← so, ← below k some) e
+
+    pub length_filled : i ≡ k - 1 → now ≡ filled_length g ranks i m first
+    length_filled e = rw e so
+
+  -- lengths that calls can lead to
+  module _ (sums n m i : ℕ) (so : now ≡ filled g ranks sums n (m - 1) first) where
+    module _ (some : 1 ≤ m) (here : i ≡ m) where
+      one_longer : (next : List ℕ) → next ≡ filled_asked g ranks sums (n - m) m now → next ≡ filled g ranks sums n i first
+      unfolding filled
+      one_longer next e = rw (here, below m some, ← so, ← below m some) e
+
+      module _ (b : Bool) (asked : b ≡ row_is sums (n - m)) where
+        pub lengths_with : (next : List ℕ) → b ≡ true → next ≡ filled_length g ranks (procedure_count g) m now → next ≡ filled g ranks sums n i first
+        lengths_with next y h = one_longer next (asked_yes g ranks now sums (n - m) m b asked next y h)
+
+        pub lengths_without : b ≡ false → now ≡ filled g ranks sums n i first
+        lengths_without e = one_longer now (asked_not g ranks now sums (n - m) m b asked e)
+
+    pub lengths_filled : i ≡ m - 1 → now ≡ filled g ranks sums n i first
+    lengths_filled e = rw e so
+
+-- all of them: the ranks and sums are those of the program
+pub lengths_end : (g ranks now first : List ℕ) (sums n : ℕ) (matrix : List ℕ) (p counts : ℕ) → p ≡ procedure_count g → ranks ≡ ranks_in matrix p →
+    counts ≡ counts_below g (suc (procedure_count g)) → sums ≡ sums_below counts most_qubits → now ≡ filled g ranks sums n n first →
+    now ≡ filled g (ranks_in matrix (procedure_count g)) (sums_in g) n n first
+lengths_end g ranks now first sums n matrix p counts q r c s so = rw (← c, ← s, ← q, ← r) so
 
 -- main, by the whole table
 pub main_row : (g matrix known : List ℕ) (n root row : ℕ) (r : Bool) →
@@ -199,18 +223,8 @@ pub ruleset filling = (
   store_within,
   store_past,
   row_filled,
-  fill_ranked,
-  fill_other,
-  procedures_more,
-  procedures_end,
   procedures_start,
-  length_more,
-  length_end,
   length_start,
-  asked_yes,
-  asked_not,
-  lengths_more,
-  lengths_end,
   lengths_start,
   main_row,
 )

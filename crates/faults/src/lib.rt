@@ -26,14 +26,14 @@ use step::{all, chosen, remaining, touched};
 fn mark(word: u64, t: u32) -> u64
     ensures { result ≡ marked word t }
 {
-    if t < 64 { word | (1u64 << t) } else { word }
+    word | 1u64.checked_shl(t).unwrap_or(0)
 }
 
 // Is a number in the set?
 fn contains(word: u64, t: u8) -> bool
     ensures { result ≡ row_is word t }
 {
-    if t < 64 { (word >> t) & 1 == 1 } else { false }
+    t < 64 && (word >> t) & 1 == 1
 }
 
 // "Inside its two branches a qcase closes its qubit": where they touch it, at position q, that is a fault.
@@ -42,12 +42,14 @@ fn closes(q: u8, row: u64) -> u64
 {
     let closed = mark(row, q as u32);
     if contains(row, q) {
-        return mark(closed, 0);
+        mark(closed, 0)
+    } else {
+        closed
     }
-    closed
 }
 
-// Where the row of procedure f on lists of length m stands.
+// Where the row of procedure f on lists of length m stands. The rows are one array and not an array for each procedure: the definitions' table is one
+// list, and both forms ask for the two numbers wherever a row is meant.
 fn place(f: u8, m: u8) -> usize
     ensures { result ≡ place f m }
 {
@@ -58,8 +60,7 @@ fn place(f: u8, m: u8) -> usize
 fn row_at(known: &[u64; ROW_COUNT], f: u8, m: u8) -> u64
     ensures { result ≡ known_row known.now f m }
 {
-    let at = place(f, m);
-    if at < ROW_COUNT { known[at] } else { 0 }
+    known.get(place(f, m)).copied().unwrap_or(0)
 }
 
 // What a call of f with a list touches: the positions of the callee's list are the caller's that stand there, and a fault stays one. "A call with
@@ -83,14 +84,12 @@ fn touches(program: &Program, i: u32, depth: u8, m: u8, known: &[u64; ROW_COUNT]
         return 0;
     }
     let list = all(m);
-    let step = step_at(program, i);
-    match step {
+    match step_at(program, i) {
         Step::Nothing => 0,
         Step::Touches(at) => mark(0, touched(program, at, list) as u32),
         Step::Sequence(first, second) => {
-            let a = touches(program, first, depth - 1, m, known);
-            let b = touches(program, second, depth - 1, m, known);
-            a | b
+            touches(program, first, depth - 1, m, known)
+                | touches(program, second, depth - 1, m, known)
         }
         Step::Chooses(test, yes, no) => {
             let part = chosen(program, test, yes, no, list, depth - 1);
@@ -103,12 +102,12 @@ fn touches(program: &Program, i: u32, depth: u8, m: u8, known: &[u64; ROW_COUNT]
             closes(q, a | b)
         }
         Step::Calls(f, at) => called(known, f, remaining(program, at, list)),
-        Step::Greater(_) => 0,
-        Step::AtLeast(_) => 0,
-        Step::Equal(_) => 0,
-        Step::Both(_, _) => 0,
-        Step::Either(_, _) => 0,
-        Step::Negates(_) => 0,
+        Step::Greater(_)
+        | Step::AtLeast(_)
+        | Step::Equal(_)
+        | Step::Both(_, _)
+        | Step::Either(_, _)
+        | Step::Negates(_) => 0,
     }
 }
 
@@ -122,8 +121,7 @@ fn counts(program: &Program, i: u32, depth: u8) -> u64
     if depth == 0 {
         return 0;
     }
-    let found = parts_at(program, i);
-    match found {
+    match parts_at(program, i) {
         Parts::Neither => 0,
         Parts::Two(a, b, _) => counts(program, a, depth - 1) | counts(program, b, depth - 1),
         Parts::Call(_, at) => mark(0, removal_count(program, at)),
@@ -159,10 +157,7 @@ fn sums_of(counts: u64) -> u64
 fn reached(matrix: &[u8; MATRIX_LENGTH], f: u8, x: u8) -> usize
     ensures { result ≡ digit (from_in matrix.now f x) }
 {
-    if x == f {
-        return 1;
-    }
-    if recursive(matrix, x, f) { 1 } else { 0 }
+    usize::from(x == f || recursive(matrix, x, f))
 }
 
 // How many of the bodies 0 to p f reaches, itself among them. The rank falls at each call that is not recursive.
@@ -191,8 +186,7 @@ fn all_ranks(matrix: &[u8; MATRIX_LENGTH], p: u8) -> [usize; BODY_COUNT]
 fn rank_at(ranks: &[usize; BODY_COUNT], f: u8) -> usize
     ensures { result ≡ rank_at ranks.now f }
 {
-    let i = f as usize;
-    if i < BODY_COUNT { ranks[i] } else { 0 }
+    ranks.get(f as usize).copied().unwrap_or(0)
 }
 
 // The row of procedure f on lists of length m is written.
@@ -200,6 +194,7 @@ fn store(known: &mut [u64; ROW_COUNT], f: u8, m: u8, row: u64)
     ensures { known.new ≡ stored f m row known.old }
 {
     let at = place(f, m);
+    // no `get_mut`: of an array that is lent it leaves no equation for what the array is afterwards
     if at < ROW_COUNT {
         known[at] = row;
     }
@@ -213,22 +208,6 @@ fn fill_row(program: &Program, f: u8, m: u8, known: &mut [u64; ROW_COUNT])
     store(known, f, m, row);
 }
 
-// The same, but only where f has rank k.
-fn fill_if(
-    program: &Program,
-    k: usize,
-    f: u8,
-    m: u8,
-    ranks: &[usize; BODY_COUNT],
-    known: &mut [u64; ROW_COUNT],
-)
-    ensures { known.new ≡ filled_if program.now ranks.now k f m known.old }
-{
-    if rank_at(ranks, f) == k {
-        fill_row(program, f, m, known);
-    }
-}
-
 // All procedures of rank k, on lists of length m.
 fn fill_rank(
     program: &Program,
@@ -239,11 +218,10 @@ fn fill_rank(
 )
     ensures { known.new ≡ filled_rank program.now ranks.now (procedure_count program.now) k m known.old }
 {
-    let p = procedures(program);
-    let mut f = 0;
-    while f < p {
-        f += 1;
-        fill_if(program, k, f, m, ranks, known);
+    for f in 1..=procedures(program) {
+        if rank_at(ranks, f) == k {
+            fill_row(program, f, m, known);
+        }
     }
 }
 
@@ -251,41 +229,22 @@ fn fill_rank(
 fn fill_length(program: &Program, m: u8, ranks: &[usize; BODY_COUNT], known: &mut [u64; ROW_COUNT])
     ensures { known.new ≡ filled_length program.now ranks.now (procedure_count program.now) m known.old }
 {
-    let highest = procedures(program) as usize;
-    let mut k = 0;
-    while k < highest {
-        k += 1;
+    for k in 1..=procedures(program) as usize {
         fill_rank(program, k, m, ranks, known);
     }
 }
 
-// The same, but only where calls can have removed `gone` entries of main's list, so that m are left.
-fn fill_asked(
-    program: &Program,
-    gone: u8,
-    m: u8,
-    sums: u64,
-    ranks: &[usize; BODY_COUNT],
-    known: &mut [u64; ROW_COUNT],
-)
-    ensures { known.new ≡ filled_asked program.now ranks.now sums gone m known.old }
-{
-    if contains(sums, gone) {
-        fill_length(program, m, ranks, known);
-    }
-}
-
-// All procedures, on lists of the lengths 1 to n that calls can lead to, the shortest first.
+// All procedures, on lists of the lengths 1 to n that calls can lead to, the shortest first: of main's n entries they have removed the others.
 fn fill(program: &Program, n: u8, matrix: &[u8; MATRIX_LENGTH], known: &mut [u64; ROW_COUNT])
     ensures { known.new ≡ filled program.now (ranks_in matrix.now (procedure_count program.now))
         (sums_in program.now) n n known.old }
 {
     let ranks = all_ranks(matrix, procedures(program));
     let sums = sums_of(all_counts(program));
-    let mut m = 0;
-    while m < n {
-        m += 1;
-        fill_asked(program, n - m, m, sums, &ranks, known);
+    for m in 1..=n {
+        if contains(sums, n - m) {
+            fill_length(program, m, &ranks, known);
+        }
     }
 }
 

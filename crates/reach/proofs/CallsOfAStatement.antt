@@ -7,7 +7,8 @@ use native.Mathlib.Nat.{not-suc-le-zero}
 use native.Mathlib.Numerals.{add-one}
 use native.Mathlib.Omega.{arith}
 use borrow.Author.Rules.{rules}
-use borrow.Author.Tests.{lt-ltb, le-ltb}
+use borrow.Author.Tests.{lt-ltb, le-ltb, ne_eqb}
+use lib.Dec.{eqb}
 use lib.ListN.{length}
 use Rattle.model.specs.Limits.{most_procedures, most_depth}
 use Rattle.model.specs.Syntax.{Number, Statement}
@@ -120,12 +121,12 @@ module _ (g : List ℕ) (depth i : ℕ) where
         lacks_second second y h = lacks_are second (parts.Two a b t) q (rw (← o, y) h)
 
       module _ (q at : ℕ) (c : x ≡ parts.Call q at) (n : ℕ) (h : n ≡ length (removals_in g at)) where
-        pub lacks_call_carries : 0 < n → false ≡ lacks_removal r (statement_at g depth i)
+        pub lacks_call_carries : (n ≡ 0 → ⊥) → eqb n 0 ≡ lacks_removal r (statement_at g depth i)
         unfolding lacks_by
         lacks_call_carries some =
-            lacks_are false (parts.Call q at) c (rw (carries (removals_in g at) (omega arith)) (sym (and-false (r q))))
+            rw (ne_eqb n 0 some) (lacks_are false (parts.Call q at) c (rw (carries (removals_in g at) (omega arith)) (sym (and-false (r q)))))
 
-        pub lacks_call_bare : (b : Bool) → n ≤ 0 → b ≡ r q → b ≡ lacks_removal r (statement_at g depth i)
+        pub lacks_call_bare : (b : Bool) → n ≡ 0 → b ≡ r q → b ≡ lacks_removal r (statement_at g depth i)
         unfolding lacks_by
         lacks_call_bare b none k = lacks_are b (parts.Call q at) c (rw (bare (removals_in g at) (omega arith)) (k ∙ sym (and-true (r q))))
 
@@ -134,9 +135,6 @@ pub lacks_is : (m : List ℕ) (g : List ℕ) (f root : ℕ) (r : Bool) → root 
     r ≡ lacks_removal (recursive_in m f) (statement_at g most_depth root) → r ≡ lacks_in m g f
 unfolding lacks_in
 lacks_is m g f root r e q = rw (← e) q
-
-pub all_lack : (m g : List ℕ) (p : ℕ) (r : Bool) → p ≡ procedure_count g → r ≡ any_below (suc p) (lacks_in m g) → r ≡ any_below (suc (procedure_count g)) (lacks_in m g)
-all_lack m g p r e q = rw (← e) q
 
 pub body_marked : (g : List ℕ) (f root : ℕ) (m n : List ℕ) → root ≡ root_of g f → n ≡ marked f (statement_at g most_depth root) m →
     n ≡ marked f (body_at g f) m
@@ -194,7 +192,6 @@ pub ruleset lacking = (rules, lacks_spent, lacks_none, lacks_first, lacks_second
 pub ruleset bodies = (
   rules,
   lacks_is,
-  all_lack,
   body_marked,
   bodies_more,
   bodies_last,

@@ -22,23 +22,14 @@ fn cell(f: u8, g: u8) -> usize
 fn mark_at(matrix: &[u8; MATRIX_LENGTH], at: usize) -> bool
     ensures { result ≡ mark_at matrix.now at }
 {
-    if at < MATRIX_LENGTH {
-        return matrix[at] == 1;
-    }
-    false
+    at < MATRIX_LENGTH && matrix[at] == 1
 }
 
 // Does f reach g?
 fn entry(matrix: &[u8; MATRIX_LENGTH], f: u8, g: u8) -> bool
     ensures { result ≡ entry matrix.now f g }
 {
-    if MOST_PROCEDURES < f {
-        return false;
-    }
-    if MOST_PROCEDURES < g {
-        return false;
-    }
-    mark_at(matrix, cell(f, g))
+    f <= MOST_PROCEDURES && g <= MOST_PROCEDURES && mark_at(matrix, cell(f, g))
 }
 
 // "A call from f to g is recursive if g also reaches f"
@@ -52,24 +43,16 @@ pub fn recursive(matrix: &[u8; MATRIX_LENGTH], f: u8, g: u8) -> bool
 fn mark(matrix: &mut [u8; MATRIX_LENGTH], f: u8, g: u8)
     ensures { matrix.new ≡ mark f g matrix.old }
 {
-    if MOST_PROCEDURES < f {
-        return;
+    if f <= MOST_PROCEDURES && g <= MOST_PROCEDURES {
+        matrix[cell(f, g)] = 1;
     }
-    if MOST_PROCEDURES < g {
-        return;
-    }
-    let at = cell(f, g);
-    matrix[at] = 1;
 }
 
 // Where a mark stands at one place, one is set at another.
 fn carry(matrix: &mut [u8; MATRIX_LENGTH], from: usize, to: usize)
     ensures { matrix.new ≡ carried from to matrix.old }
 {
-    if MATRIX_LENGTH <= to {
-        return;
-    }
-    if mark_at(matrix, from) {
+    if to < MATRIX_LENGTH && mark_at(matrix, from) {
         matrix[to] = 1;
     }
 }
@@ -117,8 +100,7 @@ fn mark_calls(program: &Program, i: u32, depth: u8, f: u8, matrix: &mut [u8; MAT
     if depth == 0 {
         return;
     }
-    let found = parts_at(program, i);
-    match found {
+    match parts_at(program, i) {
         Parts::Neither => {}
         Parts::Two(a, b, _) => {
             mark_calls(program, a, depth - 1, f, matrix);
@@ -164,21 +146,13 @@ fn lacks_removal(program: &Program, i: u32, depth: u8, f: u8, matrix: &[u8; MATR
     if depth == 0 {
         return false;
     }
-    let found = parts_at(program, i);
-    match found {
+    match parts_at(program, i) {
         Parts::Neither => false,
         Parts::Two(a, b, _) => {
-            if lacks_removal(program, a, depth - 1, f, matrix) {
-                return true;
-            }
-            lacks_removal(program, b, depth - 1, f, matrix)
+            lacks_removal(program, a, depth - 1, f, matrix)
+                || lacks_removal(program, b, depth - 1, f, matrix)
         }
-        Parts::Call(g, at) => {
-            if 0 < removal_count(program, at) {
-                return false;
-            }
-            recursive(matrix, f, g)
-        }
+        Parts::Call(g, at) => removal_count(program, at) == 0 && recursive(matrix, f, g),
     }
 }
 
@@ -189,21 +163,14 @@ fn body_lacks_removal(program: &Program, f: u8, matrix: &[u8; MATRIX_LENGTH]) ->
     lacks_removal(program, root(program, f), MOST_DEPTH, f, matrix)
 }
 
-// Does a recursive call in one of the bodies 0 to p lack a removal?
-fn one_lacks_removal(program: &Program, p: u8, matrix: &[u8; MATRIX_LENGTH]) -> bool
-    ensures { result ≡ any_below (suc p) (lacks_in matrix.now program.now) }
+// Refusal 10: does a recursive call in one of the bodies lack a removal?
+pub fn any_lacks_removal(program: &Program, matrix: &[u8; MATRIX_LENGTH]) -> bool
+    ensures { result ≡ any_lacks_in matrix.now program.now }
 {
-    for f in 0..=p {
+    for f in 0..=procedures(program) {
         if body_lacks_removal(program, f, matrix) {
             return true;
         }
     }
     false
-}
-
-// Refusal 10: does a recursive call in one of the bodies lack a removal?
-pub fn any_lacks_removal(program: &Program, matrix: &[u8; MATRIX_LENGTH]) -> bool
-    ensures { result ≡ any_lacks_in matrix.now program.now }
-{
-    one_lacks_removal(program, procedures(program), matrix)
 }

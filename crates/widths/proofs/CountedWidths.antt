@@ -9,6 +9,7 @@ use mathlib.Core.List.{List}
 use borrow.Author.Rules.{rules}
 use borrow.Author.Tests.{lt-ltb, le-ltb}
 use lib.Dec.{ltb}
+use Rattle.std.specs.Int.{from_bool}
 use Rattle.model.specs.Limits.{most_depth}
 use Rattle.model.specs.Meaning.{digit}
 use Rattle.model.specs.Syntax.{Statement, skip, NOT, sequence, if, qcase, call}
@@ -63,7 +64,7 @@ use Rattle.decoded.proofs.UnseenWidths.{
   same_root,
 }
 
--- the ways out of `joined` and `one_if`
+-- the ways out of `joined`
 module _ (t : Bool) (a b r : ℕ) where
   pub joined_turn : t ≡ true → r ≡ min 2 (a + b) → r ≡ joined_width t a b
   unfolding joined_width
@@ -72,14 +73,6 @@ module _ (t : Bool) (a b r : ℕ) where
   pub joined_one : t ≡ false → r ≡ max a b → r ≡ joined_width t a b
   unfolding joined_width
   joined_one e q = rw e q
-
-pub one_counts : (b : Bool) → b ≡ true → 1 ≡ digit b
-unfolding digit
-one_counts b e = rw e
-
-pub none_counts : (b : Bool) → b ≡ false → 0 ≡ digit b
-unfolding digit
-none_counts b e = rw e
 
 -- records in order: the first comes before the end
 order_less : (g : List ℕ) (d i end : ℕ) → InOrder g d i end → i < end
@@ -245,11 +238,11 @@ module _ (r : ℕ → Bool) (depth i : ℕ) (g : List ℕ) (deep : depth ≡ 0 �
       by zero f = absurd (f refl)
       by (suc d) f = noted (leaf r d i g 0 h parts.Neither (sym e ∙ q) tt refl s)
 
-  pub notes_call : (f at w : ℕ) (b : Bool) (h : List ℕ) → x ≡ parts.Call f at → b ≡ r f → w ≡ digit b → h ≡ with_width i w g → Noted r depth i g w h
+  pub notes_call : (f at w : ℕ) (b : Bool) (h : List ℕ) → x ≡ parts.Call f at → b ≡ r f → w ≡ from_bool b → h ≡ with_width i w g → Noted r depth i g w h
   unfolding width_by digit
   notes_call f at w b h q k v s = by depth deep
     where
-      few : (b : Bool) → digit b ≡ min 2 (digit b)
+      few : (b : Bool) → from_bool b ≡ min 2 (digit b)
       few true = refl
       few false = refl
 
@@ -386,11 +379,8 @@ module _ (m g : List ℕ) where
     pub judged_last : p ≤ f → Judged m g f false h → Noted (recursive_in m f) most_depth top h w k → w ≤ 1 → Judged m g (suc p) false k
     judged_last q j n y = let same : p ≡ f = omega arith in rw same (judged (more j n y))
 
-pub judged_all : (m g h : List ℕ) (p : ℕ) (r : Bool) → p ≡ procedure_count g → Judged m g (suc p) r h → Judged m g (suc (procedure_count g)) r h
-judged_all m g h p r e j = rw (← e) j
+pub ruleset judging = (rules, judged_start, judged_yes, judged_more, judged_last)
 
-pub ruleset judging = (rules, judged_start, judged_yes, judged_more, judged_last, judged_all)
-
-pub ruleset keeping = (rules, joined_turn, joined_one, one_counts, none_counts)
+pub ruleset keeping = (rules, joined_turn, joined_one)
 
 pub ruleset noting = (rules, notes_spent, notes_none, notes_call, notes_two)
