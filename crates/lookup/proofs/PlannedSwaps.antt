@@ -21,20 +21,7 @@ use Rattle.sets.proofs.Members.{members_length}
 use Rattle.lookup.specs.declared.Lookup.{Lookup}
 use Rattle.lookup.specs.declared.plan.Plan.{Plan}
 use Rattle.lookup.specs.Entries.{counted, wire_at, kept, empty, built, moved, tracked, accesses}
-use Rattle.lookup.specs.Plans.{
-  pairs_of,
-  swaps_along,
-  Within,
-  PlansSwaps,
-  same_swaps,
-  holder,
-  Names,
-  pair_of,
-  PlansSwap,
-  names_again,
-  swap_count,
-  entries_touched,
-}
+use Rattle.lookup.specs.Plans.{pairs_of, swaps_along, Within, PlansSwaps, same_swaps, holder, Names, pair_of, PlansSwap, names_again, swap_count}
 use Rattle.lookup.proofs.CountedEntries.{counted_sum, goes_from, stays_there, tracked_count}
 use Rattle.lookup.proofs.TrackedWires.{holder_next, names_built, names_stays, names_goes}
 
@@ -212,9 +199,3 @@ module _ (n : ℕ) (first later : List ℕ) (l : Lookup) (r : Plan) (ks ws : Lis
     (none : min (length ks) (length ws) ≡ 0) where
   pub plan_ends : PlansSwaps n first later r
   plan_ends = same_swaps (λ df dl e. let B = P.before_k df dl in sym (B.tracking e ∙ rw (nothing_left e (pairs_of r) ks ws none) (append-nil (swaps_along e (pairs_of r)))))
-
-  pub count_ends : l.count ≡ entries_touched n first later (length (pairs_of r))
-  count_ends = let c = P.count in omega arith
-
-  pub count_bounded : l.count ≤ 4 * n + 8 * length later
-  count_bounded = let c = P.count in let p = P.pairs in omega arith
