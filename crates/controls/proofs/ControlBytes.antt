@@ -1,37 +1,26 @@
 -- The bytes of gates under controls: their maps, their lengths, and the stores that put them into a room.
 use mathlib.Core.Path.{◌≡◌, refl, sym, ap, ◌∙◌}
 use mathlib.Core.Bool.{true}
+use mathlib.Core.Logic.{◌⊎◌, inl, inr}
 use mathlib.Core.List.{List, [], ◌∷◌, append-nil}
 use Prim.Native.Nat.{ℕ, suc, ◌+◌, ◌≤◌, ◌<◌, min, max}
 use native.Mathlib.Numerals.{add-one}
 use native.Mathlib.Omega.{arith}
-use mir.Syntax.{w8, w64}
+use mir.Syntax.{w8}
 use mir.Val.{Fits}
 use borrow.Author.Rules.{rules}
 use borrow.Author.Tests.{lt-ltb, le-ltb}
-use lib.ListN.{length, drop, set, length-append}
+use lib.ListN.{length, set, length-set, length-append}
 use lib.Seq.{sets}
 use Rattle.limits.specs.Sizes.{set_length, swap_length}
-use Rattle.model.specs.Lists.{entry}
 use Rattle.model.specs.Gates.{Controls, no_controls, with_control, insert, flip, swap_of}
 use Rattle.model.specs.Emission.{under}
 use Rattle.model.specs.Circuit.{list_bit, list_bytes, control_map, control_bytes, encode}
 use Rattle.model.proofs.GateLaws.{asked_wire, control_none}
 use Rattle.circuit.proofs.GateBytes.{sets_past, sets_append}
 use Rattle.sets.specs.Sets.{members_of}
-use Rattle.sets.proofs.Members.{members_length, members_empty}
-use Rattle.sets.proofs.Readings.{members_split}
+use Rattle.sets.proofs.Members.{members_length}
 use Rattle.controls.specs.ControlWords.{wires_in, controls_of, Only}
-
--- an empty set has no member
-pub count_none : (w : ℕ) → w ≡ 0 → 0 ≡ length (members_of w)
-count_none w e = rw (e, members_empty)
-
--- a set that is empty without its lowest member has that one
-pub count_one : (w less : ℕ) → Fits w64 w → (w ≡ 0 → ⊥) → members_of less ≡ drop 1 (members_of w) → less ≡ 0 → 1 ≡ length (members_of w)
-count_one w less fits nz e z =
-    let none : drop 1 (members_of w) ≡ [] = sym e ∙ ap members_of z ∙ members_empty in
-    sym (ap length (members_split w fits nz ∙ ap (◌∷◌ (entry (members_of w) 1)) none))
 
 -- the ways out of `count`
 module _ (w high n : ℕ) (is : n ≡ length (members_of w)) where
@@ -44,7 +33,7 @@ module _ (w high n : ℕ) (is : n ≡ length (members_of w)) where
   pub count_low : high ≤ set_length → n ≡ length (wires_in w high)
   count_low h = rw (le-ltb set_length high h, length-append (members_of w) [], is) (omega arith)
 
-pub ruleset counting = (rules, count_none, count_one, count_fits, count_high, count_low)
+pub ruleset counting = (rules, count_fits, count_high, count_low)
 
 bit_empty : (value : ℕ) (l : List ℕ) → length l ≡ 0 → 0 ≡ list_bit value l
 unfolding list_bit
@@ -132,35 +121,22 @@ module _ (w : ℕ) where
   unfolding encode swap_of
   swap_long u v = rw (length-append (control_bytes (under w)) (max u v ∷ []), length-append (control_bytes (under w)) (max 0 0 ∷ []))
 
--- what the loop of `put_members` keeps: all the stores are those that are left
-pub data Storing (room₀ : List ℕ) (at members : ℕ) (room : List ℕ) (place rest : ℕ) : Type 0 where
-  still : sets room place (members_of rest) ≡ sets room₀ at (members_of members) → Storing room₀ at members room place rest
+-- what the loop of `put_members` keeps: all the stores are those that are left, up to the room's end
+pub record Storing (room₀ : List ℕ) (at : ℕ) (members room : List ℕ) (place end : ℕ) (rest : List ℕ) : Type 0 where
+  pub still : sets room place rest ≡ sets room₀ at members
+  pub room_end : end ≡ length room
 
-pub storing_starts : (room : List ℕ) (at members : ℕ) → Storing room at members room at members
-storing_starts room at members = still refl
+pub storing_next : (room₀ : List ℕ) (at : ℕ) (members room : List ℕ) (place end x : ℕ) (rest : List ℕ) → Storing room₀ at members room place end (x ∷ rest) →
+    Storing room₀ at members (set room place x) (place + 1) end rest
+storing_next room₀ at members room place end x rest S = record {
+  still = rw (add-one place) S.still;
+  room_end = S.room_end ∙ sym (length-set room place x);
+}
 
-module _ (room₀ : List ℕ) (at members : ℕ) (room : List ℕ) (place rest : ℕ) (S : Storing room₀ at members room place rest) where
-  so : sets room place (members_of rest) ≡ sets room₀ at (members_of members)
-  so = elim S [ still e ↦ e ]
-
-  pub storing_next : (x less : ℕ) → Fits w64 rest → (rest ≡ 0 → ⊥) → x ≡ entry (members_of rest) 1 → members_of less ≡ drop 1 (members_of rest) →
-      Storing room₀ at members (set room place x) (place + 1) less
-  storing_next x less fits nz e q = still (rw (e, q, add-one place) (sym (ap (sets room place) (members_split rest fits nz)) ∙ so))
-
-  pub stored_all : rest ≡ 0 → room ≡ sets room₀ at (members_of members)
-  stored_all e = sym (ap (sets room place) (ap members_of e ∙ members_empty)) ∙ so
-
-  pub stored_full : length room ≤ place → room ≡ sets room₀ at (members_of members)
-  stored_full h = sets_past room place (members_of rest) h ∙ so
-
-pub storing_less : (rest less : ℕ) → Fits w64 rest → (rest ≡ 0 → ⊥) → members_of less ≡ drop 1 (members_of rest) →
-    length (members_of less) < length (members_of rest)
-storing_less rest less fits nz e = rw e (shorter (members_of rest) (members_split rest fits nz))
-  where
-    shorter : (l : List ℕ) → l ≡ entry l 1 ∷ drop 1 l → length (drop 1 l) < length l
-    shorter l s = let n : length l ≡ suc (length (drop 1 l)) = ap length s in omega arith
-
-pub ruleset storing = (rules, storing_less, storing_starts, storing_next, stored_all, stored_full)
+pub stored_all : (room₀ : List ℕ) (at : ℕ) (members room : List ℕ) (place end : ℕ) (rest : List ℕ) → Storing room₀ at members room place end rest →
+    ((end ≤ place) ⊎ (rest ≡ [])) → room ≡ sets room₀ at members
+stored_all room₀ at members room place end rest S (inl full) = sets_past room place rest (omega (arith, S.room_end)) ∙ S.still
+stored_all room₀ at members room place end rest S (inr none) = sym (ap (sets room place) none) ∙ S.still
 
 -- the ways out of `put_wires`
 module _ (room : List ℕ) (at w high : ℕ) (middle : List ℕ) (put : middle ≡ sets room at (members_of w)) where

@@ -1,6 +1,6 @@
 -- Sets with one qubit more, and controls made of them.
 use mathlib.Core.Path.{◌≡◌, refl, sym, ap, ◌∙◌}
-use mathlib.Core.Logic.{◌≢◌}
+use mathlib.Core.Logic.{◌≢◌, ◌⊎◌, inl, inr}
 use mathlib.Core.Bool.{Bool, true, false, ◌||◌, or-false}
 use Rattle.std.specs.Prelude.{eqb, IfSome}
 use Rattle.std.specs.Bool.{then_some}
@@ -77,13 +77,11 @@ members_insert w k h = picked_more (state_of w) (state_of (bit_or w (2 ^ k))) (s
 
 -- the ways out of `with_member`
 module _ (w q : ℕ) where
-  pub member_zero : q ≡ 0 → members_of w ≡ asked_within q (members_of w)
-  member_zero e = rw e (sym (asked_none 0 (members_of w) refl))
+  pub member_none : ((q ≡ 0) ⊎ ((q ≡ 0 → ⊥) × (set_length < q))) → members_of w ≡ asked_within q (members_of w)
+  member_none (inl e) = rw e (sym (asked_none 0 (members_of w) refl))
+  member_none (inr h) = rw (lt-ltb set_length q h.1)
 
-  pub member_above : set_length < q → members_of w ≡ asked_within q (members_of w)
-  member_above h = rw (lt-ltb set_length q h)
-
-  pub member_shift : q ≤ set_length → (q ≡ 0 → ⊥) → q - 1 < 64
+  member_shift : q ≤ set_length → (q ≡ 0 → ⊥) → q - 1 < 64
   member_shift h nz = omega arith
 
   pub member_more : q ≤ set_length → (q ≡ 0 → ⊥) → members_of (bit_or w (1 * 2 ^ (q - 1) % 2 ^ 64)) ≡ asked_within q (members_of w)
@@ -91,8 +89,6 @@ module _ (w q : ℕ) where
       let back : suc (q - 1) ≡ q = omega arith in
       rw (shifted 64 (q - 1) (member_shift h nz), le-ltb set_length q h, asked_wire q (members_of w) (omega arith))
       (members_insert w (q - 1) (omega arith) ∙ rw back)
-
-pub ruleset joining = (rules, member_zero, member_above, member_shift, member_more)
 
 -- a wire above all qubits stays behind them
 asked_high : (q h : ℕ) (l : List ℕ) → q ≤ set_length → asked q l ++ high_wire h ≡ asked q (l ++ high_wire h)

@@ -11,7 +11,7 @@ ghost use Rattle.controls.specs.ControlWords.{asked_within, controls_from, list_
 
 use circuit::write::{put, put_pair};
 use limits::{MOST_MEMBERS, SWAP_LENGTH};
-use sets::{QubitSet, next_member, size, without_lowest};
+use sets::{QubitSet, members_of, next_member, size, without_lowest};
 
 // Of a statement that is emitted: the wires up to 64 that are asked for 1 and those that are asked for 0, each a set; a wire above 64 that is asked for 1, where
 // a number up to 64 is none; and the statement's list. The ancilla of a body or of an entry is asked for 1: it is in the first set up to 64, above that it is `high`.
@@ -174,7 +174,7 @@ impl Wires {
     fn count(self) -> u8
         ensures { result ≡ length (wires_of self) }
     {
-        let wires = members(self.set);
+        let wires = size(self.set);
         if MOST_MEMBERS < self.high {
             wires + 1
         } else {
@@ -230,42 +230,18 @@ impl Wires {
 fn with_member(set: QubitSet, q: u8) -> QubitSet
     ensures { members_of result ≡ asked_within q (members_of set) }
 {
-    if q == 0 {
-        return set;
-    }
-    if MOST_MEMBERS < q {
+    if q == 0 || MOST_MEMBERS < q {
         return set;
     }
     set | (1u64 << (q - 1))
-}
-
-// How many members has a set? Most sets of controls have none or one, and need not be counted.
-fn members(set: QubitSet) -> u8
-    ensures { result ≡ length (members_of set) }
-{
-    if set == 0 {
-        return 0;
-    }
-    if without_lowest(set) == 0 {
-        1
-    } else {
-        size(set)
-    }
 }
 
 // The members of a set from a place on, as far as the room reaches.
 fn put_members(room: &mut [u8], at: usize, set: QubitSet)
     ensures { room.new ≡ sets room.old at (members_of set) }
 {
-    let mut place = at;
-    let mut rest = set;
-    while rest != 0 {
-        if room.len() <= place {
-            return;
-        }
-        room[place] = next_member(rest);
-        rest = without_lowest(rest);
-        place += 1;
+    for (place, wire) in (at..room.len()).zip(members_of(set)) {
+        room[place] = wire;
     }
 }
 
