@@ -9,13 +9,13 @@ ghost use Rattle.decoded.specs.DecodedTable.{procedure_count};
 ghost use Rattle.events.specs.Scan.{emit_in};
 ghost use Rattle.emit.specs.WalkPromises.{body_depth, Whole, Call, Left, Right, BodyLeft, BodyRight, Bodies, Rest, Inner, Body, Emits};
 
-use controls::{Site, free_site, under, with_control};
+use controls::Site;
 use decoded::{Program, Step, is_wide, procedures, root, step_at};
 use events::{
-    Slots, State, above_length, begin, emit_entries, emit_entries_back, emit_flip, finish,
-    flip_again, invoke, load, next, precedence, procedure, seek, status, wire,
+    Slots, State, above_length, begin, emit_entries, emit_flip, finish, flip_again, invoke, seek,
+    slot_in, wire,
 };
-use limits::{LIST_WORD, MOST_DEPTH};
+use limits::MOST_DEPTH;
 use sets::{QubitSet, size};
 use step::{all, chosen, remaining, touched};
 
@@ -45,7 +45,7 @@ fn emit_whole(
     ensures { Whole program.now k (emit_in state.old) room.old slots.old
         (emit_in state.new) room.new slots.new i depth (list_from site.now) (controls_from site.now) }
 {
-    if status(state) != 0 {
+    if state.refusal.is_some() {
         return;
     }
     if depth == 0 {
@@ -53,23 +53,23 @@ fn emit_whole(
     }
     let found = step_at(program, i);
     match found {
-        Step::Touches(at) => emit_flip(site, touched(program, at, site[LIST_WORD]), room, state),
+        Step::Touches(at) => emit_flip(site, touched(program, at, site.list), room, state),
         Step::Sequence(a, b) => {
             emit_whole(program, k, a, depth - 1, site, room, slots, state);
             emit_whole(program, k, b, depth - 1, site, room, slots, state);
         }
         Step::Chooses(c, a, b) => {
-            let part = chosen(program, c, a, b, site[LIST_WORD], depth - 1);
+            let part = chosen(program, c, a, b, site.list, depth - 1);
             emit_whole(program, k, part, depth - 1, site, room, slots, state);
         }
         Step::Branches(at, a, b) => {
-            let q = touched(program, at, site[LIST_WORD]);
+            let q = touched(program, at, site.list);
             emit_whole(
                 program,
                 k,
                 a,
                 depth - 1,
-                &with_control(site, q, false),
+                &site.with_control(q, false),
                 room,
                 slots,
                 state,
@@ -79,7 +79,7 @@ fn emit_whole(
                 k,
                 b,
                 depth - 1,
-                &with_control(site, q, true),
+                &site.with_control(q, true),
                 room,
                 slots,
                 state,
@@ -89,7 +89,7 @@ fn emit_whole(
             program,
             k,
             f,
-            remaining(program, at, site[LIST_WORD]),
+            remaining(program, at, site.list),
             site,
             room,
             slots,
@@ -120,14 +120,14 @@ fn emit_call(
     ensures { Call program.now k (emit_in state.old) room.old slots.old
         (emit_in state.new) room.new slots.new f (members_of list) (controls_from site.now) }
 {
-    if status(state) != 0 {
+    if state.refusal.is_some() {
         return;
     }
     let m = size(list);
     if m == 0 {
         return;
     }
-    let base = next(state);
+    let base = state.next;
     invoke(f, list, site, room, slots, state);
     if k == 0 {
         finish(base, site, room, state);
@@ -143,7 +143,7 @@ fn emit_bodies(
     program: &Program,
     k: u8,
     base: u16,
-    last: u64,
+    last: u32,
     room: &mut [u8],
     slots: &mut Slots,
     state: &mut State,
@@ -151,22 +151,12 @@ fn emit_bodies(
     ensures { Bodies program.now k (emit_in state.old) room.old slots.old
         (emit_in state.new) room.new slots.new base last }
 {
-    if status(state) != 0 {
+    if state.refusal.is_some() {
         return;
     }
-    let upto = next(state);
-    let d = seek(slots, base, last, upto);
-    if d < upto {
-        emit_body(
-            program,
-            k,
-            base,
-            precedence(slots, d),
-            d,
-            room,
-            slots,
-            state,
-        );
+    if let Some(d) = seek(slots, base, last, state.next) {
+        let precedence = slot_in(slots, d).precedence;
+        emit_body(program, k, base, precedence, d, room, slots, state);
     }
 }
 
@@ -176,7 +166,7 @@ fn emit_body(
     program: &Program,
     k: u8,
     base: u16,
-    last: u64,
+    last: u32,
     d: u16,
     room: &mut [u8],
     slots: &mut Slots,
@@ -185,13 +175,13 @@ fn emit_body(
     ensures { Body program.now k (emit_in state.old) room.old slots.old
         (emit_in state.new) room.new slots.new base last d }
 {
-    let upto = next(state);
+    let upto = state.next;
     if upto <= d {
         return;
     }
-    emit_entries(slots, d, d + 1, upto, room, state);
+    emit_entries(slots, d, d + 1, upto, false, room, state);
     emit_inner(program, k, base, last, d, room, slots, state);
-    emit_entries_back(slots, d, d + 1, upto, room, state);
+    emit_entries(slots, d, d + 1, upto, true, room, state);
 }
 
 // Its left part, then the rest.
@@ -200,7 +190,7 @@ fn emit_inner(
     program: &Program,
     k: u8,
     base: u16,
-    last: u64,
+    last: u32,
     d: u16,
     room: &mut [u8],
     slots: &mut Slots,
@@ -219,7 +209,7 @@ fn emit_rest(
     program: &Program,
     k: u8,
     base: u16,
-    last: u64,
+    last: u32,
     d: u16,
     room: &mut [u8],
     slots: &mut Slots,
@@ -228,7 +218,7 @@ fn emit_rest(
     ensures { Rest program.now k (emit_in state.old) room.old slots.old
         (emit_in state.new) room.new slots.new base last d }
 {
-    let behind = next(state);
+    let behind = state.next;
     emit_bodies(program, k, base, last, room, slots, state);
     emit_body_right(program, k, d, behind, room, slots, state);
 }
@@ -246,8 +236,9 @@ fn emit_body_left(
     ensures { BodyLeft program.now k (emit_in state.old) room.old slots.old
         (emit_in state.new) room.new slots.new d }
 {
-    let f = procedure(slots, d);
-    let site = under(wire(d), load(slots, d));
+    let slot = slot_in(slots, d);
+    let f = slot.procedure();
+    let site = Site::under(wire(d), slot.list);
     emit_left(
         program,
         k,
@@ -274,8 +265,9 @@ fn emit_body_right(
     ensures { BodyRight program.now k (emit_in state.old) room.old slots.old
         (emit_in state.new) room.new slots.new d behind }
 {
-    let f = procedure(slots, d);
-    let site = under(wire(d), load(slots, d));
+    let slot = slot_in(slots, d);
+    let f = slot.procedure();
+    let site = Site::under(wire(d), slot.list);
     emit_right(
         program,
         k,
@@ -304,7 +296,7 @@ fn emit_left(
     ensures { Left program.now k (emit_in state.old) room.old slots.old
         (emit_in state.new) room.new slots.new i depth (list_from site.now) (controls_from site.now) }
 {
-    if status(state) != 0 {
+    if state.refusal.is_some() {
         return;
     }
     if depth == 0 {
@@ -312,7 +304,7 @@ fn emit_left(
     }
     let found = step_at(program, i);
     match found {
-        Step::Touches(at) => emit_flip(site, touched(program, at, site[LIST_WORD]), room, state),
+        Step::Touches(at) => emit_flip(site, touched(program, at, site.list), room, state),
         Step::Sequence(a, b) => {
             if is_wide(program, a) {
                 emit_left(program, k, a, depth - 1, site, room, slots, state);
@@ -322,17 +314,17 @@ fn emit_left(
             emit_left(program, k, b, depth - 1, site, room, slots, state);
         }
         Step::Chooses(c, a, b) => {
-            let part = chosen(program, c, a, b, site[LIST_WORD], depth - 1);
+            let part = chosen(program, c, a, b, site.list, depth - 1);
             emit_left(program, k, part, depth - 1, site, room, slots, state);
         }
         Step::Branches(at, a, b) => {
-            let q = touched(program, at, site[LIST_WORD]);
+            let q = touched(program, at, site.list);
             emit_left(
                 program,
                 k,
                 a,
                 depth - 1,
-                &with_control(site, q, false),
+                &site.with_control(q, false),
                 room,
                 slots,
                 state,
@@ -342,14 +334,14 @@ fn emit_left(
                 k,
                 b,
                 depth - 1,
-                &with_control(site, q, true),
+                &site.with_control(q, true),
                 room,
                 slots,
                 state,
             );
         }
         Step::Calls(g, at) => {
-            let rest = remaining(program, at, site[LIST_WORD]);
+            let rest = remaining(program, at, site.list);
             if is_wide(program, i) {
                 invoke(g, rest, site, room, slots, state);
                 return;
@@ -382,14 +374,15 @@ fn emit_right(
     ensures { Right program.now k (emit_in state.old) room.old slots.old
         (emit_in state.new) room.new slots.new i depth (list_from site.now) (controls_from site.now) behind result }
 {
-    if status(state) != 0 {
+    if state.refusal.is_some() {
         return behind;
     }
     if depth == 0 {
         return behind;
     }
     // without a recursive call all of it went left
-    if !is_wide(program, i) {
+    let narrow = !is_wide(program, i);
+    if narrow {
         return behind;
     }
     let found = step_at(program, i);
@@ -403,7 +396,7 @@ fn emit_right(
             emit_right(program, k, b, depth - 1, site, behind, room, slots, state)
         }
         Step::Chooses(c, a, b) => {
-            let part = chosen(program, c, a, b, site[LIST_WORD], depth - 1);
+            let part = chosen(program, c, a, b, site.list, depth - 1);
             emit_right(
                 program,
                 k,
@@ -417,13 +410,13 @@ fn emit_right(
             )
         }
         Step::Branches(at, a, b) => {
-            let q = touched(program, at, site[LIST_WORD]);
+            let q = touched(program, at, site.list);
             let second = emit_right(
                 program,
                 k,
                 b,
                 depth - 1,
-                &with_control(site, q, true),
+                &site.with_control(q, true),
                 behind,
                 room,
                 slots,
@@ -434,7 +427,7 @@ fn emit_right(
                 k,
                 a,
                 depth - 1,
-                &with_control(site, q, false),
+                &site.with_control(q, false),
                 second,
                 room,
                 slots,
@@ -442,7 +435,7 @@ fn emit_right(
             )
         }
         Step::Calls(_, at) => flip_again(
-            remaining(program, at, site[LIST_WORD]),
+            remaining(program, at, site.list),
             site,
             behind,
             room,
@@ -470,7 +463,7 @@ pub fn emit_main(program: &Program, n: u8, room: &mut [u8], slots: &mut Slots) -
         procedures(program),
         root(program, 0),
         MOST_DEPTH,
-        &free_site(all(n)),
+        &Site::free(all(n)),
         room,
         slots,
         &mut state,
