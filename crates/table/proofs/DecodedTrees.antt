@@ -15,7 +15,7 @@ use Rattle.limits.specs.Sizes.{place_count, kind_count, first_condition}
 use Rattle.limits.specs.Refusals.{number_of}
 use Rattle.limits.specs.declared.Refusal.{Refusal}
 use Rattle.limits.specs.declared.Refusal.TheVariants.{TooDeep, TableStops, WrongKind, WrongMap}
-use Rattle.decoded.specs.Layout.{record_count, program_length}
+use Rattle.decoded.specs.Layout.{record_count}
 use Rattle.model.specs.Limits.{most_records, most_removals}
 use Rattle.model.specs.Syntax.{Condition, conjunction, disjunction, Statement, sequence, if, qcase}
 use Rattle.model.specs.Reading as model
@@ -30,38 +30,38 @@ use Rattle.records.specs.declared.Record.{Record}
 use Rattle.records.specs.declared.Record.TheVariants as kind
 use Rattle.records.specs.Fields.{byte_at, place_of, record_of, fields_at, fields_of}
 use Rattle.records.proofs.ReadingAtAPlace.{kind_of, fields_cases, removals_read}
-use Rattle.decoded.specs.RecordWords.{recorded}
-use Rattle.decoded.specs.DecodedTable.{start_of, end_of, test_of, test_at, statement_of, statement_at, with_end}
-use Rattle.decoded.proofs.DecodedRecords.{removals_place, written_sound, written_place, Row, Decoded, decoded}
-use Rattle.decoded.proofs.KeptWords.{recorded_there, recorded_long}
+use Rattle.decoded.specs.RecordsPutDown.{removals_place, recorded}
+use Rattle.decoded.specs.declared.Program.{Program}
+use Rattle.decoded.specs.DecodedTable.{Whole, start_of, end_of, test_of, test_at, statement_of, statement_at, with_end}
+use Rattle.decoded.proofs.RecordsOfAProgram.{written_place, Row, Decoded, decoded}
 use Rattle.table.specs.ReadTable.{piece, Placed, Numbered}
 use Rattle.table.specs.TreeReading.{come, Ran, ran, and_then_tree, wanted, parts, contents_at, many, and_then_read}
 use Rattle.table.specs.TreeReading.{children_at, opened, tree_at}
 use Rattle.decoded.proofs.KeptRecords.{Same, same_then, same_part, same_ends, same_row, end_there, end_row}
 use Rattle.table.proofs.SpannedBytes.{Spans, spans_then, spans_piece, record_spans}
-use Rattle.decoded.proofs.KeptRecords.{Kept, kept_itself, kept_then, kept_record, kept_end, same_end}
+use Rattle.decoded.proofs.KeptRecords.{Kept, kept_whole, kept_itself, kept_then, kept_record, recorded_there, kept_end, same_end}
 
 -- where a tree was read from record i on, up to `at` and record j: it is found there by every index that agrees on its records
-pub record Reached {A : Type 0} (i : ℕ) (ix : List ℕ) (Found : List ℕ → ℕ → A → Type 0) (a : A) (at j : ℕ) (jx : List ℕ) : Type 0 where
+pub record Reached {A : Type 0} (i : ℕ) (ix : Program) (Found : Program → ℕ → A → Type 0) (a : A) (at j : ℕ) (jx : Program) : Type 0 where
   pub more : i < j
   pub few : j ≤ most_records
   pub near : at ≤ 2 + longest_record * j
   pub kept : Kept i ix jx
   pub total : end_of jx i ≡ j
-  pub finds : (kx : List ℕ) → length kx ≡ program_length → Same i j jx kx → Found kx at a
+  pub finds : (kx : Program) → Whole kx → Same i j jx kx → Found kx at a
 
 -- both read, up to the same place and record, or both refuse with the same number
-pub data Agree {A : Type 0} (bs : List ℕ) (i : ℕ) (ix : List ℕ) (Found : List ℕ → ℕ → A → Type 0) : Parsed A → Ran → Type 0 where
-  reads : (a : A) (at j : ℕ) (jx : List ℕ) → Reached i ix Found a at j jx →
+pub data Agree {A : Type 0} (bs : List ℕ) (i : ℕ) (ix : Program) (Found : Program → ℕ → A → Type 0) : Parsed A → Ran → Type 0 where
+  reads : (a : A) (at j : ℕ) (jx : Program) → Reached i ix Found a at j jx →
       Agree bs i ix Found (parsed a (input_at bs at j)) (ran (Ok (come at j)) jx)
-  refuses : (why : Refusal) (jx : List ℕ) → Agree bs i ix Found (refused (number_of why)) (ran (Err why) jx)
+  refuses : (why : Refusal) (jx : Program) → Agree bs i ix Found (refused (number_of why)) (ran (Err why) jx)
 
 -- a record whose parts are read: its last note
-abbrev finished : ℕ → ℕ → ℕ → List ℕ → Ran
+abbrev finished : ℕ → ℕ → ℕ → Program → Ran
 finished i end total kx = ran (Ok (come end total)) (with_end i total kx)
 
 -- one or two trees, and then what follows
-module _ (one : ℕ → ℕ → List ℕ → Ran) (g : ℕ → ℕ → List ℕ → Ran) (at i : ℕ) (ix : List ℕ) where
+module _ (one : ℕ → ℕ → Program → Ran) (g : ℕ → ℕ → Program → Ran) (at i : ℕ) (ix : Program) where
   last : (r : Ran) → and_then_tree (and_then_tree r (λ a j jx. ran (Ok (come a j)) jx)) g ≡ and_then_tree r g
   unfolding and_then_tree
   last (ran (Ok c) jx) = refl
@@ -82,7 +82,7 @@ module _ (one : ℕ → ℕ → List ℕ → Ran) (g : ℕ → ℕ → List ℕ 
       go (ran (Err why) jx) = refl
 
 -- the children of a record, by how many there are
-module _ (one : Bool → ℕ → ℕ → List ℕ → Ran) (k next i : ℕ) (rx : List ℕ) where
+module _ (one : Bool → ℕ → ℕ → Program → Ran) (k next i : ℕ) (rx : Program) where
   no_children : parts true k ≡ 0 → parts false k ≡ 0 → children_at one k next i rx ≡ finished i next (i + 1) rx
   unfolding children_at many and_then_tree
   no_children e f = rw (e, f)
@@ -124,26 +124,26 @@ module _ (one : Bool → ℕ → ℕ → List ℕ → Ran) (k next i : ℕ) (rx 
         go (ran (Err why) jx) = refl
 
 -- a record whose first parts are read, up to `at` and record j, and whose start stands in ix
-record Partly (i : ℕ) (ix : List ℕ) (at j : ℕ) (jx : List ℕ) : Type 0 where
+record Partly (i : ℕ) (ix : Program) (at j : ℕ) (jx : Program) : Type 0 where
   after : i < j
   few : j ≤ most_records
   near : at ≤ 2 + longest_record * j
   kept : Kept (i + 1) ix jx
-  long : length jx ≡ program_length
+  long : Whole jx
 
 -- what an index says of a part of record i, from record j on, that ended at a place and before record n
-record Part {B : Type 0} (i j : ℕ) (jx : List ℕ) (Found : List ℕ → ℕ → B → Type 0) (end : ℕ) (b : B) (n : ℕ) (kx : List ℕ) : Type 0 where
+record Part {B : Type 0} (i j : ℕ) (jx : Program) (Found : Program → ℕ → B → Type 0) (end : ℕ) (b : B) (n : ℕ) (kx : Program) : Type 0 where
   earlier : Same (i + 1) j jx kx
   is : Found kx end b
   ends : end_of kx j ≡ n
 
 -- a record, whose start is noted: one part more
-module _ {A B : Type 0} (bs : List ℕ) (i : ℕ) (ix ix₁ : List ℕ) (Found : List ℕ → ℕ → A → Type 0) (Inner : List ℕ → ℕ → B → Type 0) where
+module _ {A B : Type 0} (bs : List ℕ) (i : ℕ) (ix ix₁ : Program) (Found : Program → ℕ → A → Type 0) (Inner : Program → ℕ → B → Type 0) where
   step :
-      (at j : ℕ) (jx : List ℕ) (p : Parsed B) (r : Ran) (f : B → Input → Parsed A) (g : ℕ → ℕ → List ℕ → Ran) → Partly i ix₁ at j jx →
+      (at j : ℕ) (jx : Program) (p : Parsed B) (r : Ran) (f : B → Input → Parsed A) (g : ℕ → ℕ → Program → Ran) → Partly i ix₁ at j jx →
       Agree bs j jx Inner p r →
-      ((b : B) (end n : ℕ) (nx : List ℕ) → Partly i ix₁ end n nx →
-      ((kx : List ℕ) → length kx ≡ program_length → Same (i + 1) n nx kx → Part i j jx Inner end b n kx) →
+      ((b : B) (end n : ℕ) (nx : Program) → Partly i ix₁ end n nx →
+      ((kx : Program) → Whole kx → Same (i + 1) n nx kx → Part i j jx Inner end b n kx) →
       Agree bs i ix Found (f b (input_at bs end n)) (g end n nx)) →
       Agree bs i ix Found (and_then p f) (and_then_tree r g)
   unfolding and_then and_then_tree
@@ -157,7 +157,7 @@ module _ {A B : Type 0} (bs : List ℕ) (i : ℕ) (ix ix₁ : List ℕ) (Found :
         few = r.few;
         near = r.near;
         kept = kept_then (omega arith) s.kept r.kept;
-        long = r.kept.long ∙ s.long;
+        long = kept_whole r.kept s.long;
       })
       (λ kx full t.
       record {
@@ -168,9 +168,9 @@ module _ {A B : Type 0} (bs : List ℕ) (i : ℕ) (ix ix₁ : List ℕ) (Found :
 
 -- all parts are read: the record behind them is noted
 finish :
-    {A : Type 0} (bs : List ℕ) (r : Record) (i at : ℕ) (ix : List ℕ) (Found : List ℕ → ℕ → A → Type 0) (a : A) (end j : ℕ) (jx : List ℕ) →
-    i < most_records → length ix ≡ program_length → Partly i (recorded bs r at i ix) end j jx →
-    ((kx : List ℕ) → length kx ≡ program_length → Row bs r kx i at → end_of kx i ≡ j → Same (i + 1) j jx kx → Found kx end a) →
+    {A : Type 0} (bs : List ℕ) (r : Record) (i at : ℕ) (ix : Program) (Found : Program → ℕ → A → Type 0) (a : A) (end j : ℕ) (jx : Program) →
+    i < most_records → Whole ix → Partly i (recorded bs r at i ix) end j jx →
+    ((kx : Program) → Whole kx → Row bs r kx i at → end_of kx i ≡ j → Same (i + 1) j jx kx → Found kx end a) →
     Agree bs i ix Found (parsed a (input_at bs end j)) (finished i end j jx)
 finish bs r i at ix Found a end j jx h n s find =
     let m : i < j = s.after in
@@ -180,30 +180,30 @@ finish bs r i at ix Found a end j jx h n s find =
       more = m;
       few = few;
       near = s.near;
-      kept = kept_then {i = i} {j = i} (omega arith) (kept_then (omega arith) (kept_record bs r at i ix h) s.kept) (kept_end i j jx h);
-      total = end_there i j jx h s.long (omega arith);
+      kept = kept_then {i = i} {j = i} (omega arith) (kept_then (omega arith) (kept_record bs r at i ix) s.kept) (kept_end i j jx);
+      total = end_there i j jx s.long h (omega arith);
       finds =
           λ kx full t. find kx full
-          (same_row bs r i at t (omega arith) m (end_row i j jx h bs r at
-          (same_row bs r i at s.kept.same (omega arith) (omega arith) (recorded_there bs r at i ix (omega arith) n))))
-          (same_ends t i (omega arith) m ∙ end_there i j jx h s.long (omega arith))
-          (same_then (i + 1) j (omega arith) (omega arith) (omega arith) (omega arith) (same_end i j jx h j few) t);
+          (same_row bs r i at t (omega arith) m (end_row i j jx bs r at s.long h
+          (same_row bs r i at s.kept.same (omega arith) (omega arith) (recorded_there bs r at i ix n h))))
+          (same_ends t i (omega arith) m ∙ end_there i j jx s.long h (omega arith))
+          (same_then (i + 1) j (omega arith) (omega arith) (omega arith) (omega arith) (same_end i j jx j) t);
     })
 
 -- what a reader of parts finds from a place and a record on, by an index, up to a place
 abbrev pub Finds : Type 0 → Type 1
-Finds B = ℕ → ℕ → List ℕ → ℕ → B → Type 0
+Finds B = ℕ → ℕ → Program → ℕ → B → Type 0
 
-abbrev pub Reads : {B : Type 0} → List ℕ → (Input → Parsed B) → (ℕ → ℕ → List ℕ → Ran) → Finds B → Type 0
+abbrev pub Reads : {B : Type 0} → List ℕ → (Input → Parsed B) → (ℕ → ℕ → Program → Ran) → Finds B → Type 0
 Reads bs part one Find =
-    (at j : ℕ) (jx : List ℕ) → at ≤ 2 + longest_record * j → length jx ≡ program_length → Agree bs j jx (Find at j) (part (input_at bs at j)) (one at j jx)
+    (at j : ℕ) (jx : Program) → at ≤ 2 + longest_record * j → Whole jx → Agree bs j jx (Find at j) (part (input_at bs at j)) (one at j jx)
 
 -- the last two parts
 two_from :
-    {A B : Type 0} (bs : List ℕ) (r : Record) (i at : ℕ) (ix : List ℕ) (Found : List ℕ → ℕ → A → Type 0) (Find : Finds B) (part : Input → Parsed B)
-    (one : ℕ → ℕ → List ℕ → Ran) (make : B → B → A) (from j : ℕ) (jx : List ℕ) →
-    i < most_records → length ix ≡ program_length → Reads bs part one Find → Partly i (recorded bs r at i ix) from j jx →
-    ((kx : List ℕ) → length kx ≡ program_length → Row bs r kx i at → Same (i + 1) j jx kx → (b c : B) (middle end m : ℕ) →
+    {A B : Type 0} (bs : List ℕ) (r : Record) (i at : ℕ) (ix : Program) (Found : Program → ℕ → A → Type 0) (Find : Finds B) (part : Input → Parsed B)
+    (one : ℕ → ℕ → Program → Ran) (make : B → B → A) (from j : ℕ) (jx : Program) →
+    i < most_records → Whole ix → Reads bs part one Find → Partly i (recorded bs r at i ix) from j jx →
+    ((kx : Program) → Whole kx → Row bs r kx i at → Same (i + 1) j jx kx → (b c : B) (middle end m : ℕ) →
     Find from j kx middle b → end_of kx j ≡ m → Find middle m kx end c → end_of kx i ≡ end_of kx m → Found kx end (make b c)) →
     Agree bs i ix Found (two part make (input_at bs from j)) (and_then_tree (one from j jx) (λ a n nx. and_then_tree (one a n nx) (finished i)))
 unfolding two
@@ -270,17 +270,17 @@ few_removals : (p : ℕ) (bs : List ℕ) → Bytes bs → (at : ℕ) (b : Bool) 
     (b ≡ true → (at < length bs) × (byte_at bs at ≤ most_removals)) → 0 < removals_place r → byte_at bs (removals_place r) ≤ most_removals
 unfolding place_of
 few_removals p bs ok at true k r e l few h =
-    let place : removals_place r ≡ at = rw (e, lt-ltb at place_count l) at (written_place p k true bs at ok (rw e h)) in
+    let place : removals_place r ≡ at = rw (e, lt-ltb at place_count l) at (written_place p k true bs at (rw e h)) in
     rw place (few refl).1
 few_removals p bs ok at false k r e l few h =
-    let place : removals_place r ≡ 0 = rw e at (written_place p k false bs at ok (rw e h)) in
+    let place : removals_place r ≡ 0 = rw e at (written_place p k false bs at (rw e h)) in
     absurd (omega arith)
 
-module _ {A : Type 0} (p : ℕ) (bs : List ℕ) (ok : Bytes bs) (at i : ℕ) (ix : List ℕ) (Found : List ℕ → ℕ → A → Type 0) where
+module _ {A : Type 0} (p : ℕ) (bs : List ℕ) (ok : Bytes bs) (at i : ℕ) (ix : Program) (Found : Program → ℕ → A → Type 0) where
   -- a record that was opened: its fields, and its children
   contents_agree :
       (f : Fields → Input → Parsed A) (g : Record → ℕ → Ran) → at + 2 ≤ length bs → byte_at bs (at + 1) < kind_count → at ≤ 2 + longest_record * i →
-      ((r : Record) (next : ℕ) → i < most_records → ((kx : List ℕ) → Row bs r kx i at → Decoded bs kx i at r) →
+      ((r : Record) (next : ℕ) → i < most_records → ((kx : Program) → Row bs r kx i at → Decoded bs kx i at r) →
       kind_of r ≡ byte_at bs (at + 1) → next ≤ 2 + longest_record * (i + 1) → Spans bs at next (record_bytes (kind_of r) (fields_of bs r)) →
       Agree bs i ix Found (f (fields_of bs r) (input_at bs next (i + 1))) (g r next)) →
       Agree bs i ix Found (contents p (byte_at bs at) (byte_at bs (at + 1)) (input_at bs (at + 2) i) f)
@@ -299,7 +299,7 @@ module _ {A : Type 0} (p : ℕ) (bs : List ℕ) (ok : Bytes bs) (at i : ℕ) (ix
       (λ r next e is w read found.
       let removing = removals_read p k map bs (at + 2) r next small t found in
       go r next l
-      (λ kx row. decoded bs kx at i r ok (rw e at (written_sound p k (stands 0 map) bs (at + 2) ok)) (few_removals p bs ok (at + 2) (stands 0 map) k r e (omega arith) removing) (omega arith) row)
+      (λ kx row. decoded bs kx at i r (few_removals p bs ok (at + 2) (stands 0 map) k r e (omega arith) removing) (omega arith) row)
       is (omega (arith, w.high))
       (rw is (record_spans p bs at (i + 1) next (fields_of bs r) ok inside t w.low w.inside read)))
       (λ why read found. refuses why ix) refl refl))
@@ -334,11 +334,11 @@ module _ {A : Type 0} (p : ℕ) (bs : List ℕ) (ok : Bytes bs) (at i : ℕ) (ix
       by (some what) e l w = go what e (omega arith) ((sorted (byte_at bs (at + 1))).small w)
 
 -- what stands at record j, from a place up to another: a condition, or a statement, of at most `depth` records from its root down
-pub record TestFound (p : ℕ) (bs : List ℕ) (depth at j : ℕ) (kx : List ℕ) (end : ℕ) (c : Condition) : Type 0 where
+pub record TestFound (p : ℕ) (bs : List ℕ) (depth at j : ℕ) (kx : Program) (end : ℕ) (c : Condition) : Type 0 where
   pub is : test_at kx depth j ≡ c
   pub spans : Spans bs at end (condition_bytes c)
 
-pub record StatementFound (p : ℕ) (bs : List ℕ) (depth at j : ℕ) (kx : List ℕ) (end : ℕ) (s : Statement) : Type 0 where
+pub record StatementFound (p : ℕ) (bs : List ℕ) (depth at j : ℕ) (kx : Program) (end : ℕ) (s : Statement) : Type 0 where
   pub is : statement_at kx depth j ≡ s
   pub starts : start_of kx j ≡ at
   pub inside : end ≤ length bs
@@ -353,7 +353,7 @@ Bodies p bs depth = Reads bs (statement p depth) (tree_at p bs depth false) (Sta
 
 -- record i, at `at`, whose fields were read up to `next`, and of which d was put down
 module _
-    (p : ℕ) (bs : List ℕ) (d : Record) (depth at i : ℕ) (ix : List ℕ) (h : i < most_records) (n : length ix ≡ program_length)
+    (p : ℕ) (bs : List ℕ) (d : Record) (depth at i : ℕ) (ix : Program) (h : i < most_records) (n : Whole ix)
     (next : ℕ) (close : next ≤ 2 + longest_record * (i + 1)) where
   began : Partly i (recorded bs d at i ix) next (i + 1) (recorded bs d at i ix)
   began =
@@ -362,13 +362,13 @@ module _
         few = omega arith;
         near = close;
         kept = kept_itself (i + 1) (recorded bs d at i ix);
-        long = recorded_long bs d at i ix (omega arith) ∙ n;
+        long = kept_whole (kept_record bs d at i ix) n;
       }
 
   -- without children
   alone :
-      {A : Type 0} (k : ℕ) (Found : List ℕ → ℕ → A → Type 0) (a : A) → parts true k ≡ 0 → parts false k ≡ 0 →
-      ((kx : List ℕ) → Row bs d kx i at → end_of kx i ≡ i + 1 → Found kx next a) →
+      {A : Type 0} (k : ℕ) (Found : Program → ℕ → A → Type 0) (a : A) → parts true k ≡ 0 → parts false k ≡ 0 →
+      ((kx : Program) → Row bs d kx i at → end_of kx i ≡ i + 1 → Found kx next a) →
       Agree bs i ix Found (parsed a (input_at bs next (i + 1))) (children_at (tree_at p bs depth) k next i (recorded bs d at i ix))
   alone k Found a e f is =
       rw (no_children (tree_at p bs depth) k next i (recorded bs d at i ix) e f)
@@ -377,9 +377,9 @@ module _
   module _ (tests : Tests p bs depth) where
     -- a condition, and what follows
     condition_first :
-        {A : Type 0} (Found : List ℕ → ℕ → A → Type 0) (f : Condition → Input → Parsed A) (g : ℕ → ℕ → List ℕ → Ran) →
-        ((c : Condition) (end m : ℕ) (mx : List ℕ) → Partly i (recorded bs d at i ix) end m mx →
-        ((kx : List ℕ) → length kx ≡ program_length → Same (i + 1) m mx kx →
+        {A : Type 0} (Found : Program → ℕ → A → Type 0) (f : Condition → Input → Parsed A) (g : ℕ → ℕ → Program → Ran) →
+        ((c : Condition) (end m : ℕ) (mx : Program) → Partly i (recorded bs d at i ix) end m mx →
+        ((kx : Program) → Whole kx → Same (i + 1) m mx kx →
         Part i (i + 1) (recorded bs d at i ix) (TestFound p bs depth next (i + 1)) end c m kx) →
         Agree bs i ix Found (f c (input_at bs end m)) (g end m mx)) →
         Agree bs i ix Found (and_then (condition p depth (input_at bs next (i + 1))) f)
@@ -392,7 +392,7 @@ module _
     both_conditions :
         (k : ℕ) (make : Condition → Condition → Condition) → parts false k ≡ 0 → parts true k ≡ 2 → Spans bs at next (record_bytes k no_fields) →
         ((c d : Condition) → condition_bytes (make c d) ≡ record_bytes k no_fields ++ (condition_bytes c ++ condition_bytes d)) →
-        ((kx : List ℕ) → Row bs d kx i at →
+        ((kx : Program) → Row bs d kx i at →
         test_at kx (suc depth) i ≡ make (test_at kx depth (i + 1)) (test_at kx depth (end_of kx (i + 1)))) →
         Agree bs i ix (TestFound p bs (suc depth) at i) (two (condition p depth) make (input_at bs next (i + 1)))
         (children_at (tree_at p bs depth) k next i (recorded bs d at i ix))
@@ -407,13 +407,13 @@ module _
 
     -- a comparison
     compared : (k : ℕ) (c : Condition) → parts true k ≡ 0 → parts false k ≡ 0 → Spans bs at next (condition_bytes c) →
-        ((kx : List ℕ) → Row bs d kx i at → test_at kx (suc depth) i ≡ c) →
+        ((kx : Program) → Row bs d kx i at → test_at kx (suc depth) i ≡ c) →
         Agree bs i ix (TestFound p bs (suc depth) at i) (parsed c (input_at bs next (i + 1))) (children_at (tree_at p bs depth) k next i (recorded bs d at i ix))
     compared k c e f spans is = alone k _ c e f λ kx s total. record { is = is kx s; spans = spans }
 
     -- a condition's record
     condition_of_lem :
-        (r : Record) → ((kx : List ℕ) → Row bs d kx i at → Decoded bs kx i at r) → Spans bs at next (record_bytes (kind_of r) (fields_of bs r)) → (condition_kind (kind_of r) ≡ none → ⊥) →
+        (r : Record) → ((kx : Program) → Row bs d kx i at → Decoded bs kx i at r) → Spans bs at next (record_bytes (kind_of r) (fields_of bs r)) → (condition_kind (kind_of r) ≡ none → ⊥) →
         Agree bs i ix (TestFound p bs (suc depth) at i)
         (known (condition_kind (kind_of r)) (λ what. condition_of (condition p depth) what (fields_of bs r) (input_at bs next (i + 1))))
         (children_at (tree_at p bs depth) (kind_of r) next i (recorded bs d at i ix))
@@ -437,10 +437,10 @@ module _
     module _ (bodies : Bodies p bs depth) where
       -- a statement without statements in it
       leaf : (k : ℕ) (a : Statement) → parts true k ≡ 0 → parts false k ≡ 0 → next ≤ length bs →
-          ((kx : List ℕ) → Row bs d kx i at → start_of kx i ≡ at) →
-          ((kx : List ℕ) → Row bs d kx i at → statement_at kx (suc depth) i ≡ a) →
-          ((kx : List ℕ) → Row bs d kx i at → Placed bs kx i next a) →
-          ((kx : List ℕ) → i < end_of kx i → Numbered kx i (end_of kx i) a) →
+          ((kx : Program) → Row bs d kx i at → start_of kx i ≡ at) →
+          ((kx : Program) → Row bs d kx i at → statement_at kx (suc depth) i ≡ a) →
+          ((kx : Program) → Row bs d kx i at → Placed bs kx i next a) →
+          ((kx : Program) → i < end_of kx i → Numbered kx i (end_of kx i) a) →
           Agree bs i ix (StatementFound p bs (suc depth) at i) (parsed a (input_at bs next (i + 1))) (children_at (tree_at p bs depth) k next i (recorded bs d at i ix))
       leaf k a e f inside begins is placed numbered = alone k _ a e f λ kx s total.
           record { is = is kx s; starts = begins kx s; inside = inside; placed = placed kx s; numbered = numbered kx (omega arith) }
@@ -448,12 +448,12 @@ module _
       -- two statements
       both_statements :
           (k : ℕ) (make : Statement → Statement → Statement) → parts false k ≡ 2 → parts true k ≡ 0 →
-          ((kx : List ℕ) → Row bs d kx i at → start_of kx i ≡ at) →
-          ((kx : List ℕ) → Row bs d kx i at →
+          ((kx : Program) → Row bs d kx i at → start_of kx i ≡ at) →
+          ((kx : Program) → Row bs d kx i at →
           statement_at kx (suc depth) i ≡ make (statement_at kx depth (i + 1)) (statement_at kx depth (end_of kx (i + 1)))) →
-          ((kx : List ℕ) (end : ℕ) (b c : Statement) → i < record_count → piece bs (start_of kx i) (start_of kx (i + 1)) ≡ piece bs at next →
+          ((kx : Program) (end : ℕ) (b c : Statement) → i < record_count → piece bs (start_of kx i) (start_of kx (i + 1)) ≡ piece bs at next →
           Placed bs kx (i + 1) (start_of kx (end_of kx (i + 1))) b → Placed bs kx (end_of kx (i + 1)) end c → Placed bs kx i end (make b c)) →
-          ((kx : List ℕ) (b c : Statement) → Numbered kx (i + 1) (end_of kx (i + 1)) b → Numbered kx (end_of kx (i + 1)) (end_of kx i) c →
+          ((kx : Program) (b c : Statement) → Numbered kx (i + 1) (end_of kx (i + 1)) b → Numbered kx (end_of kx (i + 1)) (end_of kx i) c →
           Numbered kx i (end_of kx i) (make b c)) →
           Agree bs i ix (StatementFound p bs (suc depth) at i) (two (statement p depth) make (input_at bs next (i + 1)))
           (children_at (tree_at p bs depth) k next i (recorded bs d at i ix))
@@ -473,17 +473,17 @@ module _
 
       -- a statement's record
       statement_of_lem :
-          (r : Record) → ((kx : List ℕ) → Row bs d kx i at → Decoded bs kx i at r) → Spans bs at next (record_bytes (kind_of r) (fields_of bs r)) → (statement_kind (kind_of r) ≡ none → ⊥) →
+          (r : Record) → ((kx : Program) → Row bs d kx i at → Decoded bs kx i at r) → Spans bs at next (record_bytes (kind_of r) (fields_of bs r)) → (statement_kind (kind_of r) ≡ none → ⊥) →
           Agree bs i ix (StatementFound p bs (suc depth) at i)
           (known (statement_kind (kind_of r))
           (λ what. model.statement_of (condition p depth) (statement p depth) what (fields_of bs r) (input_at bs next (i + 1))))
           (children_at (tree_at p bs depth) (kind_of r) next i (recorded bs d at i ix))
-      unfolding kind_of statement_kind known model.statement_of fields_of parts statement_at statement_of and_then Placed Numbered head_bytes
+      unfolding kind_of statement_kind known model.statement_of fields_of parts statement_at statement_of and_then Placed Numbered head_bytes removals_place
       statement_of_lem kind.Skip e spans there =
           leaf 0 _ refl refl spans.inside (λ kx s. (e kx s).starts) (λ kx s. rw (e kx s).carries)
           (λ kx s. rw (e kx s).starts (spans_piece _ spans)) λ kx l. l
       statement_of_lem (kind.Not q a) e spans there =
-          leaf 1 _ refl refl spans.inside (λ kx s. (e kx s).starts) (λ kx s. rw ((e kx s).carries.0, (e kx s).carries.1))
+          leaf 1 _ refl refl spans.inside (λ kx s. (e kx s).starts) (λ kx s. rw ((e kx s).carries, (e kx s).removes))
           (λ kx s. rw (e kx s).starts (spans_piece _ spans)) λ kx l. l
       statement_of_lem kind.Sequence e spans there =
           both_statements 2 sequence refl refl (λ kx s. (e kx s).starts) (λ kx s. rw (e kx s).carries) (λ kx end b c l head first second. (l, head ∙ spans_piece _ spans, first, second))
@@ -508,10 +508,10 @@ module _
                 (rw test.ends s₁.after, rw test.ends first.numbered, rw (test.ends, ends, total) second.numbered);
           })
       statement_of_lem (kind.Qcase q a) e spans there =
-          both_statements 4 (qcase _ _) refl refl (λ kx s. (e kx s).starts) (λ kx s. rw ((e kx s).carries.0, (e kx s).carries.1)) (λ kx end b c l head first second. (l, head ∙ spans_piece _ spans, first, second))
+          both_statements 4 (qcase _ _) refl refl (λ kx s. (e kx s).starts) (λ kx s. rw ((e kx s).carries, (e kx s).removes)) (λ kx end b c l head first second. (l, head ∙ spans_piece _ spans, first, second))
           λ kx b c first second. (first, second)
       statement_of_lem (kind.Call q f) e spans there =
-          leaf 5 _ refl refl spans.inside (λ kx s. (e kx s).starts) (λ kx s. rw ((e kx s).carries.0, (e kx s).carries.1))
+          leaf 5 _ refl refl spans.inside (λ kx s. (e kx s).starts) (λ kx s. rw ((e kx s).carries, (e kx s).removes))
           (λ kx s. rw (e kx s).starts (spans_piece _ spans)) λ kx l. l
       statement_of_lem (kind.Greater a b) e spans there = absurd (there refl)
       statement_of_lem (kind.AtLeast a b) e spans there = absurd (there refl)
@@ -522,7 +522,7 @@ module _
 
 -- the kind of a record that was read is the kind byte that was tested
 settled :
-    {A K : Type 0} (bs : List ℕ) (i : ℕ) (ix : List ℕ) (Found : List ℕ → ℕ → A → Type 0) (sort : ℕ → Option K) (f : K → Parsed A) (x : ℕ → Ran)
+    {A K : Type 0} (bs : List ℕ) (i : ℕ) (ix : Program) (Found : Program → ℕ → A → Type 0) (sort : ℕ → Option K) (f : K → Parsed A) (x : ℕ → Ran)
     (k j : ℕ) (what : K) → k ≡ j → sort j ≡ some what → ((sort k ≡ none → ⊥) → Agree bs i ix Found (known (sort k) f) (x k)) →
     Agree bs i ix Found (f what) (x j)
 unfolding known

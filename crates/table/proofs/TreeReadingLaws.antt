@@ -12,13 +12,14 @@ use Rattle.limits.specs.declared.Refusal.TheVariants.{WrongKind, TooDeep}
 use Rattle.model.specs.Limits.{most_records, most_depth}
 use Rattle.records.specs.declared.Record.{Record}
 use Rattle.records.specs.Fields.{next_byte}
-use Rattle.decoded.specs.RecordWords.{recorded}
+use Rattle.decoded.specs.RecordsPutDown.{recorded}
+use Rattle.decoded.specs.declared.Program.{Program}
 use Rattle.decoded.specs.DecodedTable.{with_end, with_root}
 use Rattle.table.specs.declared.Come.{Come}
 use Rattle.table.specs.TreeReading.{come, Ran, ran, and_then_tree, wanted, parts, contents_at, many, children_at, opened, after_kind, tree_at, bodies_at}
 
 -- so many trees, one after the other: the first is refused, or the others stand behind it
-module _ (one : ℕ → ℕ → List ℕ → Ran) (at i : ℕ) (g h : List ℕ) where
+module _ (one : ℕ → ℕ → Program → Ran) (at i : ℕ) (g h : Program) where
   pub many_refused : (n : ℕ) (why : Refusal) → 0 < n → ran (Err why) h ≡ one at i g → ran (Err why) h ≡ many one n at i g
   unfolding many and_then_tree
   many_refused zero why l e = absurd (omega arith)
@@ -29,35 +30,35 @@ module _ (one : ℕ → ℕ → List ℕ → Ran) (at i : ℕ) (g h : List ℕ) 
   many_behind n m c l e = rw (l, add-one m, many, ← e)
 
 -- no trees are left
-pub many_none : (one : ℕ → ℕ → List ℕ → Ran) (n : ℕ) (c : Come) (g : List ℕ) → n ≡ 0 → many one n c.at c.records g ≡ ran (Ok c) g
+pub many_none : (one : ℕ → ℕ → Program → Ran) (n : ℕ) (c : Come) (g : Program) → n ≡ 0 → many one n c.at c.records g ≡ ran (Ok c) g
 unfolding many
 many_none one n c g e = rw e
 
 -- the children of a record
-module _ (one : Bool → ℕ → ℕ → List ℕ → Ran) (k at i : ℕ) (g : List ℕ) where
+module _ (one : Bool → ℕ → ℕ → Program → Ran) (k at i : ℕ) (g : Program) where
   pub children_none : parts true k ≡ 0 → parts false k ≡ 0 → ran (Ok (come at (i + 1))) (with_end i (i + 1) g) ≡ children_at one k at i g
   unfolding children_at many and_then_tree
   children_none e f = rw (e, f)
 
   -- a condition is refused
-  pub children_conditions : (why : Refusal) (h : List ℕ) → ran (Err why) h ≡ many (one true) (parts true k) at (i + 1) g → ran (Err why) h ≡ children_at one k at i g
+  pub children_conditions : (why : Refusal) (h : Program) → ran (Err why) h ≡ many (one true) (parts true k) at (i + 1) g → ran (Err why) h ≡ children_at one k at i g
   unfolding children_at and_then_tree
   children_conditions why h e = rw (← e)
 
-  module _ (c : Come) (h : List ℕ) (e : ran (Ok c) h ≡ many (one true) (parts true k) at (i + 1) g) where
+  module _ (c : Come) (h : Program) (e : ran (Ok c) h ≡ many (one true) (parts true k) at (i + 1) g) where
     -- a statement is refused
-    pub children_statements : (why : Refusal) (m : List ℕ) → ran (Err why) m ≡ many (one false) (parts false k) c.at c.records h → ran (Err why) m ≡ children_at one k at i g
+    pub children_statements : (why : Refusal) (m : Program) → ran (Err why) m ≡ many (one false) (parts false k) c.at c.records h → ran (Err why) m ≡ children_at one k at i g
     unfolding children_at and_then_tree
     children_statements why m f = rw (← e, ← f)
 
     -- all are read, and the record behind them is noted
-    pub children_done : (d : Come) (m : List ℕ) → ran (Ok d) m ≡ many (one false) (parts false k) c.at c.records h → ran (Ok d) (with_end i d.records m) ≡ children_at one k at i g
+    pub children_done : (d : Come) (m : Program) → ran (Ok d) m ≡ many (one false) (parts false k) c.at c.records h → ran (Ok d) (with_end i d.records m) ≡ children_at one k at i g
     unfolding children_at and_then_tree
     children_done d m f = rw (← e, ← f)
 
 -- a tree, by whether it is too deep
 by_depth :
-    (p : ℕ) (bs : List ℕ) (d : ℕ) (tests : Bool) (at i : ℕ) (g : List ℕ) (x : Ran) →
+    (p : ℕ) (bs : List ℕ) (d : ℕ) (tests : Bool) (at i : ℕ) (g : Program) (x : Ran) →
     (d ≡ 0 → x ≡ opened tests bs at g (λ map kind. ran (Err TooDeep) g)) →
     (0 < d → x ≡ opened tests bs at g (after_kind p bs (tree_at p bs (d - 1)) at i g)) → x ≡ tree_at p bs d tests at i g
 unfolding tree_at
@@ -65,7 +66,7 @@ by_depth p bs zero tests at i g x f h = f refl
 by_depth p bs (suc d) tests at i g x f h = rw sub-one at (h (omega arith))
 
 -- a tree
-module _ (p : ℕ) (bs : List ℕ) (d : ℕ) (tests : Bool) (at i : ℕ) (g : List ℕ) where
+module _ (p : ℕ) (bs : List ℕ) (d : ℕ) (tests : Bool) (at i : ℕ) (g : Program) where
   -- its map is lacking
   pub tree_none : (why : Refusal) → Err why ≡ next_byte bs at → ran (Err why) g ≡ tree_at p bs d tests at i g
   tree_none why e = by_depth p bs d tests at i g _ (λ z. rw (← e)) (λ z. rw (← e))
@@ -103,7 +104,7 @@ module _ (p : ℕ) (bs : List ℕ) (d : ℕ) (tests : Bool) (at i : ℕ) (g : Li
               by_depth p bs d tests at i g _ (λ y. absurd (omega arith)) (λ y. rw (← m, ← k, w, lt-ltb i most_records l, ← e) q)
 
 -- the bodies of n procedures: the first is refused, or the others stand behind it
-module _ (p : ℕ) (bs : List ℕ) (f at i : ℕ) (g h : List ℕ) where
+module _ (p : ℕ) (bs : List ℕ) (f at i : ℕ) (g h : Program) where
   pub bodies_refused : (n : ℕ) (why : Refusal) → 0 < n → ran (Err why) h ≡ tree_at p bs most_depth false at i (with_root f i g) → ran (Err why) h ≡ bodies_at p bs n f at i g
   unfolding bodies_at and_then_tree
   bodies_refused zero why l e = absurd (omega arith)
@@ -115,6 +116,6 @@ module _ (p : ℕ) (bs : List ℕ) (f at i : ℕ) (g h : List ℕ) where
   bodies_behind n m c l e = rw (l, add-one m, bodies_at, ← e)
 
 -- no bodies are left
-pub bodies_none : (p : ℕ) (bs : List ℕ) (n f : ℕ) (c : Come) (g : List ℕ) → n ≡ 0 → bodies_at p bs n f c.at c.records g ≡ ran (Ok c) g
+pub bodies_none : (p : ℕ) (bs : List ℕ) (n f : ℕ) (c : Come) (g : Program) → n ≡ 0 → bodies_at p bs n f c.at c.records g ≡ ran (Ok c) g
 unfolding bodies_at
 bodies_none p bs n f c g e = rw e

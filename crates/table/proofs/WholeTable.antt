@@ -14,19 +14,20 @@ use Rattle.limits.specs.Sizes.{body_count}
 use Rattle.limits.specs.Refusals.{number_of}
 use Rattle.limits.specs.declared.Refusal.{Refusal}
 use Rattle.limits.specs.declared.Refusal.TheVariants.{TableStops, WrongEdition, ManyProcedures, BytesLeft}
-use Rattle.decoded.specs.Layout.{program_length}
 use Rattle.model.proofs.BooleanLaws.{by_eq, by_lt}
 use Rattle.model.proofs.ReadingLaws.{longest_record}
 use Rattle.model.proofs.RoundTrip.{Bytes}
 use Rattle.model.specs.Limits.{bytes_left, most_procedures, most_records, most_depth, table_stops, wrong_edition, many_procedures, table_edition}
-use Rattle.model.specs.Syntax.{Statement, Program}
+use Rattle.model.specs.Syntax.{Statement}
+use Rattle.model.specs.Syntax as syntax
 use Rattle.model.specs.Reading as model
 use Rattle.model.specs.Reading.{Input, input_at, Parsed, parsed, refused, and_then, provided, statement, statements, read_table}
 use Rattle.model.specs.Lists.{range}
-use Rattle.model.specs.Answers.{outcome}
+use Rattle.model.specs.Answers.{outcome, gives}
 use Rattle.table.specs.declared.Come.{Come}
-use Rattle.decoded.specs.DecodedTable.{start_of, end_of, root_of, procedure_count, body_at, with_root}
-use Rattle.table.specs.ReadTable.{outcome_read, Placed, BodiesPlaced, Numbered, BodiesNumbered, PlacedRead}
+use Rattle.decoded.specs.declared.Program.{Program}
+use Rattle.decoded.specs.DecodedTable.{Whole, start_of, end_of, root_of, procedure_count, body_at, with_root}
+use Rattle.table.specs.ReadTable.{outcome_read, body_end, Placed, BodiesPlaced, Numbered, BodiesNumbered, PlacedRead}
 use Rattle.table.specs.TreeReading.{come, Ran, ran, and_then_tree, bodies_at}
 use Rattle.decoded.proofs.KeptRecords.{
   Same,
@@ -39,19 +40,20 @@ use Rattle.decoded.proofs.KeptRecords.{
   root_there,
   root_other,
   root_count_lem,
-  root_long,
+  root_whole,
+  kept_whole,
 }
 use Rattle.table.proofs.DecodedTrees as trees
 use Rattle.table.proofs.DecodedTrees.{Reached, StatementFound, statement_agrees}
 
 -- where the bodies of n procedures from f on were read, from a place and record i on, up to `at`: the program leads to them, places each up to the next, and
 -- keeps what was put down before
-record Reached-bodies (p : ℕ) (bs : List ℕ) (n f from i : ℕ) (ix : List ℕ) (ss : List Statement) (at : ℕ) (jx : List ℕ) : Type 0 where
+record Reached-bodies (p : ℕ) (bs : List ℕ) (n f from i : ℕ) (ix : Program) (ss : List Statement) (at : ℕ) (jx : Program) : Type 0 where
   same : Same 0 i ix jx
   roots : (g : ℕ) → g < f → root_of jx g ≡ root_of ix g
   counted : procedure_count jx ≡ procedure_count ix
   finds : ss ≡ map (body_at jx) (range n f)
-  long : length jx ≡ program_length
+  long : Whole jx
   none : n ≡ 0 → at ≡ from
   inside : 0 < n → at ≤ length bs
   begins : 0 < n → start_of jx (root_of jx f) ≡ from
@@ -62,18 +64,18 @@ record Reached-bodies (p : ℕ) (bs : List ℕ) (n f from i : ℕ) (ix : List �
   behind : (g : ℕ) → f ≤ g → g + 1 < f + n → root_of jx (g + 1) ≡ end_of jx (root_of jx g)
 
 -- both read them, up to the same place and record, or both refuse with the same number
-data Agree-bodies (p : ℕ) (bs : List ℕ) (n f from i : ℕ) (ix : List ℕ) : Parsed (List Statement) → Ran → Type 0 where
-  reads : (ss : List Statement) (at j : ℕ) (jx : List ℕ) → Reached-bodies p bs n f from i ix ss at jx →
+data Agree-bodies (p : ℕ) (bs : List ℕ) (n f from i : ℕ) (ix : Program) : Parsed (List Statement) → Ran → Type 0 where
+  reads : (ss : List Statement) (at j : ℕ) (jx : Program) → Reached-bodies p bs n f from i ix ss at jx →
       Agree-bodies p bs n f from i ix (parsed ss (input_at bs at j)) (ran (Ok (come at j)) jx)
-  refuses : (why : Refusal) (jx : List ℕ) → Agree-bodies p bs n f from i ix (refused (number_of why)) (ran (Err why) jx)
+  refuses : (why : Refusal) (jx : Program) → Agree-bodies p bs n f from i ix (refused (number_of why)) (ran (Err why) jx)
 
 -- a body, whose root is noted, and then the others
-module _ (p : ℕ) (bs : List ℕ) (n f from i : ℕ) (ix : List ℕ) (l : f ≤ most_procedures) (m : i ≤ most_records) (full : length ix ≡ program_length) where
-  abbrev rooted : List ℕ
+module _ (p : ℕ) (bs : List ℕ) (n f from i : ℕ) (ix : Program) (l : f ≤ most_procedures) (m : i ≤ most_records) (full : Whole ix) where
+  abbrev rooted : Program
   rooted = with_root f i ix
 
   others :
-      (s : Statement) (end j : ℕ) (jx : List ℕ) (q : Parsed (List Statement)) (r : Ran) →
+      (s : Statement) (end j : ℕ) (jx : Program) (q : Parsed (List Statement)) (r : Ran) →
       Reached i rooted (StatementFound p bs most_depth from i) s end j jx → Agree-bodies p bs n (f + 1) end j jx q r →
       Agree-bodies p bs (suc n) f from i ix (and_then q (λ ss k. parsed (s ∷ ss) k)) r
   unfolding and_then range
@@ -84,10 +86,10 @@ module _ (p : ℕ) (bs : List ℕ) (n f from i : ℕ) (ix : List ℕ) (l : f ≤
       (record {
         same =
             same_then 0 i (omega arith) (omega arith) (omega arith) (omega arith)
-            (same_root i f i ix (omega arith))
+            (same_root f i ix i)
             (same_then 0 i (omega arith) (omega arith) (omega arith) (omega arith) a.kept.same b.same);
         counted = b.counted ∙ kept_count a.kept ∙ root_count_lem f i ix;
-        roots = λ g h. b.roots g (omega arith) ∙ kept_root a.kept g (omega arith) ∙ root_other f i ix g (omega arith);
+        roots = λ g h. b.roots g (omega arith) ∙ kept_root a.kept g ∙ root_other f i ix g (omega arith);
         finds = rw (← add-one f, ← b.finds) (ap (λ t. t ∷ ss) (sym body_is));
         long = b.long;
         none = λ e. absurd (omega arith);
@@ -109,7 +111,7 @@ module _ (p : ℕ) (bs : List ℕ) (n f from i : ℕ) (ix : List ℕ) (l : f ≤
       })
     where
       root : root_of ox f ≡ i
-      root = b.roots f (omega arith) ∙ kept_root a.kept f (omega arith) ∙ root_there f i ix (omega arith) full (omega arith)
+      root = b.roots f (omega arith) ∙ kept_root a.kept f ∙ root_there f i ix full (omega arith) (omega arith)
 
       found : StatementFound p bs most_depth from i ox end s
       found = let more : i < j = a.more in a.finds ox b.long (same_part i j (omega arith) (omega arith) b.same)
@@ -121,25 +123,25 @@ module _ (p : ℕ) (bs : List ℕ) (n f from i : ℕ) (ix : List ℕ) (l : f ≤
       body_is = rw root found.is
 
   body_and_others :
-      (q : Parsed Statement) (r : Ran) (g : Input → Parsed (List Statement)) (h : ℕ → ℕ → List ℕ → Ran) →
+      (q : Parsed Statement) (r : Ran) (g : Input → Parsed (List Statement)) (h : ℕ → ℕ → Program → Ran) →
       trees.Agree bs i rooted (StatementFound p bs most_depth from i) q r →
-      ((end j : ℕ) (jx : List ℕ) → j ≤ most_records → end ≤ 2 + longest_record * j → length jx ≡ program_length →
+      ((end j : ℕ) (jx : Program) → j ≤ most_records → end ≤ 2 + longest_record * j → Whole jx →
       Agree-bodies p bs n (f + 1) end j jx (g (input_at bs end j)) (h end j jx)) →
       Agree-bodies p bs (suc n) f from i ix (and_then q (λ s j. and_then (g j) (λ ss k. parsed (s ∷ ss) k))) (and_then_tree r h)
   unfolding and_then and_then_tree
   body_and_others _ _ g h (trees.refuses why kx) go = refuses why kx
   body_and_others _ _ g h (trees.reads s end j jx a) go =
-      others s end j jx _ _ a (go end j jx a.few a.near (a.kept.long ∙ root_long f i ix ∙ full))
+      others s end j jx _ _ a (go end j jx a.few a.near (kept_whole a.kept (root_whole f i ix full)))
 
 -- the bodies are read at every place as the model reads them from the bytes from there on
 bodies_agree :
-    (p : ℕ) (bs : List ℕ) → Bytes bs → (n f at i : ℕ) (ix : List ℕ) → f + n ≤ body_count → i ≤ most_records → at ≤ 2 + longest_record * i →
-    length ix ≡ program_length → Agree-bodies p bs n f at i ix (statements p n (input_at bs at i)) (bodies_at p bs n f at i ix)
+    (p : ℕ) (bs : List ℕ) → Bytes bs → (n f at i : ℕ) (ix : Program) → f + n ≤ body_count → i ≤ most_records → at ≤ 2 + longest_record * i →
+    Whole ix → Agree-bodies p bs n f at i ix (statements p n (input_at bs at i)) (bodies_at p bs n f at i ix)
 unfolding statements bodies_at range
 bodies_agree p bs ok zero f at i ix l m near full =
     reads [] at i ix
     (record {
-      same = record { words = λ q a b k l. refl };
+      same = record { entries = λ q a b. refl };
       roots = λ g h. refl;
       counted = refl;
       finds = refl;
@@ -155,7 +157,7 @@ bodies_agree p bs ok zero f at i ix l m near full =
     })
 bodies_agree p bs ok (suc n) f at i ix l m near full =
     body_and_others p bs n f at i ix (omega arith) m full _ _ (statements p n) _
-    (statement_agrees p bs ok most_depth at i (with_root f i ix) near (root_long f i ix ∙ full))
+    (statement_agrees p bs ok most_depth at i (with_root f i ix) near (root_whole f i ix full))
     λ end j jx few close n₁. bodies_agree p bs ok n (f + 1) end j jx (omega arith) few close n₁
 
 -- what the model reads where the bodies were read so
@@ -164,19 +166,30 @@ told p bs n f (ran (Ok c) jx) = parsed (map (body_at jx) (range n f)) (input_at 
 told p bs n f (ran (Err why) jx) = refused (number_of why)
 
 is_told :
-    (p : ℕ) (bs : List ℕ) (n f from i : ℕ) (ix : List ℕ) (q : Parsed (List Statement)) (r : Ran) → Agree-bodies p bs n f from i ix q r →
+    (p : ℕ) (bs : List ℕ) (n f from i : ℕ) (ix : Program) (q : Parsed (List Statement)) (r : Ran) → Agree-bodies p bs n f from i ix q r →
     q ≡ told p bs n f r
 unfolding told
 is_told p bs n f from i ix _ _ (reads ss at j jx b) = ap (λ t. parsed t (input_at bs at j)) b.finds
 is_told p bs n f from i ix _ _ (refuses why jx) = refl
 
 -- where they were read, all bodies of a table of p procedures, the number of procedures is still there, and each body is placed: up to the next, or up to the end
-ReadTo : ℕ → List ℕ → List ℕ → Ran → Type 0
+ReadTo : ℕ → List ℕ → Program → Ran → Type 0
 ReadTo p bs ix (ran (Ok c) jx) = (procedure_count jx ≡ procedure_count ix) × (p ≤ most_procedures → procedure_count jx ≡ p → length bs ≤ c.at → BodiesPlaced bs jx × BodiesNumbered jx)
 ReadTo p bs ix (ran (Err why) jx) = Unit {0}
 
+-- the program of so many procedures
+abbrev program : Program → ℕ → syntax.Program
+program g n = record { main = body_at g 0; procedures = map (body_at g) (range n 1) }
+
+-- where a body ends, by the number of procedures
+end_before : (p : ℕ) (bs : List ℕ) (f : ℕ) (g : Program) → procedure_count g ≡ p → f < p → body_end bs g f ≡ start_of g (root_of g (f + 1))
+end_before p bs f g is l = let m : f < procedure_count g = omega arith in rw (lt-ltb f (procedure_count g) m)
+
+end_after : (p : ℕ) (bs : List ℕ) (f : ℕ) (g : Program) → procedure_count g ≡ p → p ≤ f → body_end bs g f ≡ length bs
+end_after p bs f g is l = let m : procedure_count g ≤ f = omega arith in rw (le-ltb f (procedure_count g) m)
+
 are_read :
-    (p : ℕ) (bs : List ℕ) (from i : ℕ) (ix : List ℕ) (q : Parsed (List Statement)) (r : Ran) → Agree-bodies p bs (suc p) 0 from i ix q r →
+    (p : ℕ) (bs : List ℕ) (from i : ℕ) (ix : Program) (q : Parsed (List Statement)) (r : Ran) → Agree-bodies p bs (suc p) 0 from i ix q r →
     ReadTo p bs ix r
 unfolding ReadTo
 are_read p bs from i ix _ _ (reads ss at j jx b) = (
@@ -187,8 +200,8 @@ are_read p bs from i ix _ _ (reads ss at j jx b) = (
         let end : length bs ≡ at = omega arith in
         let low : f ≤ p = rw is at h in
         by_lt f p
-        (λ l. rw (is, lt-ltb f p l) (b.placed f (omega arith) (omega arith)))
-        (λ g. rw (is, le-ltb f p g, end) (b.last_placed f (omega arith) (omega arith)))),
+        (λ l. rw (end_before p bs f jx is l) (b.placed f (omega arith) (omega arith)))
+        (λ g. rw (end_after p bs f jx is g, end) (b.last_placed f (omega arith) (omega arith)))),
     record {
       numbered = λ f h. let low : f ≤ p = rw is at h in (b.numbered f (omega arith) (omega arith)).0;
       behind = λ f h. let low : f < p = rw is at h in b.behind f (omega arith) (omega arith);
@@ -201,7 +214,7 @@ are_read p bs from i ix _ _ (reads ss at j jx b) = (
 are_read p bs from i ix _ _ (refuses why jx) = tt
 
 -- a program is its main statement and its bodies, with no byte left
-whole : Parsed (List Statement) → Parsed Program
+whole : Parsed (List Statement) → Parsed syntax.Program
 whole (parsed [] k) = refused bytes_left
 whole (parsed (s ∷ ss) k) = provided (eqb (length k.bytes) 0) bytes_left (parsed (record { main = s; procedures = ss }) k)
 whole (refused m) = refused m
@@ -241,7 +254,7 @@ header (a ∷ []) h = absurd (omega arith)
 header (a ∷ b ∷ bs) h = refl
 
 -- what is said of each answer
-module _ (bs : List ℕ) (jx : List ℕ) where
+module _ (bs : List ℕ) (jx : Program) where
   -- nothing is placed where the table is refused
   pub placed_none : (why : Refusal) → PlacedRead (Err why) bs jx
   unfolding PlacedRead
@@ -265,8 +278,8 @@ module _ (bs : List ℕ) (jx : List ℕ) where
       outcome_many m = rw (header bs h, eq-eqb (get_or bs 0 0) 1 e, lt-leb (get_or bs 1 0) most_procedures m)
 
       module _
-          (m : get_or bs 1 0 ≤ most_procedures) (ix : List ℕ) (t : Result Come Refusal) (read : ran t jx ≡ bodies_at (get_or bs 1 0) bs (get_or bs 1 0 + 1) 0 2 0 ix)
-          (counts : procedure_count ix ≡ get_or bs 1 0) (full : length ix ≡ program_length) (slice : (k : ℕ) → Fits w8 (get_or bs k 0)) where
+          (m : get_or bs 1 0 ≤ most_procedures) (ix : Program) (t : Result Come Refusal) (read : ran t jx ≡ bodies_at (get_or bs 1 0) bs (get_or bs 1 0 + 1) 0 2 0 ix)
+          (counts : procedure_count ix ≡ get_or bs 1 0) (full : Whole ix) (slice : (k : ℕ) → Fits w8 (get_or bs k 0)) where
         agreed : Agree-bodies (get_or bs 1 0) bs (suc (get_or bs 1 0)) 0 2 0 ix (statements (get_or bs 1 0) (suc (get_or bs 1 0)) (input_at bs 2 0))
             (bodies_at (get_or bs 1 0) bs (suc (get_or bs 1 0)) 0 2 0 ix)
         agreed = bodies_agree (get_or bs 1 0) bs (λ k. (slice k).fits) (suc (get_or bs 1 0)) 0 2 0 ix (omega arith) (omega arith) (omega arith) full
@@ -302,7 +315,9 @@ module _ (bs : List ℕ) (jx : List ℕ) where
           -- else the program that was decoded
           pub outcome_read_whole : length bs ≤ end.at → outcome_read (Ok tt) jx ≡ outcome (read_table bs)
           unfolding outcome_read outcome whole told range provided
-          outcome_read_whole l = rw (read_on, z, length-drop end.at bs, eq-eqb (length bs - end.at) 0 (omega arith), counted)
+          outcome_read_whole l =
+              rw (read_on, z, length-drop end.at bs, eq-eqb (length bs - end.at) 0 (omega arith))
+              (ap (λ (n : ℕ). gives (program jx n)) counted)
 
           -- and places
           pub placed_whole : length bs ≤ end.at → PlacedRead (Ok tt) bs jx
