@@ -13,13 +13,16 @@ use Rattle.model.specs.Lists.{holds}
 use Rattle.records.specs.declared.Record.{Record}
 use Rattle.records.specs.declared.Record.TheVariants as kind
 use Rattle.decoded.specs.Layout.{row_at}
-use Rattle.decoded.specs.DecodedTable.{record_in, test_of, test_at}
+use Rattle.decoded.specs.DecodedTable.{record_in, test_of, test_at, first_number, second_number}
 use Rattle.decoded.specs.declared.Step.{Step}
 use Rattle.decoded.specs.declared.Step.TheVariants as step
 use Rattle.decoded.specs.Steps.{step_of, step_at}
 use native.Mathlib.Numerals.{sub-one}
 use Rattle.step.proofs.NumberValues.{less_signed, at_most_signed, equal_signed}
-use Rattle.step.specs.Values.{first_value, second_value}
+use Rattle.step.specs.Values.{value_of, nothing_removed, first_value, second_value}
+use Rattle.step.proofs.Removals.{first_is, second_is}
+use Rattle.records.specs.declared.Number.{Number}
+use Rattle.sets.specs.Sets.{members_of}
 use Rattle.decoded.proofs.FieldsInWords.{HeldAt, held}
 
 -- whether a condition holds, by its step, for a list and where `part` says it of the parts. A statement's step holds, as `no_test` does.
@@ -76,17 +79,6 @@ module _ (g : List ℕ) (depth i : ℕ) (l : List ℕ) (st : Step)
       deeper zero h = absurd (h refl)
       deeper (suc d) h = rw (sub-one) (test_step g d i l)
 
-  -- a comparison is decided by its two values
-  module _ (at : ℕ) (x y : ℤ) (f : SFits w32 x) (h : SFits w32 y) (left : x ≡ first_value g at l) (right : y ≡ second_value g at l) where
-    pub held_greater : st ≡ step.Greater at → lt_z (to_z w32 (of_z w32 y)) (to_z w32 (of_z w32 x)) ≡ holds (test_at g depth i) l
-    held_greater e = less_signed y x h f ∙ rw (by_step, e, left, right)
-
-    pub held_at_least : st ≡ step.AtLeast at → le_z (to_z w32 (of_z w32 y)) (to_z w32 (of_z w32 x)) ≡ holds (test_at g depth i) l
-    held_at_least e = at_most_signed y x h f ∙ rw (by_step, e, left, right)
-
-    pub held_equal : st ≡ step.Equal at → eqb (of_z w32 x) (of_z w32 y) ≡ holds (test_at g depth i) l
-    held_equal e = equal_signed x y f h ∙ rw (by_step, e, left, right)
-
   -- not: the other way round than its part
   pub held_not : (first : ℕ) (b : Bool) → st ≡ step.Negates first → b ≡ holds (test_at g (depth - 1) first) l
       → not b ≡ holds (test_at g depth i) l
@@ -129,6 +121,28 @@ module _ (g : List ℕ) (depth i : ℕ) (l : List ℕ) (st : Step)
 
   pub held_calls : (f at : ℕ) → st ≡ step.Calls f at → true ≡ holds (test_at g depth i) l
   held_calls f at e = rw (by_step, e)
+
+-- a comparison is decided by its two values
+module _ (g : List ℕ) (depth i list : ℕ) (st : Step) (deep : depth ≡ 0 → ⊥) (steps : st ≡ step_at g i)
+    (at : ℕ) (a b : Number) (first : a ≡ first_number g at) (second : b ≡ second_number g at)
+    (x y : ℤ) (f : SFits w32 x) (h : SFits w32 y) (at_first : x ≡ value_of a (nothing_removed list)) (at_second : y ≡ value_of b (nothing_removed list)) where
+  left : x ≡ first_value g at (members_of list)
+  left = first_is g at list a x at_first first
+
+  right : y ≡ second_value g at (members_of list)
+  right = second_is g at list b y at_second second
+
+  by : holds (test_at g depth i) (members_of list) ≡ holds_by g (members_of list) (λ j. holds (test_at g (depth - 1) j) (members_of list)) st
+  by = by_step g depth i (members_of list) st deep steps
+
+  pub held_greater : st ≡ step.Greater at → lt_z (to_z w32 (of_z w32 y)) (to_z w32 (of_z w32 x)) ≡ holds (test_at g depth i) (members_of list)
+  held_greater e = less_signed y x h f ∙ rw (by, e, left, right)
+
+  pub held_at_least : st ≡ step.AtLeast at → le_z (to_z w32 (of_z w32 y)) (to_z w32 (of_z w32 x)) ≡ holds (test_at g depth i) (members_of list)
+  held_at_least e = at_most_signed y x h f ∙ rw (by, e, left, right)
+
+  pub held_equal : st ≡ step.Equal at → eqb (of_z w32 x) (of_z w32 y) ≡ holds (test_at g depth i) (members_of list)
+  held_equal e = equal_signed x y f h ∙ rw (by, e, left, right)
 
 pub ruleset testing = (
   rules,

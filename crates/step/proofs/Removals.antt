@@ -26,7 +26,7 @@ use Rattle.decoded.specs.DecodedTable.{first_number, second_number, removal_numb
 use Rattle.decoded.specs.Steps.{touched_by}
 use Rattle.decoded.proofs.WordsOfARecord.{removals_length}
 use Rattle.step.specs.declared.Lists.{Lists}
-use Rattle.step.specs.Values.{value_of, first_value, second_value}
+use Rattle.step.specs.Values.{value_of, nothing_removed, first_value, second_value}
 use Rattle.step.proofs.ConstantRange.{word_fair}
 
 -- nothing is left of nothing
@@ -41,9 +41,9 @@ remove_all_nothing l [] = refl
 remove_all_nothing l (a ∷ rs) = rw (remove_nothing (position (value a (sizes l [])))) (remove_all_nothing l rs)
 
 pub removed_nothing : (g : List ℕ) (at left k : ℕ) (l w : List ℕ) (rest : ℕ) → rest ≡ 0 → remove_all l (removals_from left g at k) (members_of rest) ≡ w →
-    members_of 0 ≡ w
+    members_of rest ≡ w
 removed_nothing g at left k l w rest e h =
-    members_empty ∙ sym (remove_all_nothing l (removals_from left g at k)) ∙ ap (remove_all l (removals_from left g at k)) (sym members_empty ∙ ap members_of (sym e)) ∙ h
+    ap members_of e ∙ members_empty ∙ sym (remove_all_nothing l (removals_from left g at k)) ∙ ap (remove_all l (removals_from left g at k)) (sym members_empty ∙ ap members_of (sym e)) ∙ h
 
 -- a number, as the code reads, values and removes it, and then those behind it are all from here on
 removals_more : (g : List ℕ) (at left k : ℕ) (l now : List ℕ) → 0 < left
@@ -55,19 +55,19 @@ removals_more g at (suc left) k l now h = rw (sub-one)
 
 pub removed_more : (g : List ℕ) (at left k list rest : ℕ) (a : code.Number) (z : ℤ) (r : List ℕ)
     → a ≡ removal_number g at k → SFits w32 z → z ≡ value_of a (record { whole = list; left = rest })
-    → r ≡ remove (position (to_z w32 (of_z w32 z))) (members_of rest) → 0 < left
-    → remove_all (members_of list) (removals_from (left - 1) g at (k + 1)) r ≡ remove_all (members_of list) (removals_from left g at k) (members_of rest)
-removed_more g at left k list rest a z r number f valued removed h =
+    → r ≡ remove (position (to_z w32 (of_z w32 z))) (members_of rest) → 0 < left → (others : ℕ) → others ≡ left - 1
+    → remove_all (members_of list) (removals_from others g at (k + 1)) r ≡ remove_all (members_of list) (removals_from left g at k) (members_of rest)
+removed_more g at left k list rest a z r number f valued removed h others less =
     let s : Lists = record { whole = list; left = rest } in
     let v : z ≡ value (number_of (removal_number g at k)) (sizes (members_of list) (members_of rest)) = valued ∙ rw number (word_fair _ s) in
     let one : r ≡ remove (position (value (number_of (removal_number g at k)) (sizes (members_of list) (members_of rest)))) (members_of rest) =
     removed ∙ ap (λ (x : ℤ). remove (position x) (members_of rest)) (to_z-of_z f ∙ v) in
-    ap (remove_all (members_of list) (removals_from (left - 1) g at (k + 1))) one ∙ removals_more g at left k (members_of list) (members_of rest) h
+    rw less (ap (remove_all (members_of list) (removals_from (left - 1) g at (k + 1))) one ∙ removals_more g at left k (members_of list) (members_of rest) h)
 
 -- at first all removals of the record are to come
-pub removed_begins : (g : List ℕ) (at list left : ℕ) → left ≡ length (removals_in g at)
-    → remove_all (members_of list) (removals_from left g at 0) (members_of list) ≡ remaining (removals_in g at) (members_of list)
-removed_begins g at list left e = rw (e, removals_length _ g at 0)
+pub removed_begins : (g : List ℕ) (at list left all : ℕ) → left ≡ length (removals_in g at) → all ≡ left
+    → remove_all (members_of list) (removals_from all g at 0) (members_of list) ≡ remaining (removals_in g at) (members_of list)
+removed_begins g at list left all e same = rw (same, e, removals_length _ g at 0)
 
 -- no number left: nothing is removed any more
 pub removed_ends : (g : List ℕ) (at left k : ℕ) (l now : List ℕ) → left ≤ 0 → now ≡ remove_all l (removals_from left g at k) now
@@ -90,18 +90,15 @@ entry_low rest (suc k) r e = rw e (by_lt k (length (members_of rest))
     (λ ge. rw (get_or-eq_default (members_of rest) 0 ge) zero-le))
 
 -- the values of the numbers of a comparison
-module _ (g : List ℕ) (at list : ℕ) (a : code.Number) (z : ℤ) (valued : z ≡ value_of a (record { whole = list; left = list })) where
+module _ (g : List ℕ) (at list : ℕ) (a : code.Number) (z : ℤ) (valued : z ≡ value_of a (nothing_removed list)) where
   pub first_is : a ≡ first_number g at → z ≡ first_value g at (members_of list)
-  first_is number = valued ∙ rw number (word_fair _ (record { whole = list; left = list }))
+  first_is number = valued ∙ rw number (word_fair _ (nothing_removed list))
 
   pub second_is : a ≡ second_number g at → z ≡ second_value g at (members_of list)
-  second_is number = valued ∙ rw number (word_fair _ (record { whole = list; left = list }))
+  second_is number = valued ∙ rw number (word_fair _ (nothing_removed list))
 
 -- all qubits, of as many as there can be
-pub all_few : (n r : ℕ) → members_of r ≡ qubits (min n 64) → n < most_qubits → members_of r ≡ qubits (min n most_qubits)
-all_few n r e h = let a : min n 64 ≡ min n most_qubits = omega arith in e ∙ ap qubits a
+pub all_are : (n m r : ℕ) → m ≡ min n most_qubits → members_of r ≡ qubits (min m 64) → members_of r ≡ qubits (min n most_qubits)
+all_are n m r least e = let a : min m 64 ≡ min n most_qubits = omega arith in e ∙ ap qubits a
 
-pub all_most : (n r : ℕ) → members_of r ≡ qubits (min most_qubits 64) → most_qubits ≤ n → members_of r ≡ qubits (min n most_qubits)
-all_most n r e h = let a : min most_qubits 64 ≡ min n most_qubits = omega arith in e ∙ ap qubits a
-
-pub ruleset lists = (rules, touched_is, entry_low, first_is, second_is, all_few, all_most)
+pub ruleset lists = (rules, touched_is, entry_low, all_are)

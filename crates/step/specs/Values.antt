@@ -20,6 +20,10 @@ value_of (base.Constant z) s = z
 value_of (base.SizePlus z) s = sum_of z (length (members_of s.whole))
 value_of (base.LeftPlus z) s = sum_of z (length (members_of s.left))
 
+-- the lists of a comparison, which removes nothing
+abbrev pub nothing_removed : ℕ → Lists
+nothing_removed list = record { whole = list; left = list }
+
 -- the values of the two numbers of the comparison whose words begin at a place
 abbrev pub first_value : List ℕ → ℕ → List ℕ → ℤ
 first_value g at l = compared_value (number_of (first_number g at)) l

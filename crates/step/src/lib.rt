@@ -8,7 +8,7 @@ ghost use Rattle.model.specs.Lists.{qubits, remaining, holds};
 ghost use Rattle.sets.specs.Sets.{members_of};
 ghost use Rattle.decoded.specs.DecodedTable.{removals_in, test_at};
 ghost use Rattle.decoded.specs.Steps.{touched_by};
-ghost use Rattle.step.specs.Values.{sum_of, value_of, first_value, second_value};
+ghost use Rattle.step.specs.Values.{sum_of, value_of, nothing_removed};
 
 use decoded::{Program, Row, Step, first_number, removal, removal_count, second_number, step_at};
 use limits::{MOST_CONSTANT, MOST_QUBITS};
@@ -26,11 +26,7 @@ pub struct Lists {
 pub fn all(n: u8) -> QubitSet
     ensures { members_of result ≡ qubits (min n most_qubits) }
 {
-    if n < MOST_QUBITS {
-        full(n)
-    } else {
-        full(MOST_QUBITS)
-    }
+    full(n.min(MOST_QUBITS))
 }
 
 // A constant and a size. No table has a constant above 16 bits; without the test the sum could leave i32.
@@ -58,26 +54,17 @@ fn value(a: Number, lists: Lists) -> i32
 pub fn remaining(program: &Program, at: Row, list: QubitSet) -> QubitSet
     ensures { members_of result ≡ remaining (removals_in program.now at) (members_of list) }
 {
-    let mut left = removal_count(program, at);
-    let mut k = 0;
     let mut rest = list;
-    while 0 < left {
+    for k in 0..removal_count(program, at) {
         // nothing is left to remove
         if rest == 0 {
-            return 0;
+            break;
         }
-        rest = remove(
-            rest,
-            value(
-                removal(program, at, k),
-                Lists {
-                    whole: list,
-                    left: rest,
-                },
-            ),
-        );
-        k += 1;
-        left -= 1;
+        let lists = Lists {
+            whole: list,
+            left: rest,
+        };
+        rest = remove(rest, value(removal(program, at, k), lists));
     }
     rest
 }
@@ -88,41 +75,22 @@ pub fn touched(program: &Program, at: Row, list: QubitSet) -> u8
     ensures upper_bound { result ≤ set_length }
 {
     let rest = remaining(program, at, list);
-    entry(
-        rest,
-        value(
-            first_number(program, at),
-            Lists {
-                whole: list,
-                left: rest,
-            },
-        ),
-    )
+    let lists = Lists {
+        whole: list,
+        left: rest,
+    };
+    entry(rest, value(first_number(program, at), lists))
 }
 
-// The values of the two numbers of a comparison: nothing is removed.
-fn first_value(program: &Program, at: Row, list: QubitSet) -> i32
-    ensures { result ≡ first_value program.now at (members_of list) }
+// The value of a number of a comparison: nothing is removed.
+fn compared(a: Number, list: QubitSet) -> i32
+    ensures { result ≡ value_of a (nothing_removed list) }
 {
-    value(
-        first_number(program, at),
-        Lists {
-            whole: list,
-            left: list,
-        },
-    )
-}
-
-fn second_value(program: &Program, at: Row, list: QubitSet) -> i32
-    ensures { result ≡ second_value program.now at (members_of list) }
-{
-    value(
-        second_number(program, at),
-        Lists {
-            whole: list,
-            left: list,
-        },
-    )
+    let lists = Lists {
+        whole: list,
+        left: list,
+    };
+    value(a, lists)
 }
 
 // Does the condition at record i hold for its numbers? It is followed `depth` records down; a statement there is no condition and holds.
@@ -132,22 +100,29 @@ fn holds(program: &Program, i: u32, list: QubitSet, depth: u8) -> bool
     if depth == 0 {
         return true;
     }
-    let step = step_at(program, i);
-    match step {
-        Step::Greater(at) => first_value(program, at, list) > second_value(program, at, list),
-        Step::AtLeast(at) => first_value(program, at, list) >= second_value(program, at, list),
-        Step::Equal(at) => first_value(program, at, list) == second_value(program, at, list),
-        Step::Both(first, second) => holds(program, first, list, depth - 1)
-            && holds(program, second, list, depth - 1),
-        Step::Either(first, second) => holds(program, first, list, depth - 1)
-            || holds(program, second, list, depth - 1),
+    match step_at(program, i) {
+        Step::Greater(at) => {
+            compared(first_number(program, at), list) > compared(second_number(program, at), list)
+        }
+        Step::AtLeast(at) => {
+            compared(first_number(program, at), list) >= compared(second_number(program, at), list)
+        }
+        Step::Equal(at) => {
+            compared(first_number(program, at), list) == compared(second_number(program, at), list)
+        }
+        Step::Both(first, second) => {
+            holds(program, first, list, depth - 1) && holds(program, second, list, depth - 1)
+        }
+        Step::Either(first, second) => {
+            holds(program, first, list, depth - 1) || holds(program, second, list, depth - 1)
+        }
         Step::Negates(first) => !holds(program, first, list, depth - 1),
-        Step::Nothing => true,
-        Step::Touches(_) => true,
-        Step::Sequence(_, _) => true,
-        Step::Chooses(_, _, _) => true,
-        Step::Branches(_, _, _) => true,
-        Step::Calls(_, _) => true,
+        Step::Nothing
+        | Step::Touches(_)
+        | Step::Sequence(_, _)
+        | Step::Chooses(_, _, _)
+        | Step::Branches(_, _, _)
+        | Step::Calls(_, _) => true,
     }
 }
 
