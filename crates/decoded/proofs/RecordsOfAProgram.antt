@@ -2,17 +2,20 @@
 use Rattle.std.proofs.Common.{get_or-set_same, get_or-set_other, length-set, ℕ, zero, suc, ◌+◌, ◌-◌, ◌*◌, ◌<◌, ◌≤◌, ◌≡◌, refl, sym, ap, ◌∙◌, length, List, [], ◌∷◌, slice_set, arith, Bool, true, false}
 use Rattle.std.proofs.lemmas.List.Edits.{sets}
 use mathlib.Core.Bool.{cond}
-use borrow.Author.Tests.{lt-ltb, ne_eqb}
+use borrow.Author.Tests.{ltb-true, le-ltb, lt-ltb, ne_eqb}
 use lib.Dec.{eqb, ltb}
 use lib.ListN.{get_or}
-use Rattle.limits.specs.Sizes.{place_count}
+use lib.IntN.{pos}
+use lib.Signed.{lt_z}
+use Rattle.limits.specs.Sizes.{place_count, most_constant}
 use Rattle.model.specs.Limits.{most_removals}
-use Rattle.model.specs.Reading.{required_map}
-use Rattle.model.proofs.BooleanLaws.{by_eq}
+use Rattle.model.specs.Reading.{required_map, signed16}
+use Rattle.model.proofs.BooleanLaws.{by_eq, by_bool}
 use Rattle.records.specs.declared.Number.{Number}
 use Rattle.records.specs.declared.Record.{Record}
 use Rattle.records.specs.Fields.{
   byte_at,
+  based,
   written_at,
   number_of,
   numbers_from,
@@ -26,7 +29,7 @@ use Rattle.records.specs.Fields.{
   record_of,
 }
 use Rattle.decoded.specs.declared.Program.{Program}
-use Rattle.decoded.specs.DecodedTable.{no_number, no_removals, entry_of, record_in, start_of, removal_number, removals_from, removals_in}
+use Rattle.decoded.specs.DecodedTable.{kept, kept_record, no_number, no_removals, entry_of, record_in, start_of, removal_number, removals_from, removals_in}
 use Rattle.decoded.specs.RecordsPutDown.{removals_place, numbers_written, removal_count, removals_read, place_kept}
 
 from_length : (n : ℕ) (g : Program) (i k : ℕ) → length (removals_from n g i k) ≡ n
@@ -83,6 +86,22 @@ written_there zero bs at k h = absurd (omega arith)
 written_there (suc n) bs at zero h = let e : at + 3 * 0 ≡ at = omega arith in rw e
 written_there (suc n) bs at (suc k) h = let e : at + 3 * suc k ≡ at + 3 + 3 * k = omega arith in rw e (written_there n bs (at + 3) k (omega arith))
 
+-- a number of the table is kept as it is
+constant_small : (low high : ℕ) → lt_z (pos most_constant) (signed16 low high) ≡ false
+unfolding signed16
+constant_small low high = by_bool (ltb (low + 256 * high) 32768)
+    (λ e. rw e (le-ltb most_constant (low + 256 * high) (omega (arith, ltb-true (low + 256 * high) 32768 e))))
+    (λ e. rw e)
+
+pub number_kept : (b low high : ℕ) → kept (based b (signed16 low high)) ≡ based b (signed16 low high)
+unfolding based kept
+number_kept zero low high = rw (constant_small low high)
+number_kept (suc zero) low high = rw (constant_small low high)
+number_kept (suc (suc b)) low high = rw (constant_small low high)
+
+written_kept : (bs : List ℕ) (at : ℕ) → kept (written_at bs at) ≡ written_at bs at
+written_kept bs at = number_kept (byte_at bs at) (byte_at bs (at + 1)) (byte_at bs (at + 2))
+
 -- n removals that are the numbers of a table are what the definition reads there
 removals_are : (n : ℕ) (bs : List ℕ) (g : Program) (i at k : ℕ) → ((j : ℕ) → j < n → removal_number g i (k + j) ≡ written_at bs (at + 3 * j)) →
     removals_from n g i k ≡ numbers_from n bs at
@@ -117,9 +136,11 @@ module _ (bs : List ℕ) (g : Program) (i q : ℕ) (put : (entry_of g i).removal
     unfolding count
     one j l =
         rw (put, read)
+        (ap kept
         (numbers_there (numbers_written count bs (q + 1)) no_removals.numbers 0 j (rw (written_length count bs (q + 1)) l)
         (rw (written_length count bs (q + 1)) (omega arith))
         ∙ written_there count bs (q + 1) j l)
+        ∙ written_kept bs (q + 1 + 3 * j))
 
     there : (p : ℕ) → (p ≡ 0 → ⊥) → removals_of bs p ≡ numbers_from (byte_at bs p) bs (p + 1)
     unfolding removals_of
@@ -139,9 +160,13 @@ module _ (bs : List ℕ) (g : Program) (i q : ℕ) (put : (entry_of g i).removal
 
 -- what was put down as record i is this record, which stands at a place
 pub record Row (bs : List ℕ) (r : Record) (g : Program) (i at : ℕ) : Type 0 where
-  pub read : record_in g i ≡ r
+  pub read : (entry_of g i).read ≡ r
   pub removals : (entry_of g i).removals ≡ removals_read bs (removals_place r)
   pub place : start_of g i ≡ place_kept at
+
+-- a record whose numbers are kept as they are
+abbrev pub Sound : Record → Type 0
+Sound r = kept_record r ≡ r
 
 -- what the program says of record i
 pub record Decoded (bs : List ℕ) (g : Program) (i at : ℕ) (r : Record) : Type 0 where
@@ -149,12 +174,12 @@ pub record Decoded (bs : List ℕ) (g : Program) (i at : ℕ) (r : Record) : Typ
   pub removes : removals_in g i ≡ removals_of bs (removals_place r)
   pub starts : start_of g i ≡ at
 
-pub decoded : (bs : List ℕ) (g : Program) (at i : ℕ) (r : Record) → (0 < removals_place r → byte_at bs (removals_place r) ≤ most_removals) → at < place_count →
+pub decoded : (bs : List ℕ) (g : Program) (at i : ℕ) (r : Record) → Sound r → (0 < removals_place r → byte_at bs (removals_place r) ≤ most_removals) → at < place_count →
     Row bs r g i at → Decoded bs g i at r
 unfolding place_kept
-decoded bs g at i r few l row =
+decoded bs g at i r sound few l row =
     record {
-      carries = row.read;
+      carries = ap kept_record row.read ∙ sound;
       removes = removals_put bs g i (removals_place r) row.removals few;
       starts = row.place ∙ rw (lt-ltb at place_count l);
     }
@@ -163,6 +188,19 @@ decoded bs g at i r few l row =
 either : (P : Record → Type 0) (b : Bool) (x y : Record) → P x → P y → P (cond b x y)
 either P true x y p q = p
 either P false x y p q = q
+
+-- a record as it is written in the table is one
+pub written_sound : (p k : ℕ) (b : Bool) (bs : List ℕ) (at : ℕ) → Sound (record_of p k b bs at)
+unfolding record_of touch_record comparison_record call_record plain_record kept_record
+written_sound p k b bs at =
+    let f = byte_at bs (after_removals b bs at) in
+    let a = written_kept bs (after_removals b bs at) in
+    let c = written_kept bs at in
+    let d = written_kept bs (at + 3) in
+    either Sound (eqb (required_map k) 2) _ _ (either Sound (eqb k 1) _ _ (rw a) (rw a))
+    (either Sound (eqb (required_map k) 6) _ _ (either Sound (eqb k 6) _ _ (rw (c, d)) (either Sound (eqb k 7) _ _ (rw (c, d)) (rw (c, d))))
+    (either Sound (eqb (required_map k) 8) _ _ (either Sound (eqb f 0) _ _ refl (either Sound (ltb p f) _ _ refl refl))
+    (either Sound (eqb k 2) _ _ refl (either Sound (eqb k 3) _ _ refl (either Sound (eqb k 9) _ _ refl (either Sound (eqb k 10) _ _ refl (either Sound (eqb k 11) _ _ refl refl)))))))
 
 -- the removals of a record as it is written in the table stand behind its kind, if anywhere
 pub written_place : (p k : ℕ) (b : Bool) (bs : List ℕ) (at : ℕ) → 0 < removals_place (record_of p k b bs at) → removals_place (record_of p k b bs at) ≡ place_of b at

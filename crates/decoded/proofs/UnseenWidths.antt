@@ -16,6 +16,8 @@ use Rattle.decoded.specs.declared.Program.{Program}
 use Rattle.decoded.specs.DecodedTable.{
   Whole,
   no_number,
+  kept,
+  kept_record,
   blank,
   entry_of,
   start_of,
@@ -82,7 +84,7 @@ module _ (g h : Program) (u : Unseen g h) where
   unfolding removals_from
   same_from zero i k = refl
   same_from (suc n) i k =
-      let one : removal_number h i k ≡ removal_number g i k = ap (λ (x : Entry). get_or x.removals.numbers k no_number) (u.entries i) in
+      let one : removal_number h i k ≡ removal_number g i k = ap (λ (x : Entry). kept (get_or x.removals.numbers k no_number)) (u.entries i) in
       rw one (ap (λ rs. number_of (removal_number g i k) ∷ rs) (same_from n i (k + 1)))
 
   same_removals : (i : ℕ) → removals_in h i ≡ removals_in g i
@@ -91,7 +93,7 @@ module _ (g h : Program) (u : Unseen g h) where
       rw all (same_from (entry_of g i).removals.count i 0)
 
   same_record : (i : ℕ) → record_in h i ≡ record_in g i
-  same_record i = ap (λ (x : Entry). x.read) (u.entries i)
+  same_record i = ap (λ (x : Entry). kept_record x.read) (u.entries i)
 
   step_same : (i : ℕ) (r : Record) → step_of h i r ≡ step_of g i r
   unfolding step_of

@@ -1,6 +1,7 @@
 -- What reading leaves of a table: what was put down of each record. With it the program is the tree of its statements.
-use Rattle.std.specs.Prelude.{ℕ, zero, suc, ◌+◌, ◌≡◌, cond, List, [], ◌∷◌, map, replicate, get_or, set, length, ltb, pos}
-use Rattle.limits.specs.Sizes.{place_count}
+use Rattle.std.specs.Prelude.{ℕ, zero, suc, ◌+◌, ◌≡◌, cond, List, [], ◌∷◌, map, replicate, get_or, set, length, ltb, ℤ, pos}
+use Rattle.std.specs.Int.Signed.{lt_z}
+use Rattle.limits.specs.Sizes.{place_count, most_constant}
 use Rattle.model.specs.Limits.{most_depth}
 use Rattle.model.specs.Syntax.{Number, constant, Condition, greater, at_least, equal, conjunction, disjunction, negation}
 use Rattle.model.specs.Syntax.{Statement, skip, NOT, sequence, if, qcase, call}
@@ -40,9 +41,32 @@ pub record Whole (g : Program) : Type 0 where
 abbrev pub entry_of : Program → ℕ → Entry
 entry_of g i = get_or g.entries i blank
 
+-- a number as it is taken from the program: no table has a constant above 16 bits, and one that had counts as 0
+abbrev pub constant_kept : ℤ → ℤ
+constant_kept z = cond (lt_z (pos most_constant) z) (pos 0) z
+
+unfoldable pub kept : code.Number → code.Number
+kept (base.Constant z) = base.Constant (constant_kept z)
+kept (base.SizePlus z) = base.SizePlus (constant_kept z)
+kept (base.LeftPlus z) = base.LeftPlus (constant_kept z)
+
+unfoldable pub kept_record : Record → Record
+kept_record kind.Skip = kind.Skip
+kept_record (kind.Not at a) = kind.Not at (kept a)
+kept_record kind.Sequence = kind.Sequence
+kept_record kind.If = kind.If
+kept_record (kind.Qcase at a) = kind.Qcase at (kept a)
+kept_record (kind.Call at f) = kind.Call at f
+kept_record (kind.Greater a b) = kind.Greater (kept a) (kept b)
+kept_record (kind.AtLeast a b) = kind.AtLeast (kept a) (kept b)
+kept_record (kind.Equal a b) = kind.Equal (kept a) (kept b)
+kept_record kind.And = kind.And
+kept_record kind.Or = kind.Or
+kept_record kind.Negation = kind.Negation
+
 -- of record i: the record as it was read, its place in the table, the record behind its subtree, and its width
 abbrev pub record_in : Program → ℕ → Record
-record_in g i = (entry_of g i).read
+record_in g i = kept_record (entry_of g i).read
 
 abbrev pub start_of : Program → ℕ → ℕ
 start_of g i = (entry_of g i).place
@@ -97,7 +121,7 @@ abbrev pub second_number : Program → ℕ → code.Number
 second_number g i = number_b (record_in g i)
 
 abbrev pub removal_number : Program → ℕ → ℕ → code.Number
-removal_number g i k = get_or (entry_of g i).removals.numbers k no_number
+removal_number g i k = kept (get_or (entry_of g i).removals.numbers k no_number)
 
 -- n of its removals, from number k on; and all of them
 unfoldable pub removals_from : ℕ → Program → ℕ → ℕ → List Number

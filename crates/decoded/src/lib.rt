@@ -6,6 +6,8 @@ ghost use Rattle.std.specs.Prelude.{◌≡◌, [], ◌∷◌, ltb, length};
 ghost use Rattle.decoded.specs.Layout.{record_count, root_count, removal_room};
 ghost use Rattle.decoded.specs.DecodedTable.{
   nothing_read,
+  constant_kept,
+  kept,
   start_of,
   end_of,
   width_in,
@@ -18,7 +20,7 @@ ghost use Rattle.decoded.specs.DecodedTable.{
 };
 ghost use Rattle.decoded.specs.Steps.{step_at, parts_of, parts_at};
 
-use limits::{MOST_RECORDS, MOST_REMOVALS};
+use limits::{MOST_CONSTANT, MOST_RECORDS, MOST_REMOVALS};
 use records::{Number, Record};
 
 // Record numbers are below RECORD_COUNT. There are as many roots as a byte has numbers: a procedure's number needs no test.
@@ -170,8 +172,27 @@ fn subtree_end(program: &Program, i: u32) -> u32
         .map_or(0, |entry| entry.end as u32)
 }
 
+// A constant as it is taken from the program: no table has one above 16 bits, and one that had counts as 0.
+fn constant_kept(z: i32) -> i32
+    ensures { result ≡ constant_kept z }
+{
+    if MOST_CONSTANT < z { 0 } else { z }
+}
+
+// So a number.
+#[tactic(auto, unfolding(crate::specs::DecodedTable::kept))]
+fn kept(a: Number) -> Number
+    ensures { result ≡ kept a }
+{
+    match a {
+        Number::Constant(z) => Number::Constant(constant_kept(z)),
+        Number::SizePlus(z) => Number::SizePlus(constant_kept(z)),
+        Number::LeftPlus(z) => Number::LeftPlus(constant_kept(z)),
+    }
+}
+
 // Number a of record i.
-#[tactic(auto, unfolding(crate::specs::DecodedTable::number_a))]
+#[tactic(auto, unfolding(crate::specs::DecodedTable::number_a, crate::specs::DecodedTable::kept_record))]
 pub fn first_number(program: &Program, at: Row) -> Number
     ensures { result ≡ first_number program.now at }
 {
@@ -179,14 +200,14 @@ pub fn first_number(program: &Program, at: Row) -> Number
         return Number::Constant(0);
     };
     match entry.read {
-        Record::Not(_, a) | Record::Qcase(_, a) => a,
-        Record::Greater(a, _) | Record::AtLeast(a, _) | Record::Equal(a, _) => a,
+        Record::Not(_, a) | Record::Qcase(_, a) => kept(a),
+        Record::Greater(a, _) | Record::AtLeast(a, _) | Record::Equal(a, _) => kept(a),
         _ => Number::Constant(0),
     }
 }
 
 // Number b of a comparison.
-#[tactic(auto, unfolding(crate::specs::DecodedTable::number_b))]
+#[tactic(auto, unfolding(crate::specs::DecodedTable::number_b, crate::specs::DecodedTable::kept_record))]
 pub fn second_number(program: &Program, at: Row) -> Number
     ensures { result ≡ second_number program.now at }
 {
@@ -194,7 +215,7 @@ pub fn second_number(program: &Program, at: Row) -> Number
         return Number::Constant(0);
     };
     match entry.read {
-        Record::Greater(_, b) | Record::AtLeast(_, b) | Record::Equal(_, b) => b,
+        Record::Greater(_, b) | Record::AtLeast(_, b) | Record::Equal(_, b) => kept(b),
         _ => Number::Constant(0),
     }
 }
@@ -211,22 +232,21 @@ pub fn removal_count(program: &Program, at: Row) -> u32
 }
 
 // One of its removals; the first is number 0.
+#[tactic(auto, unfolding(crate::specs::DecodedTable::kept))]
 pub fn removal(program: &Program, at: Row, k: u32) -> Number
     ensures { result ≡ removal_number program.now at k }
 {
     let Some(entry) = program.entries.get(at as usize) else {
         return Number::Constant(0);
     };
-    entry
-        .removals
-        .numbers
-        .get(k as usize)
-        .copied()
-        .unwrap_or(Number::Constant(0))
+    match entry.removals.numbers.get(k as usize) {
+        Some(a) => kept(*a),
+        None => Number::Constant(0),
+    }
 }
 
 // What record i does: one match over the kinds. Past the last record there is none.
-#[tactic(auto, unfolding(crate::specs::Steps::step_of))]
+#[tactic(auto, unfolding(crate::specs::Steps::step_of, crate::specs::DecodedTable::kept_record))]
 pub fn step_at(program: &Program, i: u32) -> Step
     ensures { result ≡ step_at program.now i }
 {

@@ -7,6 +7,7 @@ use borrow.Author.Rules.{rules}
 use Rattle.model.specs.Syntax.{Condition, Statement, if}
 use Rattle.model.specs.Lists.{holds}
 use Rattle.model.proofs.BooleanLaws.{by_bool}
+use Rattle.decoded.specs.declared.Program.{Program}
 use Rattle.decoded.specs.DecodedTable.{test_at, statement_at}
 use Rattle.decoded.specs.declared.Step.{Step}
 use Rattle.decoded.specs.declared.Step.TheVariants as step
@@ -28,7 +29,7 @@ pub ruleset choosing = (rules, choose_yes, choose_no)
 pub chosen_means : {A : Type 0} (means : Statement → A) (l : List ℕ) →
     ((c : Condition) (s t : Statement) → holds c l ≡ true → means (if c s t) ≡ means s) →
     ((c : Condition) (s t : Statement) → holds c l ≡ false → means (if c s t) ≡ means t) →
-    (g : List ℕ) (depth i : ℕ) {found : Step} → (depth ≡ 0 → ⊥) → found ≡ step_at g i →
+    (g : Program) (depth i : ℕ) {found : Step} → (depth ≡ 0 → ⊥) → found ≡ step_at g i →
     {c a b x : ℕ} → found ≡ step.Chooses c a b → x ≡ cond (holds (test_at g (depth - 1) c) l) a b →
     means (statement_at g depth i) ≡ means (statement_at g (depth - 1) x)
 chosen_means means l on-yes on-no g depth i deep steps {c = c} {a = a} {b = b} {x = x} e q =

@@ -12,8 +12,8 @@ use mir.Val.{SFits, to_z, of_z}
 use Rattle.model.specs.Lists.{holds}
 use Rattle.records.specs.declared.Record.{Record}
 use Rattle.records.specs.declared.Record.TheVariants as kind
-use Rattle.decoded.specs.Layout.{row_at}
-use Rattle.decoded.specs.DecodedTable.{record_in, test_of, test_at, first_number, second_number}
+use Rattle.decoded.specs.declared.Program.{Program}
+use Rattle.decoded.specs.DecodedTable.{number_a, number_b, record_in, test_of, test_at, first_number, second_number}
 use Rattle.decoded.specs.declared.Step.{Step}
 use Rattle.decoded.specs.declared.Step.TheVariants as step
 use Rattle.decoded.specs.Steps.{step_of, step_at}
@@ -23,10 +23,9 @@ use Rattle.step.specs.Values.{value_of, nothing_removed, first_value, second_val
 use Rattle.step.proofs.Removals.{first_is, second_is}
 use Rattle.records.specs.declared.Number.{Number}
 use Rattle.sets.specs.Sets.{members_of}
-use Rattle.decoded.proofs.FieldsInWords.{HeldAt, held}
 
 -- whether a condition holds, by its step, for a list and where `part` says it of the parts. A statement's step holds, as `no_test` does.
-abbrev pub holds_by : List ℕ → List ℕ → (ℕ → Bool) → Step → Bool
+abbrev pub holds_by : Program → List ℕ → (ℕ → Bool) → Step → Bool
 holds_by g l part step.Nothing = true
 holds_by g l part (step.Touches at) = true
 holds_by g l part (step.Sequence i j) = true
@@ -40,21 +39,21 @@ holds_by g l part (step.Both i j) = part i && part j
 holds_by g l part (step.Either i j) = part i || part j
 holds_by g l part (step.Negates i) = not (part i)
 
-module _ (g : List ℕ) (d i : ℕ) (l : List ℕ) where
+module _ (g : Program) (d i : ℕ) (l : List ℕ) where
   part : ℕ → Bool
   part j = holds (test_at g d j) l
 
-  test_of_step : (r : Record) → HeldAt g (row_at i) r → holds (test_of (test_at g d) g i r) l ≡ holds_by g l part (step_of g i r)
-  unfolding test_of step_of holds part
+  test_of_step : (r : Record) → record_in g i ≡ r → holds (test_of (test_at g d) g i r) l ≡ holds_by g l part (step_of g i r)
+  unfolding test_of step_of holds part number_a number_b
   test_of_step kind.Skip h = refl
   test_of_step (kind.Not at a) h = refl
   test_of_step kind.Sequence h = refl
   test_of_step kind.If h = refl
   test_of_step (kind.Qcase at a) h = refl
   test_of_step (kind.Call at f) h = refl
-  test_of_step (kind.Greater a b) h = rw (h.0, h.1)
-  test_of_step (kind.AtLeast a b) h = rw (h.0, h.1)
-  test_of_step (kind.Equal a b) h = rw (h.0, h.1)
+  test_of_step (kind.Greater a b) h = rw h
+  test_of_step (kind.AtLeast a b) h = rw h
+  test_of_step (kind.Equal a b) h = rw h
   test_of_step kind.And h = refl
   test_of_step kind.Or h = refl
   test_of_step kind.Negation h = refl
@@ -62,14 +61,14 @@ module _ (g : List ℕ) (d i : ℕ) (l : List ℕ) where
   -- the condition at record i, by the record's step
   pub test_step : holds (test_at g (suc d) i) l ≡ holds_by g l (λ j. holds (test_at g d j) l) (step_at g i)
   unfolding test_at part
-  test_step = test_of_step (record_in g (row_at i)) (held g (row_at i))
+  test_step = test_of_step (record_in g i) refl
 
 -- the ways out of `holds`: too deep counts as no test, which holds
-pub held_none : (g : List ℕ) (depth i : ℕ) (l : List ℕ) → depth ≡ 0 → true ≡ holds (test_at g depth i) l
+pub held_none : (g : Program) (depth i : ℕ) (l : List ℕ) → depth ≡ 0 → true ≡ holds (test_at g depth i) l
 unfolding test_at holds
 held_none g depth i l e = rw e
 
-module _ (g : List ℕ) (depth i : ℕ) (l : List ℕ) (st : Step)
+module _ (g : Program) (depth i : ℕ) (l : List ℕ) (st : Step)
     (deep : depth ≡ 0 → ⊥) (steps : st ≡ step_at g i) where
   by_step : holds (test_at g depth i) l ≡ holds_by g l (λ j. holds (test_at g (depth - 1) j) l) st
   by_step = rw steps (deeper depth deep)
@@ -123,7 +122,7 @@ module _ (g : List ℕ) (depth i : ℕ) (l : List ℕ) (st : Step)
   held_calls f at e = rw (by_step, e)
 
 -- a comparison is decided by its two values
-module _ (g : List ℕ) (depth i list : ℕ) (st : Step) (deep : depth ≡ 0 → ⊥) (steps : st ≡ step_at g i)
+module _ (g : Program) (depth i list : ℕ) (st : Step) (deep : depth ≡ 0 → ⊥) (steps : st ≡ step_at g i)
     (at : ℕ) (a b : Number) (first : a ≡ first_number g at) (second : b ≡ second_number g at)
     (x y : ℤ) (f : SFits w32 x) (h : SFits w32 y) (at_first : x ≡ value_of a (nothing_removed list)) (at_second : y ≡ value_of b (nothing_removed list)) where
   left : x ≡ first_value g at (members_of list)

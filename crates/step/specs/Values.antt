@@ -7,6 +7,7 @@ use Rattle.records.specs.declared.Number.{Number}
 use Rattle.records.specs.declared.Number.TheVariants as base
 use Rattle.records.specs.Fields.{number_of}
 use Rattle.sets.specs.Sets.{members_of}
+use Rattle.decoded.specs.declared.Program.{Program}
 use Rattle.decoded.specs.DecodedTable.{first_number, second_number}
 use Rattle.step.specs.declared.Lists.{Lists}
 
@@ -24,9 +25,9 @@ value_of (base.LeftPlus z) s = sum_of z (length (members_of s.left))
 abbrev pub nothing_removed : ℕ → Lists
 nothing_removed list = record { whole = list; left = list }
 
--- the values of the two numbers of the comparison whose words begin at a place
-abbrev pub first_value : List ℕ → ℕ → List ℕ → ℤ
+-- the values of the two numbers of the comparison at a record
+abbrev pub first_value : Program → ℕ → List ℕ → ℤ
 first_value g at l = compared_value (number_of (first_number g at)) l
 
-abbrev pub second_value : List ℕ → ℕ → List ℕ → ℤ
+abbrev pub second_value : Program → ℕ → List ℕ → ℤ
 second_value g at l = compared_value (number_of (second_number g at)) l

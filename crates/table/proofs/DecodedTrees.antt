@@ -33,7 +33,7 @@ use Rattle.records.proofs.ReadingAtAPlace.{kind_of, fields_cases, removals_read}
 use Rattle.decoded.specs.RecordsPutDown.{removals_place, recorded}
 use Rattle.decoded.specs.declared.Program.{Program}
 use Rattle.decoded.specs.DecodedTable.{Whole, start_of, end_of, test_of, test_at, statement_of, statement_at, with_end}
-use Rattle.decoded.proofs.RecordsOfAProgram.{written_place, Row, Decoded, decoded}
+use Rattle.decoded.proofs.RecordsOfAProgram.{written_sound, written_place, Row, Decoded, decoded}
 use Rattle.table.specs.ReadTable.{piece, Placed, Numbered}
 use Rattle.table.specs.TreeReading.{come, Ran, ran, and_then_tree, wanted, parts, contents_at, many, and_then_read}
 use Rattle.table.specs.TreeReading.{children_at, opened, tree_at}
@@ -299,7 +299,7 @@ module _ {A : Type 0} (p : ℕ) (bs : List ℕ) (ok : Bytes bs) (at i : ℕ) (ix
       (λ r next e is w read found.
       let removing = removals_read p k map bs (at + 2) r next small t found in
       go r next l
-      (λ kx row. decoded bs kx at i r (few_removals p bs ok (at + 2) (stands 0 map) k r e (omega arith) removing) (omega arith) row)
+      (λ kx row. decoded bs kx at i r (rw e at (written_sound p k (stands 0 map) bs (at + 2))) (few_removals p bs ok (at + 2) (stands 0 map) k r e (omega arith) removing) (omega arith) row)
       is (omega (arith, w.high))
       (rw is (record_spans p bs at (i + 1) next (fields_of bs r) ok inside t w.low w.inside read)))
       (λ why read found. refuses why ix) refl refl))
