@@ -10,6 +10,7 @@ use lib.Bits.{bit_or}
 use Rattle.model.specs.Meaning.{bit}
 use Rattle.model.proofs.BooleanLaws.{by_bool, by_eq, clash, or_left, or_right, or_cases}
 use Rattle.sets.proofs.BitLaws.{or_bit}
+use Rattle.decoded.specs.declared.Program as decoded
 use Rattle.decoded.specs.DecodedTable.{body_at}
 use Rattle.faults.specs.Rows.{row_of, row_is}
 use Rattle.faults.specs.CallLengths.{removal_counts, counts_below, sums_below}
@@ -62,7 +63,7 @@ module _ (counts : ℕ) where
       ∙ or_right (bit (sums_below counts j) (j + k)) (bit (up counts j) (j + k)) (up_at counts j k small ∙ c))
 
 -- what the calls of one body carry is among what those of all bodies carry
-pub counts_there : (g : List ℕ) (n f k : ℕ) → f < n → k < 64 → removal_counts (body_at g f) k ≡ true →
+pub counts_there : (g : decoded.Program) (n f k : ℕ) → f < n → k < 64 → removal_counts (body_at g f) k ≡ true →
     row_is (counts_below g n) k ≡ true
 unfolding counts_below
 counts_there g zero f k l small h = absurd (not-suc-le-zero l)

@@ -17,6 +17,7 @@ use Rattle.model.specs.Reach.{any_lacks_removal}
 use Rattle.model.specs.Faults.{program_faults}
 use Rattle.model.proofs.BooleanLaws.{by_bool, by_eq, by_lt, clash}
 use Rattle.model.proofs.ReachAndRank.{Named, how_many, from, rank, rank_positive, rank_most}
+use Rattle.decoded.specs.declared.Program as decoded
 use Rattle.decoded.specs.DecodedTable.{procedure_count, body_at, program_at}
 use Rattle.reach.specs.CallsInATable.{reach_at}
 use Rattle.reach.proofs.MatrixOfAProgram.{count_at, body_at_lem}
@@ -73,7 +74,7 @@ ranks_at matrix p (suc n) f l h = by_eq f n
     (λ ne. get_or-set_other (ranks_below matrix p n) n f (rank_in matrix n p) 0 ne ∙ ranks_at matrix p n f (omega arith) (omega arith))
 
 -- a program of no more procedures than a table can have, whose calls name them
-module _ (g : List ℕ) (few : procedure_count g ≤ most_procedures) (names : Named (program_at g)) where
+module _ (g : decoded.Program) (few : procedure_count g ≤ most_procedures) (names : Named (program_at g)) where
   abbrev p : ℕ
   p = procedure_count g
 

@@ -10,6 +10,7 @@ use lib.Bits.{bit_or}
 use lib.ListN.{length}
 use Rattle.model.specs.Limits.{most_depth, most_qubits}
 use Rattle.model.specs.Syntax.{Statement}
+use Rattle.decoded.specs.declared.Program as decoded
 use Rattle.decoded.specs.DecodedTable.{procedure_count, root_of, removals_in, statement_at}
 use Rattle.decoded.specs.declared.Parts.{Parts}
 use Rattle.decoded.specs.declared.Parts.TheVariants as parts
@@ -22,12 +23,12 @@ use Rattle.faults.specs.CallLengths.{removal_counts, counts_below, sums_below}
 use Rattle.faults.proofs.RowLaws.{none_row, one_row, joined_row}
 
 -- how many removals the calls of a record's parts carry, where `part` gives the statement at a record
-abbrev counts_by : (ℕ → Statement) → List ℕ → Parts → Touched
+abbrev counts_by : (ℕ → Statement) → decoded.Program → Parts → Touched
 counts_by part g parts.Neither = touches_none
 counts_by part g (parts.Two a b t) = joined (removal_counts (part a)) (removal_counts (part b))
 counts_by part g (parts.Call f at) = touches_one (length (removals_in g at))
 
-counts_by_parts : (part : ℕ → Statement) (g : List ℕ) {x : Parts} {s : Statement} → ArePartsOf part g x s → removal_counts s ≡ counts_by part g x
+counts_by_parts : (part : ℕ → Statement) (g : decoded.Program) {x : Parts} {s : Statement} → ArePartsOf part g x s → removal_counts s ≡ counts_by part g x
 unfolding removal_counts
 counts_by_parts part g as_skip = refl
 counts_by_parts part g (as_not rs a) = refl
@@ -37,15 +38,15 @@ counts_by_parts part g (as_qcase rs q a b) = refl
 counts_by_parts part g (as_call f at) = refl
 
 -- the set of how many removals the calls in the statement at record i carry
-abbrev counts_at : List ℕ → ℕ → ℕ → ℕ
+abbrev counts_at : decoded.Program → ℕ → ℕ → ℕ
 counts_at g depth i = row_of (removal_counts (statement_at g depth i))
 
 -- deeper than a tree can be
-pub count_deep : (g : List ℕ) (depth i : ℕ) → depth ≡ 0 → 0 ≡ counts_at g depth i
+pub count_deep : (g : decoded.Program) (depth i : ℕ) → depth ≡ 0 → 0 ≡ counts_at g depth i
 unfolding removal_counts statement_at
 count_deep g depth i e = rw e none_row
 
-module _ (g : List ℕ) (depth i : ℕ) (deep : depth ≡ 0 → ⊥) (x : Parts) (parts_are : x ≡ parts_at g i) where
+module _ (g : decoded.Program) (depth i : ℕ) (deep : depth ≡ 0 → ⊥) (x : Parts) (parts_are : x ≡ parts_at g i) where
   abbrev part : ℕ → Statement
   part = statement_at g (depth - 1)
 
@@ -65,7 +66,7 @@ module _ (g : List ℕ) (depth i : ℕ) (deep : depth ≡ 0 → ⊥) (x : Parts)
   count_call f at e k row c r = rw (by_parts (parts.Call f at) e, ← c) (r ∙ one_row k)
 
 -- body by body
-module _ (g : List ℕ) (f all root more : ℕ) (so : all ≡ counts_below g f)
+module _ (g : decoded.Program) (f all root more : ℕ) (so : all ≡ counts_below g f)
     (at : root ≡ root_of g f) (counted : more ≡ counts_at g most_depth root) where
   pub bodies_more : bit_or all more ≡ counts_below g (f + 1)
   unfolding counts_below
@@ -74,7 +75,7 @@ module _ (g : List ℕ) (f all root more : ℕ) (so : all ≡ counts_below g f)
   pub bodies_end : (p : ℕ) → p ≡ procedure_count g → f ≤ p → p ≤ f → bit_or all more ≡ counts_below g (suc (procedure_count g))
   bodies_end p c a b = let e : f ≡ p = omega arith in bodies_more ∙ rw (add-one f, e, c)
 
-pub bodies_start : (g : List ℕ) → 0 ≡ counts_below g 0
+pub bodies_start : (g : decoded.Program) → 0 ≡ counts_below g 0
 unfolding counts_below
 bodies_start g = refl
 

@@ -10,6 +10,7 @@ use Rattle.model.specs.Limits.{most_qubits}
 use Rattle.model.specs.Syntax.{Statement, skip}
 use Rattle.model.specs.Lists.{qubits, remaining, holds}
 use Rattle.model.proofs.BooleanLaws.{or-false}
+use Rattle.decoded.specs.declared.Program as decoded
 use Rattle.decoded.specs.DecodedTable.{removals_in, test_at, statement_at}
 use Rattle.decoded.specs.declared.Step.{Step}
 use Rattle.decoded.specs.declared.Step.TheVariants as step
@@ -35,10 +36,10 @@ module _ (o : CallTouches) (s u : Statement) (m : ℕ) where
       (touches_inside o u (min m most_qubits) q far))
 
 -- the row of what the statement at record i touches of a list of m entries, of as many as a list can have
-abbrev row_at : List ℕ → List ℕ → ℕ → ℕ → ℕ → ℕ
+abbrev row_at : List ℕ → decoded.Program → ℕ → ℕ → ℕ → ℕ
 row_at known g m depth i = row_of (touches (known_touches known) (statement_at g depth i) (min m most_qubits))
 
-module _ (known g : List ℕ) (m depth i : ℕ) where
+module _ (known : List ℕ) (g : decoded.Program) (m depth i : ℕ) where
   idle : statement_at g depth i ≡ skip → 0 ≡ row_at known g m depth i
   unfolding touches
   idle e = rw e none_row

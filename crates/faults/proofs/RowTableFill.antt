@@ -1,5 +1,5 @@
 -- The functions that fill the table of rows: one law for each way out, its premises the tests passed and what the calls on that way ensure.
-use mathlib.Core.Path.{◌≡◌, refl, ◌∙◌}
+use mathlib.Core.Path.{◌≡◌, refl, sym, ap, ◌∙◌}
 use mathlib.Core.Bool.{Bool, true, false}
 use mathlib.Core.List.{List}
 use Prim.Native.Nat.{ℕ, suc, ◌+◌, ◌-◌, ◌≤◌, ◌<◌, min, zero-le}
@@ -15,6 +15,7 @@ use mir.Val.{Fits}
 use Rattle.limits.specs.Sizes.{body_count, row_count}
 use Rattle.model.specs.Limits.{most_depth, most_qubits}
 use Rattle.model.specs.Meaning.{digit}
+use Rattle.decoded.specs.declared.Program as decoded
 use Rattle.decoded.specs.DecodedTable.{procedure_count, root_of, statement_at}
 use Rattle.reach.specs.Matrix.{recursive_in}
 use Rattle.reach.proofs.MatrixOperations.{left_never}
@@ -116,7 +117,7 @@ module _ (f m row : ℕ) (known : List ℕ) (at : ℕ) (here : at ≡ place f m)
   unfolding stored
   store_past l = rw (← here, le-ltb at row_count l)
 
-module _ (g : List ℕ) (f m : ℕ) (known next : List ℕ) where
+module _ (g : decoded.Program) (f m : ℕ) (known next : List ℕ) where
   -- a row of the table
   pub row_filled : (root row : ℕ) → root ≡ root_of g f →
       row ≡ row_of (touches (known_touches known) (statement_at g most_depth root) (min m most_qubits)) →
@@ -133,7 +134,7 @@ module _ (g : List ℕ) (f m : ℕ) (known next : List ℕ) where
     unfolding filled_if
     fill_other n = rw (← ranked, ne_eqb r k n)
 
-module _ (g ranks : List ℕ) (first : List ℕ) where
+module _ (g : decoded.Program) (ranks : List ℕ) (first : List ℕ) where
   pub procedures_start : (k m : ℕ) → first ≡ filled_rank g ranks 0 k m first
   unfolding filled_rank
   procedures_start k m = refl
@@ -160,7 +161,7 @@ module _ (g ranks : List ℕ) (first : List ℕ) where
 below : (f : ℕ) → 1 ≤ f → f ≡ suc (f - 1)
 below f h = omega arith
 
-module _ (g ranks : List ℕ) (now first : List ℕ) where
+module _ (g : decoded.Program) (ranks : List ℕ) (now first : List ℕ) where
   -- procedures of one rank
   module _ (f k m i : ℕ) (so : now ≡ filled_rank g ranks (f - 1) k m first) where
     module _ (some : 1 ≤ f) (here : i ≡ f) where
@@ -205,13 +206,16 @@ module _ (g ranks : List ℕ) (now first : List ℕ) where
     lengths_filled e = rw e so
 
 -- all of them: the ranks and sums are those of the program
-pub lengths_end : (g ranks now first : List ℕ) (sums n : ℕ) (matrix : List ℕ) (p counts : ℕ) → p ≡ procedure_count g → ranks ≡ ranks_in matrix p →
+pub lengths_end : (g : decoded.Program) (ranks now first : List ℕ) (sums n : ℕ) (matrix : List ℕ) (p counts : ℕ) → p ≡ procedure_count g → ranks ≡ ranks_in matrix p →
     counts ≡ counts_below g (suc (procedure_count g)) → sums ≡ sums_below counts most_qubits → now ≡ filled g ranks sums n n first →
     now ≡ filled g (ranks_in matrix (procedure_count g)) (sums_in g) n n first
-lengths_end g ranks now first sums n matrix p counts q r c s so = rw (← c, ← s, ← q, ← r) so
+lengths_end g ranks now first sums n matrix p counts q r c s so =
+    let e : ranks_in matrix (procedure_count g) ≡ ranks = ap (ranks_in matrix) (sym q) ∙ sym r in
+    let f : sums_in g ≡ sums = ap (λ x. sums_below x most_qubits) (sym c) ∙ sym s in
+    rw (e, f) so
 
 -- main, by the whole table
-pub main_row : (g matrix known : List ℕ) (n root row : ℕ) (r : Bool) →
+pub main_row : (g : decoded.Program) (matrix known : List ℕ) (n root row : ℕ) (r : Bool) →
     known ≡ filled g (ranks_in matrix (procedure_count g)) (sums_in g) n n (replicate row_count 0) → root ≡ root_of g 0 →
     row ≡ row_of (touches (known_touches known) (statement_at g most_depth root) (min n most_qubits)) → r ≡ row_is row 0 → r ≡ faults_at g matrix n
 unfolding faults_at

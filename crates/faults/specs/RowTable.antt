@@ -3,6 +3,7 @@ use Rattle.std.specs.Prelude.{ℕ, zero, suc, ◌+◌, ◌-◌, min, Bool, cond,
 use Rattle.limits.specs.Sizes.{body_count, row_count}
 use Rattle.model.specs.Limits.{most_qubits}
 use Rattle.model.specs.Meaning.{digit}
+use Rattle.decoded.specs.declared.Program as decoded
 use Rattle.decoded.specs.DecodedTable.{procedure_count, body_at}
 use Rattle.reach.specs.Matrix.{recursive_in}
 use Rattle.faults.specs.TouchedPositions.{touches}
@@ -36,10 +37,10 @@ abbrev pub rank_at : List ℕ → ℕ → ℕ
 rank_at ranks f = cond (ltb f body_count) (get_or ranks f 0) 0
 
 -- the row of procedure f on lists of length m: what its body touches, by the table so far
-unfoldable pub filled_row : List ℕ → ℕ → ℕ → List ℕ → List ℕ
+unfoldable pub filled_row : decoded.Program → ℕ → ℕ → List ℕ → List ℕ
 filled_row g f m known = stored f m (row_of (touches (known_touches known) (body_at g f) (min m most_qubits))) known
 
-module _ (g ranks : List ℕ) where
+module _ (g : decoded.Program) (ranks : List ℕ) where
   -- only where f has rank k
   unfoldable pub filled_if : ℕ → ℕ → ℕ → List ℕ → List ℕ
   filled_if k f m known = cond (eqb (rank_at ranks f) k) (filled_row g f m known) known
@@ -64,6 +65,6 @@ module _ (g ranks : List ℕ) where
   filled sums n (suc m) known = filled_asked sums (n - suc m) (suc m) (filled sums n m known)
 
 -- does main fault on n qubits, by the table of lengths 1 to n? Position 0 of its row says so
-unfoldable pub faults_at : List ℕ → List ℕ → ℕ → Bool
+unfoldable pub faults_at : decoded.Program → List ℕ → ℕ → Bool
 faults_at g matrix n =
     touches (known_touches (filled g (ranks_in matrix (procedure_count g)) (sums_in g) n n (replicate row_count 0))) (body_at g 0) (min n most_qubits) 0

@@ -14,6 +14,7 @@ use Rattle.model.specs.Limits.{most_procedures, most_depth}
 use Rattle.model.specs.Syntax.{Number, Statement}
 use Rattle.model.specs.Reach.{is_empty, lacks_removal, any_below}
 use Rattle.model.proofs.BooleanLaws.{or-false, any_here}
+use Rattle.decoded.specs.declared.Program as decoded
 use Rattle.decoded.specs.DecodedTable.{root_of, procedure_count, removals_in, statement_at, body_at}
 use Rattle.decoded.specs.Steps.{parts_at}
 use Rattle.decoded.specs.declared.Parts.{Parts}
@@ -41,12 +42,12 @@ marks_by f part parts.Neither m = m
 marks_by f part (parts.Two a b t) m = marked f (part b) (marked f (part a) m)
 marks_by f part (parts.Call q at) m = mark f q m
 
-lacks_by : (ℕ → Bool) → (ℕ → Statement) → List ℕ → Parts → Bool
+lacks_by : (ℕ → Bool) → (ℕ → Statement) → decoded.Program → Parts → Bool
 lacks_by r part g parts.Neither = false
 lacks_by r part g (parts.Two a b t) = lacks_removal r (part a) || lacks_removal r (part b)
 lacks_by r part g (parts.Call q at) = r q && is_empty (removals_in g at)
 
-module _ (part : ℕ → Statement) (g : List ℕ) where
+module _ (part : ℕ → Statement) (g : decoded.Program) where
   marks_by_parts : (f : ℕ) (m : List ℕ) {x : Parts} {s : Statement} → ArePartsOf part g x s → marked f s m ≡ marks_by f part x m
   unfolding marked marks_by
   marks_by_parts f m as_skip = refl
@@ -65,7 +66,7 @@ module _ (part : ℕ → Statement) (g : List ℕ) where
   lacks_by_parts r (as_qcase rs q a b) = refl
   lacks_by_parts r (as_call q at) = refl
 
-module _ (g : List ℕ) (depth i : ℕ) where
+module _ (g : decoded.Program) (depth i : ℕ) where
   -- depth 0: there is nothing to walk
   module _ (z : depth ≡ 0) where
     pub marks_spent : (f : ℕ) (m : List ℕ) → m ≡ marked f (statement_at g depth i) m
@@ -131,12 +132,12 @@ module _ (g : List ℕ) (depth i : ℕ) where
         lacks_call_bare b none k = lacks_are b (parts.Call q at) c (rw (bare (removals_in g at) (omega arith)) (k ∙ sym (and-true (r q))))
 
 -- refusal 10, and the marks, of one body and of all
-pub lacks_is : (m : List ℕ) (g : List ℕ) (f root : ℕ) (r : Bool) → root ≡ root_of g f →
+pub lacks_is : (m : List ℕ) (g : decoded.Program) (f root : ℕ) (r : Bool) → root ≡ root_of g f →
     r ≡ lacks_removal (recursive_in m f) (statement_at g most_depth root) → r ≡ lacks_in m g f
 unfolding lacks_in
 lacks_is m g f root r e q = rw (← e) q
 
-pub body_marked : (g : List ℕ) (f root : ℕ) (m n : List ℕ) → root ≡ root_of g f → n ≡ marked f (statement_at g most_depth root) m →
+pub body_marked : (g : decoded.Program) (f root : ℕ) (m n : List ℕ) → root ≡ root_of g f → n ≡ marked f (statement_at g most_depth root) m →
     n ≡ marked f (body_at g f) m
 body_marked g f root m n e q = rw (← e) q
 
@@ -173,7 +174,7 @@ module _ (bad : ℕ → Bool) where
       any_none h = let same : p ≡ f = omega arith in rw same (sym (or-false (any_below f bad) (bad f) before (sym q ∙ y)))
 
 -- the matrix filled
-module _ (g : List ℕ) where
+module _ (g : decoded.Program) where
   pub fill_many : (p : ℕ) → p ≡ procedure_count g → most_procedures < p → no_marks ≡ reach_at g
   unfolding reach_at
   fill_many p e l = let m : most_procedures < procedure_count g = rw e at l in rw (lt-ltb most_procedures (procedure_count g) m)

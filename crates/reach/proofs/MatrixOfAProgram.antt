@@ -14,6 +14,7 @@ use Rattle.model.specs.Reach.{calls, reaches_below, reaches}
 use Rattle.model.proofs.BooleanLaws.{by_lt}
 use Rattle.model.proofs.ListLaws.{range_length, tabulated}
 use Rattle.model.proofs.ReachAndRank.{body_out}
+use Rattle.decoded.specs.declared.Program as decoded
 use Rattle.decoded.specs.DecodedTable.{procedure_count, body_at, program_at}
 use Rattle.reach.specs.Matrix.{closed, reach_table, no_marks}
 use Rattle.reach.specs.CallsInATable.{marked, marked_below}
@@ -64,7 +65,7 @@ shows_below part (suc k) m R h =
     at : (x y : ℕ) → eqb k x ≡ true → (ltb x k ≡ false) × (calls (part k) y ≡ calls (part x) y)
     at x y e = rw (← eqb-true k x e) (not_below k, refl)
 
-module _ (g : List ℕ) where
+module _ (g : decoded.Program) where
   abbrev p : ℕ
   p = procedure_count g
 

@@ -10,6 +10,7 @@ use Rattle.model.specs.Syntax.{Program, Statement, count, body}
 use Rattle.model.specs.Reach.{calls, Reaches, direct, onward, reaches, recursive, lacks_removal, any_below, any_lacks_removal}
 use Rattle.model.proofs.BooleanLaws.{by_lt, clash, not_true_false, any_same}
 use Rattle.model.proofs.ReachAndRank.{Named, body_out, reach_sound, reached_named}
+use Rattle.decoded.specs.declared.Program as decoded
 use Rattle.decoded.specs.DecodedTable.{procedure_count, body_at, program_at}
 use Rattle.reach.specs.Matrix.{entry, recursive_in, digits_of, reach_table}
 use Rattle.reach.specs.CallsInATable.{reach_at, lacks_in, any_lacks_in}
@@ -25,7 +26,7 @@ reaches_low : (P : Program) {f g : ℕ} → Reaches P f g → f ≤ count P
 reaches_low P (direct {f = f} {g = g} c) = from_body P f g c
 reaches_low P (onward {f = f} {h = h} c r) = from_body P f h c
 
-module _ (g : List ℕ) (l : procedure_count g ≤ most_procedures) (named : Named (program_at g)) where
+module _ (g : decoded.Program) (l : procedure_count g ≤ most_procedures) (named : Named (program_at g)) where
   abbrev p : ℕ
   p = procedure_count g
 

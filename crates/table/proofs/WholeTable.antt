@@ -207,7 +207,7 @@ are_read p bs from i ix _ _ (reads ss at j jx b) = (
       behind = λ f h. let low : f < p = rw is at h in b.behind f (omega arith) (omega arith);
       few = λ f h. let low : f ≤ p = rw is at h in (b.numbered f (omega arith) (omega arith)).1;
       low = rw is few;
-      long = b.long;
+      whole = b.long;
     },
   ),
 )

@@ -60,7 +60,7 @@ pub record BodiesNumbered (g : Program) : Type 0 where
   pub behind : (f : ℕ) → f < procedure_count g → root_of g (f + 1) ≡ end_of g (root_of g f)
   pub few : (f : ℕ) → f ≤ procedure_count g → end_of g (root_of g f) ≤ most_records
   pub low : procedure_count g ≤ most_procedures
-  pub long : Whole g
+  pub whole : Whole g
 
 -- where an answer of the reader says that the table was read, the program that it left places its bodies and has their records in order
 unfoldable pub PlacedRead : Result ⊤ Refusal → List ℕ → Program → Type 0

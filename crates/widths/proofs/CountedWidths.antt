@@ -15,6 +15,7 @@ use Rattle.model.specs.Meaning.{digit}
 use Rattle.model.specs.Syntax.{Statement, skip, NOT, sequence, if, qcase, call}
 use Rattle.model.specs.Reach.{width, any_below}
 use Rattle.model.proofs.BooleanLaws.{by_lt, by_eq, clash, any_here, or-false}
+use Rattle.decoded.specs.declared.Program as decoded
 use Rattle.decoded.specs.DecodedTable.{
   width_in,
   end_of,
@@ -28,7 +29,6 @@ use Rattle.decoded.specs.DecodedTable.{
   with_width,
   Unseen,
 }
-use Rattle.decoded.specs.Layout.{root_count, row_at}
 use Rattle.records.specs.declared.Record.{Record}
 use Rattle.records.specs.declared.Record.TheVariants as kind
 use Rattle.table.specs.ReadTable.{Numbered, BodiesNumbered}
@@ -56,7 +56,7 @@ use Rattle.decoded.proofs.UnseenWidths.{
   width_there,
   width_other,
   width_unseen,
-  width_long,
+  width_whole,
   unseen_then,
   same_parts,
   same_statement,
@@ -75,12 +75,12 @@ module _ (t : Bool) (a b r : ℕ) where
   joined_one e q = rw e q
 
 -- records in order: the first comes before the end
-order_less : (g : List ℕ) (d i end : ℕ) → InOrder g d i end → i < end
+order_less : (g : decoded.Program) (d i end : ℕ) → InOrder g d i end → i < end
 unfolding InOrder
 order_less g zero i end o = o
 order_less g (suc d) i end o = o.0
 
-module _ (g h : List ℕ) (u : Unseen g h) where
+module _ (g h : decoded.Program) (u : Unseen g h) where
   -- widths are seen by no order
   parts_same : (d i end : ℕ) → ((j e : ℕ) → InOrder g d j e → InOrder h d j e) → (x : Parts) → PartsInOrder (InOrder g d) i end x → PartsInOrder (InOrder h d) i end x
   parts_same d i end go parts.Neither o = tt
@@ -122,7 +122,7 @@ width_by r part (parts.Two a b true) = width r (part a) + width r (part b)
 width_by r part (parts.Two a b false) = max (width r (part a)) (width r (part b))
 width_by r part (parts.Call q at) = digit (r q)
 
-width_by_parts : (part : ℕ → Statement) (g : List ℕ) (r : ℕ → Bool) {x : Parts} {s : Statement} → ArePartsOf part g x s → width r s ≡ width_by r part x
+width_by_parts : (part : ℕ → Statement) (g : decoded.Program) (r : ℕ → Bool) {x : Parts} {s : Statement} → ArePartsOf part g x s → width r s ≡ width_by r part x
 unfolding width width_by digit
 width_by_parts part g r as_skip = refl
 width_by_parts part g r (as_not rs a) = refl
@@ -137,12 +137,12 @@ unfolding joined_width width_by
 joined_width_lem true x y r part a b e f = omega arith
 joined_width_lem false x y r part a b e f = omega arith
 
-module _ (r : ℕ → Bool) (d i : ℕ) (g : List ℕ) where
+module _ (r : ℕ → Bool) (d i : ℕ) (g : decoded.Program) where
   width_is : (x : Parts) → parts_at g i ≡ x → width r (statement_at g (suc d) i) ≡ width_by r (statement_at g d) x
   width_is x e = width_by_parts (statement_at g d) g r (are_parts g d i) ∙ ap (width_by r (statement_at g d)) e
 
   -- a statement without statements in it
-  leaf : (w : ℕ) (h : List ℕ) (x : Parts) → parts_at g i ≡ x → OfParts (Known r h d) x → w ≡ min 2 (width_by r (statement_at g d) x) → h ≡ with_width i w g →
+  leaf : (w : ℕ) (h : decoded.Program) (x : Parts) → parts_at g i ≡ x → OfParts (Known r h d) x → w ≡ min 2 (width_by r (statement_at g d) x) → h ≡ with_width i w g →
       Notes r (suc d) i g w h
   unfolding Known InOrder
   leaf w h x e none q s =
@@ -150,10 +150,10 @@ module _ (r : ℕ → Bool) (d i : ℕ) (g : List ℕ) where
       (record {
         counted = q ∙ rw (width_is x e);
         unseen = width_unseen i w g;
-        long = width_long i w g;
-        known = λ long end few o.
+        whole = width_whole i w g;
+        known = λ whole end few o.
             let low : i < end = o.0 in (
-              width_there i w g long (omega arith) ∙ q ∙ rw (same_statement g (with_width i w g) (width_unseen i w g) (suc d) i, width_is x e),
+              width_there i w g whole (omega arith) ∙ q ∙ rw (same_statement g (with_width i w g) (width_unseen i w g) (suc d) i, width_is x e),
               rw (same_parts g (with_width i w g) (width_unseen i w g) i, e) (rw s at none),
             );
         before = λ end few o j l. width_other i w g j (λ z. omega arith);
@@ -161,7 +161,7 @@ module _ (r : ℕ → Bool) (d i : ℕ) (g : List ℕ) where
       })
 
   -- a statement of two parts
-  two : (w w₁ w₂ : ℕ) (g₁ g₂ h : List ℕ) (a b : ℕ) (t : Bool) → parts_at g i ≡ parts.Two a b t → Notes r d a g w₁ g₁ → Notes r d b g₁ w₂ g₂ →
+  two : (w w₁ w₂ : ℕ) (g₁ g₂ h : decoded.Program) (a b : ℕ) (t : Bool) → parts_at g i ≡ parts.Two a b t → Notes r d a g w₁ g₁ → Notes r d b g₁ w₂ g₂ →
       w ≡ joined_width t w₁ w₂ → h ≡ with_width i w g₂ → Notes r (suc d) i g w h
   unfolding Known InOrder
   two w w₁ w₂ g₁ g₂ h a b t e n₁ n₂ q s =
@@ -169,8 +169,8 @@ module _ (r : ℕ → Bool) (d i : ℕ) (g : List ℕ) where
       (record {
         counted = counts;
         unseen = all;
-        long = width_long i w g₂ ∙ n₂.long ∙ n₁.long;
-        known = λ long end few o.
+        whole = λ x. width_whole i w g₂ (n₂.whole (n₁.whole x));
+        known = λ whole end few o.
             let parts_order : PartsInOrder (InOrder g d) i end (parts.Two a b t) = rw e at o.1 in
             let low : i < a = parts_order.0 in
             let m : a < b = order_less g d a b parts_order.1 in
@@ -181,9 +181,9 @@ module _ (r : ℕ → Bool) (d i : ℕ) (g : List ℕ) where
             let o₄ = order_same g₁ g₂ n₂.unseen d b end o₂ in
             let first : Known r g₂ d a =
             known_same g₁ g₂ n₂.unseen r d a b o₁ (λ j x y. n₂.before end few o₂ j (omega arith))
-            (n₁.known long b (omega arith) parts_order.1) in
-            let second : Known r g₂ d b = n₂.known (n₁.long ∙ long) end few o₂ in (
-              width_there i w g₂ (n₂.long ∙ n₁.long ∙ long) (omega arith) ∙ counts ∙ rw (same_statement g (with_width i w g₂) all (suc d) i),
+            (n₁.known whole b (omega arith) parts_order.1) in
+            let second : Known r g₂ d b = n₂.known (n₁.whole whole) end few o₂ in (
+              width_there i w g₂ (n₂.whole (n₁.whole whole)) (omega arith) ∙ counts ∙ rw (same_statement g (with_width i w g₂) all (suc d) i),
               rw (same_parts g (with_width i w g₂) all i, e) (
                 known_same g₂ (with_width i w g₂) (width_unseen i w g₂) r d a b o₃ (λ j x y. width_other i w g₂ j (λ z. omega arith)) first,
                 known_same g₂ (with_width i w g₂) (width_unseen i w g₂) r d b end o₄ (λ j x y. width_other i w g₂ j (λ z. omega arith)) second,
@@ -216,21 +216,21 @@ module _ (r : ℕ → Bool) (d i : ℕ) (g : List ℕ) where
           (joined_width_lem t w₁ w₂ r (statement_at g d) a b n₁.counted (n₂.counted ∙ rw (same_statement g g₁ n₁.unseen d b)))
 
 -- the ways out of `note_widths`
-pub notes_spent : (r : ℕ → Bool) (depth i : ℕ) (g h : List ℕ) → depth ≡ 0 → h ≡ with_width i 0 g → Noted r depth i g 0 h
+pub notes_spent : (r : ℕ → Bool) (depth i : ℕ) (g h : decoded.Program) → depth ≡ 0 → h ≡ with_width i 0 g → Noted r depth i g 0 h
 unfolding statement_at width Known InOrder
 notes_spent r depth i g h z s =
     rw (z, s)
     (noted (record {
       counted = refl;
       unseen = width_unseen i 0 g;
-      long = width_long i 0 g;
-      known = λ long end few o. let low : i < end = o in width_there i 0 g long (omega arith);
+      whole = width_whole i 0 g;
+      known = λ whole end few o. let low : i < end = o in width_there i 0 g whole (omega arith);
       before = λ end few o j l. width_other i 0 g j (λ e. omega arith);
       behind = λ end few o j l. let low : i < end = o in width_other i 0 g j (λ e. omega arith);
     }))
 
-module _ (r : ℕ → Bool) (depth i : ℕ) (g : List ℕ) (deep : depth ≡ 0 → ⊥) (x : Parts) (e : x ≡ parts_at g i) where
-  pub notes_none : (h : List ℕ) → x ≡ parts.Neither → h ≡ with_width i 0 g → Noted r depth i g 0 h
+module _ (r : ℕ → Bool) (depth i : ℕ) (g : decoded.Program) (deep : depth ≡ 0 → ⊥) (x : Parts) (e : x ≡ parts_at g i) where
+  pub notes_none : (h : decoded.Program) → x ≡ parts.Neither → h ≡ with_width i 0 g → Noted r depth i g 0 h
   unfolding width_by
   notes_none h q s = by depth deep
     where
@@ -238,7 +238,7 @@ module _ (r : ℕ → Bool) (depth i : ℕ) (g : List ℕ) (deep : depth ≡ 0 �
       by zero f = absurd (f refl)
       by (suc d) f = noted (leaf r d i g 0 h parts.Neither (sym e ∙ q) tt refl s)
 
-  pub notes_call : (f at w : ℕ) (b : Bool) (h : List ℕ) → x ≡ parts.Call f at → b ≡ r f → w ≡ from_bool b → h ≡ with_width i w g → Noted r depth i g w h
+  pub notes_call : (f at w : ℕ) (b : Bool) (h : decoded.Program) → x ≡ parts.Call f at → b ≡ r f → w ≡ from_bool b → h ≡ with_width i w g → Noted r depth i g w h
   unfolding width_by digit
   notes_call f at w b h q k v s = by depth deep
     where
@@ -250,7 +250,7 @@ module _ (r : ℕ → Bool) (depth i : ℕ) (g : List ℕ) (deep : depth ≡ 0 �
       by zero f = absurd (f refl)
       by (suc d) n = noted (leaf r d i g w h (parts.Call f at) (sym e ∙ q) tt (v ∙ rw (← k) (few b)) s)
 
-  pub notes_two : (a b : ℕ) (t : Bool) (w w₁ w₂ : ℕ) (g₁ g₂ h : List ℕ) → x ≡ parts.Two a b t → Noted r (depth - 1) a g w₁ g₁ →
+  pub notes_two : (a b : ℕ) (t : Bool) (w w₁ w₂ : ℕ) (g₁ g₂ h : decoded.Program) → x ≡ parts.Two a b t → Noted r (depth - 1) a g w₁ g₁ →
       Noted r (depth - 1) b g₁ w₂ g₂ → w ≡ joined_width t w₁ w₂ → h ≡ with_width i w g₂ → Noted r depth i g w h
   notes_two a b t w w₁ w₂ g₁ g₂ h q (noted n₁) (noted n₂) j s = by depth deep n₁ n₂
     where
@@ -259,7 +259,7 @@ module _ (r : ℕ → Bool) (depth i : ℕ) (g : List ℕ) (deep : depth ≡ 0 �
       by (suc d) f m n = noted (two r d i g w w₁ w₂ g₁ g₂ h a b t (sym e ∙ q) (rw sub-one at m) (rw sub-one at n) j s)
 
 -- the records that the reader left are in order
-numbered_less : (g : List ℕ) (i end : ℕ) (s : Statement) → Numbered g i end s → i < end
+numbered_less : (g : decoded.Program) (i end : ℕ) (s : Statement) → Numbered g i end s → i < end
 unfolding Numbered
 numbered_less g i end skip n = n
 numbered_less g i end (NOT rs a) n = n
@@ -273,7 +273,7 @@ numbered_less g i end (qcase rs q s t) n =
     let a = numbered_less g (i + 1) (end_of g (i + 1)) s n.0 in let b = numbered_less g (end_of g (i + 1)) end t n.1 in omega arith
 numbered_less g i end (call rs f) n = n
 
-record_order : (g : List ℕ) (d i end : ℕ) → ((j e : ℕ) → Numbered g j e (statement_at g d j) → InOrder g d j e) → (r : Record) →
+record_order : (g : decoded.Program) (d i end : ℕ) → ((j e : ℕ) → Numbered g j e (statement_at g d j) → InOrder g d j e) → (r : Record) →
     Numbered g i end (statement_of (test_at g d) (statement_at g d) g i r) → PartsInOrder (InOrder g d) i end (parts_of (step_of g i r))
 unfolding statement_of step_of parts_of Numbered
 record_order g d i end go kind.Skip n = tt
@@ -290,14 +290,14 @@ record_order g d i end go kind.And n = tt
 record_order g d i end go kind.Or n = tt
 record_order g d i end go kind.Negation n = tt
 
-in_order_lem : (g : List ℕ) (d i end : ℕ) → Numbered g i end (statement_at g d i) → InOrder g d i end
+in_order_lem : (g : decoded.Program) (d i end : ℕ) → Numbered g i end (statement_at g d i) → InOrder g d i end
 unfolding InOrder statement_at
 in_order_lem g zero i end n = numbered_less g i end skip n
 in_order_lem g (suc d) i end n =
-    (numbered_less g i end _ n, record_order g d i end (in_order_lem g d) (record_in g (row_at i)) n)
+    (numbered_less g i end _ n, record_order g d i end (in_order_lem g d) (record_in g i) n)
 
 -- the bodies, one behind the other
-module _ (g : List ℕ) (ordered : BodiesNumbered g) where
+module _ (g : decoded.Program) (ordered : BodiesNumbered g) where
   body_order : (f : ℕ) → f ≤ procedure_count g → InOrder g most_depth (root_of g f) (end_of g (root_of g f))
   body_order f l = in_order_lem g most_depth (root_of g f) (end_of g (root_of g f)) (ordered.numbered f l)
 
@@ -313,34 +313,34 @@ module _ (g : List ℕ) (ordered : BodiesNumbered g) where
       rw next (omega arith))
 
 -- body after body
-module _ (m g : List ℕ) where
+module _ (m : List ℕ) (g : decoded.Program) where
   pub judged_start : Judged m g 0 false g
   unfolding any_below
   judged_start = judged (record {
     told = refl;
-    unseen = record { head = λ k l. refl; rows = λ k l. refl };
-    long = refl;
+    unseen = record { procedures = refl; roots = refl; entries = λ i. refl };
+    whole = λ x. x;
     known = λ e few ordered f l. absurd (not-suc-le-zero l);
   })
 
   -- a body's width told by the width given
-  wide_is : (h k : List ℕ) (f w : ℕ) → Unseen g h → f < root_count → Notes (recursive_in m f) most_depth (root_of h f) h w k → ltb 1 w ≡ wide_in m g f
+  wide_is : (h k : decoded.Program) (f w : ℕ) → Unseen g h → Notes (recursive_in m f) most_depth (root_of h f) h w k → ltb 1 w ≡ wide_in m g f
   unfolding wide_in
-  wide_is h k f w u l n = rw (n.counted, same_body g h u f l) (over (width (recursive_in m f) (body_at g f)))
+  wide_is h k f w u n = rw (n.counted, same_body g h u f) (over (width (recursive_in m f) (body_at g f)))
     where
       over : (n : ℕ) → ltb 1 (min 2 n) ≡ ltb 1 n
       over n = by_lt 1 n
           (λ l. let capped : 1 < min 2 n = omega arith in rw (lt-ltb 1 n l, lt-ltb 1 (min 2 n) capped))
           (λ ge. let capped : min 2 n ≤ 1 = omega arith in rw (le-ltb 1 n ge, le-ltb 1 (min 2 n) capped))
 
-  module _ (h k : List ℕ) (f p w top : ℕ) (l : f ≤ p) (byte : p < 256) (rooted : top ≡ root_of h f) where
+  module _ (h k : decoded.Program) (f p w top : ℕ) (l : f ≤ p) (byte : p < 256) (rooted : top ≡ root_of h f) where
     pub judged_yes : Judged m g f false h → Noted (recursive_in m f) most_depth top h w k → 1 < w → Judged m g (suc p) true k
     judged_yes (judged j) (noted n) y =
-        let e : ltb 1 w ≡ wide_in m g f = wide_is h k f w j.unseen (omega arith) (rw rooted at n) in
+        let e : ltb 1 w ≡ wide_in m g f = wide_is h k f w j.unseen (rw rooted at n) in
         judged (record {
           told = sym (any_here (suc p) (wide_in m g) f (omega arith) (sym e ∙ lt-ltb 1 w y));
           unseen = unseen_then j.unseen n.unseen;
-          long = n.long ∙ j.long;
+          whole = λ x. n.whole (j.whole x);
           known = λ e few ordered. clash {b = true} refl e;
         })
 
@@ -348,26 +348,26 @@ module _ (m g : List ℕ) where
     unfolding any_below
     more (judged j) (noted n) y =
         let o : Notes (recursive_in m f) most_depth (root_of h f) h w k = rw rooted at n in
-        let e : ltb 1 w ≡ wide_in m g f = wide_is h k f w j.unseen (omega arith) o in
+        let e : ltb 1 w ≡ wide_in m g f = wide_is h k f w j.unseen o in
         record {
           told = sym (or-false (any_below f (wide_in m g)) (wide_in m g f) (sym j.told) (sym e ∙ le-ltb 1 w y));
           unseen = unseen_then j.unseen n.unseen;
-          long = n.long ∙ j.long;
+          whole = λ x. n.whole (j.whole x);
           known = λ e few ordered q s.
               let bound : f ≤ procedure_count g = omega arith in
               let end = end_of g (root_of g f) in
-              let same_f : root_of h f ≡ root_of g f = same_root g h j.unseen f (omega arith) in
+              let same_f : root_of h f ≡ root_of g f = same_root g h j.unseen f in
               let order : InOrder h most_depth (root_of h f) end = rw same_f (order_same g h j.unseen most_depth (root_of g f) end (body_order g ordered f bound)) in
               by_eq q f
-              (λ z. rw (z, same_root h k n.unseen f (omega arith)) (o.known (j.long ∙ ordered.long) end (ordered.few f bound) order))
+              (λ z. rw (z, same_root h k n.unseen f) (o.known (j.whole ordered.whole) end (ordered.few f bound) order))
               (λ z.
               let low : q < f = omega arith in
-              let same_q : root_of h q ≡ root_of g q = same_root g h j.unseen q (omega arith) in
+              let same_q : root_of h q ≡ root_of g q = same_root g h j.unseen q in
               let stop = end_of g (root_of g q) in
               let before_f = bodies_apart g ordered q f low bound in
               let order_q : InOrder h most_depth (root_of h q) stop =
               rw same_q (order_same g h j.unseen most_depth (root_of g q) stop (body_order g ordered q (omega arith))) in
-              rw (same_root h k n.unseen q (omega arith))
+              rw (same_root h k n.unseen q)
               (known_same h k n.unseen (recursive_in m q) most_depth (root_of h q) stop order_q
               (λ x y w. o.before end (ordered.few f bound) order x (rw same_f (omega arith)))
               (j.known refl (omega arith) ordered q low)));

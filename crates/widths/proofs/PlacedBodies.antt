@@ -6,11 +6,12 @@ use mathlib.Core.List.{List}
 use borrow.Author.Tests.{lt-ltb, le-ltb}
 use Rattle.model.specs.Syntax.{Statement, skip, NOT, sequence, if, qcase, call}
 use Rattle.model.proofs.BooleanLaws.{by_lt}
+use Rattle.decoded.specs.declared.Program as decoded
 use Rattle.decoded.specs.DecodedTable.{end_of, root_of, procedure_count, body_at, Unseen}
 use Rattle.table.specs.ReadTable.{Placed, body_end, BodiesPlaced}
 use Rattle.decoded.proofs.UnseenWidths.{same_end, same_start, same_count, same_root, same_body}
 
-module _ (g h : List ℕ) (u : Unseen g h) where
+module _ (g h : decoded.Program) (u : Unseen g h) where
   -- bodies stand where they stood
   statement_placed : (bs : List ℕ) (i end : ℕ) (s : Statement) → Placed bs g i end s → Placed bs h i end s
   unfolding Placed
@@ -29,12 +30,11 @@ module _ (g h : List ℕ) (u : Unseen g h) where
 
   same_body_end : (bs : List ℕ) (f : ℕ) → body_end bs h f ≡ body_end bs g f
   same_body_end bs f =
-      let byte : procedure_count g < 256 = omega arith in
       by_lt f (procedure_count g)
-      (λ l. rw (same_count g h u, lt-ltb f (procedure_count g) l, same_root g h u (f + 1) (omega arith)) (same_start g h u (root_of g (f + 1))))
+      (λ l. rw (same_count g h u, lt-ltb f (procedure_count g) l, same_root g h u (f + 1)) (same_start g h u (root_of g (f + 1))))
       (λ l. rw (same_count g h u, le-ltb f (procedure_count g) l))
 
   pub same_placed : (bs : List ℕ) → BodiesPlaced bs g → BodiesPlaced bs h
   same_placed bs placed f l =
       let few : f ≤ procedure_count g = rw (same_count g h u) at l in
-      rw (same_body_end bs f, same_body g h u f (omega arith), same_root g h u f (omega arith)) (statement_placed bs (root_of g f) (body_end bs g f) (body_at g f) (placed f few))
+      rw (same_body_end bs f, same_body g h u f, same_root g h u f) (statement_placed bs (root_of g f) (body_end bs g f) (body_at g f) (placed f few))
