@@ -7,7 +7,7 @@ ghost use Rattle.model.specs.Reading.{optional, stands};
 ghost use Rattle.model.specs.Answers.{circuit_read};
 ghost use Rattle.circuit.specs.GatesInBytes.{input_of, settled, fills, list_read, gate_in, gate_read, gate_written};
 ghost use Rattle.circuit.specs.GateChecks.{misfits, list_fits, set_of, any_in, placed, own_wires};
-ghost use Rattle.circuit.specs.Header.{counts_fit, circuit_after};
+ghost use Rattle.circuit.specs.Header.{counts_fit, circuit_after, header_given};
 ghost use Rattle.answers.specs.Structs.{header_of, refused_header};
 ghost use Rattle.model.specs.Limits.{not_well_formed};
 
@@ -247,20 +247,29 @@ pub fn refused() -> CircuitHeader
     }
 }
 
+// The header of a circuit that is well formed, and its gates' bytes.
+pub fn read_whole(bytes: &[u8]) -> Option<(Header, &[u8])>
+    ensures circuit { circuit_after result ≡ circuit_read bytes.now }
+    ensures header { header_given result ≡ header_of (circuit_read bytes.now) }
+{
+    let (header, gates) = read_header(bytes)?;
+    if !gates_fill(gates, header.wires, header.gates) {
+        return None;
+    }
+    Some((header, gates))
+}
+
 // The circuit reader: n, ancillas and gate count of a circuit that is well formed.
 pub fn read_circuit(bytes: &[u8]) -> CircuitHeader
     ensures { result ≡ header_of (circuit_read bytes.now) }
 {
-    let Some((header, gates)) = read_header(bytes) else {
-        return refused();
-    };
-    if !gates_fill(gates, header.wires, header.gates) {
-        return refused();
-    }
-    CircuitHeader {
-        number: 0,
-        qubits: header.qubits as u32,
-        ancillas: header.ancillas as u32,
-        gates: header.gates,
+    match read_whole(bytes) {
+        Some((header, _)) => CircuitHeader {
+            number: 0,
+            qubits: header.qubits as u32,
+            ancillas: header.ancillas as u32,
+            gates: header.gates,
+        },
+        None => refused(),
     }
 }
