@@ -109,6 +109,7 @@ fn placed(action: Action, most: u8) -> bool
 }
 
 // "Counts are at least 1, wires ascend, no wire occurs twice in a gate, a swap's target is its lower wire."
+#[tactic(auto, using(crate::proofs::GateCheckLaws::forms))]
 fn well_formed(gate: &Gate, most: u8) -> bool
     ensures { result ≡ gate_is_well_formed most (gate_in gate.now) }
 {
@@ -177,6 +178,7 @@ pub fn gate_at(input: &[u8]) -> Option<(Gate<'_>, &[u8])>
 }
 
 // One gate over wires 1 to `most`, if it is well formed, and the input behind it.
+#[tactic(auto, using(crate::proofs::GateReading::judged))]
 pub fn read_gate(input: &[u8], most: u8) -> Option<(Gate<'_>, &[u8])>
     ensures { gate_read result ≡ settled (read_gate most (input_of input.now)) }
 {
@@ -188,6 +190,7 @@ pub fn read_gate(input: &[u8], most: u8) -> Option<(Gate<'_>, &[u8])>
 }
 
 // Do `count` gates fill the input?
+#[tactic(auto, using(crate::proofs::GateReading::filled))]
 fn gates_fill(input: &[u8], most: u8, count: u32) -> bool
     ensures { result ≡ fills (read_gates most count (input_of input.now)) }
 {
@@ -211,6 +214,7 @@ fn counts_fit(qubits: u8, ancillas: u8) -> bool
 // A circuit's header, and the gates' bytes behind it: edition byte 1, n of 1 to 32, at most 255 wires, in at most 65,536 bytes. The gates are not looked at.
 // Of a circuit that is well formed the promise gives its n, ancillas and gate count. Of one that is not it gives neither answer: `None`, or a header behind
 // which no reading of gates gives a circuit. Either way whoever reads on from the answer ends as the definition does, in 14.
+#[tactic(auto, using(crate::proofs::CircuitReading::headers))]
 pub fn read_header(bytes: &[u8]) -> Option<(Header, &[u8])>
     ensures { circuit_after result ≡ circuit_read bytes.now }
 {
