@@ -59,15 +59,17 @@ fn misfits(low: u8, wire: u8, most: u8, u: u8, v: u8) -> bool
     (wire <= low) | (most < wire) | (u == wire) | (v == wire)
 }
 
-// Do the wires of a list ascend from 1 to `most`, without u and v? No test ends the loop: so many wires are tested at once.
+// Do the wires of a list ascend from 1 to `most`, without u and v? No test ends the loop: so many wires are tested at once. The wire before is read where it
+// stands: a loop that carries it along, or goes over pairs by `zip` or `windows`, takes more than one and a half times as long.
 fn list_fits(list: &[u8], most: u8, u: u8, v: u8) -> bool
     ensures { result ≡ list_fits 0 most u v list.now }
 {
-    let mut low = 0;
-    let mut bad = false;
-    for wire in list {
-        bad |= misfits(low, *wire, most, u, v);
-        low = *wire;
+    let Some((first, rest)) = list.split_first() else {
+        return true;
+    };
+    let mut bad = misfits(0, *first, most, u, v);
+    for (i, wire) in rest.iter().enumerate() {
+        bad |= misfits(list[i], *wire, most, u, v);
     }
     !bad
 }
