@@ -1,1 +1,2 @@
 pub mod VerdictAnswers
+pub mod ReadHere
