@@ -15,6 +15,7 @@ use sets::{QubitSet, members_of, next_member, size, without_lowest};
 
 // Of a statement that is emitted: the wires up to 64 that are asked for 1 and those that are asked for 0, each a set; a wire above 64 that is asked for 1, where
 // a number up to 64 is none; and the statement's list. The ancilla of a body or of an entry is asked for 1: it is in the first set up to 64, above that it is `high`.
+// No Option for `high`: that it is above 64, which a list of ascending wires needs, would be an invariant that each builder shows, and here each number means something.
 #[derive(Clone, Copy)]
 pub struct Site {
     pub ones: QubitSet,
@@ -235,7 +236,7 @@ impl Wires {
     }
 }
 
-// A set with a qubit more; 0 is none, and above 64 there is none.
+// A set with a qubit more; 0 is none, as in the definitions, and above 64 there is none.
 fn with_member(set: QubitSet, q: u8) -> QubitSet
     ensures { members_of result ≡ asked_within q (members_of set) }
 {
@@ -254,7 +255,7 @@ fn put_members(room: &mut [u8], at: usize, set: QubitSet)
     }
 }
 
-// How many bytes does a swap under one wire take? Under wire 0, which is none, it has no control.
+// How many bytes does a swap under one wire take? Under wire 0, which is none in the definitions too, it has no control.
 #[tactic(auto, using(crate::proofs::ControlBytes::gates))]
 pub fn swap_length(wire: u8) -> usize
     ensures { result ≡ length (encode (swap_of (model.under wire) 0 0)) }

@@ -17,7 +17,7 @@ pub use plan::Plan;
 
 // The lookup: for each qubit the wire that holds it, and for each wire the qubit that it holds. `count` is how many of these entries were read and written, in 16
 // bits, and no further. The first three functions are the only ones that touch an entry, and each counts what it touches.
-#[derive(Clone, Copy)]
+#[derive(Drop)]
 struct Lookup {
     wires: [u8; WIRE_COUNT],
     qubits: [u8; WIRE_COUNT],
