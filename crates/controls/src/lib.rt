@@ -15,6 +15,7 @@ use sets::{QubitSet, members_of, next_member, size, without_lowest};
 
 // Of a statement that is emitted: the wires up to 64 that are asked for 1 and those that are asked for 0, each a set; a wire above 64 that is asked for 1, where
 // a number up to 64 is none; and the statement's list. The ancilla of a body or of an entry is asked for 1: it is in the first set up to 64, above that it is `high`.
+// No Option for `high`: that it is above 64, which a list of ascending wires needs, would be an invariant that each builder shows, and here each number means something.
 #[derive(Clone, Copy)]
 pub struct Site {
     pub ones: QubitSet,
@@ -25,6 +26,7 @@ pub struct Site {
 
 impl Site {
     // Under no control, with a list.
+    #[tactic(auto, using(crate::proofs::ControlSets::asking))]
     pub fn free(list: QubitSet) -> Self
         ensures { At result (members_of list) no_controls }
     {
@@ -92,6 +94,7 @@ impl Site {
     }
 
     // The bits of both lists in the map.
+    #[tactic(auto, using(crate::proofs::ControlBytes::lengths))]
     fn control_map(&self) -> u8
         ensures { result ≡ control_map (controls_from self.now) }
     {
@@ -99,6 +102,7 @@ impl Site {
     }
 
     // How many bytes do both lists take?
+    #[tactic(auto, using(crate::proofs::ControlBytes::lengths))]
     fn controls_length(&self) -> u32
         ensures { result ≡ length (control_bytes (controls_from self.now)) }
     {
@@ -133,6 +137,7 @@ impl Site {
     }
 
     // The bytes of both lists from a place on, as far as the room reaches.
+    #[tactic(auto, using(crate::proofs::ControlBytes::controls))]
     fn put_controls(&self, room: &mut [u8], at: usize)
         ensures { room.new ≡ sets room.old at (control_bytes (controls_from self.now)) }
     {
@@ -171,6 +176,7 @@ struct Wires {
 
 impl Wires {
     // How many wires has the list?
+    #[tactic(auto, using(crate::proofs::ControlBytes::counting))]
     fn count(self) -> u8
         ensures { result ≡ length (wires_of self) }
     {
@@ -183,6 +189,7 @@ impl Wires {
     }
 
     // How many bytes does it take: none without a wire, otherwise its count and its wires? The type has room for the sum of two.
+    #[tactic(auto, using(crate::proofs::ControlBytes::listed))]
     fn list_length(self) -> u16
         ensures { result ≡ length (list_bytes (wires_of self)) }
     {
@@ -191,6 +198,7 @@ impl Wires {
     }
 
     // Its bit in the map: it stands where the list has a wire.
+    #[tactic(auto, using(crate::proofs::ControlBytes::listed))]
     fn bit(self, value: u8) -> u8
         ensures { result ≡ list_bit value (wires_of self) }
     {
@@ -198,6 +206,7 @@ impl Wires {
     }
 
     // Its wires from a place on, as far as the room reaches.
+    #[tactic(auto, using(crate::proofs::ControlBytes::lists))]
     fn put(self, room: &mut [u8], at: usize)
         ensures { room.new ≡ sets room.old at (wires_of self) }
     {
@@ -211,6 +220,7 @@ impl Wires {
     }
 
     // Its bytes from a place on, as far as the room reaches.
+    #[tactic(auto, using(crate::proofs::ControlBytes::lists))]
     fn put_list(self, room: &mut [u8], at: usize)
         ensures { room.new ≡ sets room.old at (list_bytes (wires_of self)) }
     {
@@ -226,7 +236,7 @@ impl Wires {
     }
 }
 
-// A set with a qubit more; 0 is none, and above 64 there is none.
+// A set with a qubit more; 0 is none, as in the definitions, and above 64 there is none.
 fn with_member(set: QubitSet, q: u8) -> QubitSet
     ensures { members_of result ≡ asked_within q (members_of set) }
 {
@@ -245,7 +255,8 @@ fn put_members(room: &mut [u8], at: usize, set: QubitSet)
     }
 }
 
-// How many bytes does a swap under one wire take? Under wire 0, which is none, it has no control.
+// How many bytes does a swap under one wire take? Under wire 0, which is none in the definitions too, it has no control.
+#[tactic(auto, using(crate::proofs::ControlBytes::gates))]
 pub fn swap_length(wire: u8) -> usize
     ensures { result ≡ length (encode (swap_of (model.under wire) 0 0)) }
 {

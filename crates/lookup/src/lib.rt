@@ -17,7 +17,7 @@ pub use plan::Plan;
 
 // The lookup: for each qubit the wire that holds it, and for each wire the qubit that it holds. `count` is how many of these entries were read and written, in 16
 // bits, and no further. The first three functions are the only ones that touch an entry, and each counts what it touches.
-#[derive(Clone, Copy)]
+#[derive(Drop)]
 struct Lookup {
     wires: [u8; WIRE_COUNT],
     qubits: [u8; WIRE_COUNT],
@@ -26,6 +26,7 @@ struct Lookup {
 
 impl Lookup {
     // The wire that holds qubit q.
+    #[tactic(auto, using(crate::proofs::CountedEntries::counts_one))]
     fn wire_of(&mut self, q: u8) -> u8
         ensures value { result ≡ wire_at self.old q }
         ensures after { self.new ≡ touched self.old 1 }
@@ -35,6 +36,7 @@ impl Lookup {
     }
 
     // The qubit that wire w holds.
+    #[tactic(auto, using(crate::proofs::CountedEntries::counts_one))]
     fn qubit_on(&mut self, w: u8) -> u8
         ensures value { result ≡ qubit_at self.old w }
         ensures after { self.new ≡ touched self.old 1 }
