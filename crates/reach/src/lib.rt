@@ -11,7 +11,8 @@ ghost use Rattle.reach.specs.CallsInATable.{marked, marked_below, reach_at, lack
 use decoded::{Parts, Program, parts_at, procedures, removal_count, root};
 use limits::{BODIES, BODY_COUNT, MATRIX_LENGTH, MOST_DEPTH, MOST_PROCEDURES};
 
-// The place of row f, column g.
+// The place of row f, column g. The matrix is one array and not an array for each row: the definitions' matrix is one list, and rows of their own would ask
+// for the same two tests wherever a mark is meant.
 fn cell(f: u8, g: u8) -> usize
     ensures { result ≡ cell f g }
 {

@@ -1,19 +1,20 @@
 -- What the functions on wires give, as their code computes it.
-use mathlib.Core.Path.{◌≡◌, refl, ap, sym, ◌∙◌, subst, fun_ext}
+use mathlib.Core.Path.{◌≡◌, refl, ap, sym, ◌∙◌, fun_ext}
 use mathlib.Core.Logic.{◌≢◌}
 use mathlib.Core.Bool.{Bool, true, false, not, beq, true≢false}
-use mathlib.Core.List.{List, map}
+use mathlib.Core.List.{List, ◌++◌, map}
 use Prim.Native.Nat.{ℕ, zero, suc, ◌+◌, ◌-◌, ◌*◌, ◌/◌, ◌%◌, ◌^◌, ◌≤◌, ◌<◌}
-use native.Mathlib.Nat.{mod-lt, zero-lt-suc}
+use native.Mathlib.Nat.{mod-lt, zero-lt-suc, div-one}
 use native.Mathlib.Omega.{arith}
 use borrow.Author.Rules.{rules, length_unmapped}
 use borrow.Author.Tests.{eq-eqb, ne_eqb}
-use mir.Syntax.{w8}
+use mir.Syntax.{w8, w64}
 use mir.Val.{Fits}
 use lib.Dec.{eqb}
 use lib.ListN.{length, get_or, set, length-set, replicate, length-replicate, get_or-replicate, get_or-eq_default}
-use lib.Seq.{get_or-set_same, get_or-set_other, ext_get_or}
-use lib.Bits.{bit_and, bit_xor, and_mask, mask_lt, xor_zero_r}
+use lib.Seq.{get_or-append_right, get_or-set_same, get_or-set_other, ext_get_or}
+use lib.Bits.{bit_and, bit_xor, xor_zero_r}
+use Rattle.std.specs.Int.{to_le_bytes}
 use Rattle.limits.specs.Sizes.{block_bits}
 use Rattle.model.specs.Limits.{block_length}
 use Rattle.model.specs.Meaning.{State, bit, flipped, state_of}
@@ -48,14 +49,15 @@ same_state wires h = ap (beside wires) (sym (block_of_state wires.bits h))
 -- ---- holds
 
 -- number 0 is no wire
-pub holds_none : (bytes : List ℕ) (w : ℕ) → w ≡ 0 → false ≡ state_in bytes w
-holds_none bytes w e = rw e (sym (state_zero bytes))
+pub holds_none : (bytes : List ℕ) (w : ℕ) → (1 ≤ w → ⊥) → false ≡ state_in bytes w
+holds_none bytes w no_wire = let e : w ≡ 0 = omega arith in rw e (sym (state_zero bytes))
 
 -- the bit of a wire
-pub holds_bit : (bytes : List ℕ) (w : ℕ) → w ≢ 0
-    → eqb (bit_and (get_or bytes ((w - 1) / 8) 0 / 2 ^ ((w - 1) % 8)) 1) 1 ≡ state_in bytes w
-holds_bit bytes w n =
-    tested (get_or bytes ((w - 1) / 8) 0) ((w - 1) % 8) ∙ sym (ap (state_in bytes) (before w n) ∙ state_at bytes (w - 1))
+pub holds_bit : (bytes : List ℕ) (w place : ℕ) → (1 ≤ w) × (place ≡ w - 1)
+    → eqb (bit_and (get_or bytes (place / 8) 0 / 2 ^ (place % 8)) 1) 1 ≡ state_in bytes w
+holds_bit bytes w place (some, e) =
+    tested (get_or bytes (place / 8) 0) (place % 8)
+    ∙ sym (ap (state_in bytes) (let at : w ≡ suc place = omega arith in at) ∙ state_at bytes place)
 
 -- ---- flip
 
@@ -105,60 +107,57 @@ module _ (wires : Wires) where
   now = state_in wires.bits
 
   -- number 0 is no wire
-  pub flips_none : (w : ℕ) → IsBlock wires.bits → w ≡ 0 → wires ≡ in_state (flipped w now) wires
-  flips_none w h e = ap (beside wires)
+  pub flips_none : (w : ℕ) → IsBlock wires.bits → (1 ≤ w → ⊥) → wires ≡ in_state (flipped w now) wires
+  flips_none w h no_wire = ap (beside wires)
       (sym (block_is wires.bits h (flipped w now) (λ v l m. flipped_other now w v (λ q. omega arith))))
 
--- the ways out of `flipped_in`
-pub flipped_here : (i byte mask : ℕ) → i ≡ byte → mask ≡ flipped_in i byte mask
-flipped_here i byte mask e = rw (eq-eqb i byte e)
-
-pub flipped_not : (i byte mask : ℕ) → i ≢ byte → 0 ≡ flipped_in i byte mask
+flipped_not : (i byte mask : ℕ) → i ≢ byte → 0 ≡ flipped_in i byte mask
 flipped_not i byte mask n = rw (ne_eqb i byte n)
 
--- the wires with the first i bytes of a flip stored
-pub record Flipping (before : Wires) (byte mask i : ℕ) (after : Wires) : Type 0 where
-  pub long : length after.bits ≡ block_length
-  pub below : (j : ℕ) → j < i → get_or after.bits j 0 ≡ bit_xor (get_or before.bits j 0) (flipped_in j byte mask)
-  pub above : (j : ℕ) → i ≤ j → get_or after.bits j 0 ≡ get_or before.bits j 0
-  pub counts : after ≡ beside before after.bits
+flipped_here : (i byte mask : ℕ) → i ≡ byte → mask ≡ flipped_in i byte mask
+flipped_here i byte mask e = rw (eq-eqb i byte e)
 
-module _ (wires : Wires) (byte mask : ℕ) where
+-- bytes of which the first i are those behind a flip
+pub record Flipping (before : List ℕ) (byte mask i : ℕ) (after : List ℕ) : Type 0 where
+  pub long : length after ≡ length before
+  pub below : (j : ℕ) → j < i → get_or after j 0 ≡ bit_xor (get_or before j 0) (flipped_in j byte mask)
+  pub above : (j : ℕ) → i ≤ j → get_or after j 0 ≡ get_or before j 0
+
+module _ (bytes : List ℕ) (byte mask : ℕ) where
   -- no byte yet
-  pub flip_none : IsBlock wires.bits → Flipping wires byte mask 0 wires
-  flip_none h = record { long = h.long; below = λ j l. absurd (omega arith); above = λ j l. refl; counts = refl }
+  pub flip_none : Flipping bytes byte mask 0 bytes
+  flip_none = record { long = refl; below = λ j l. absurd (omega arith); above = λ j l. refl }
 
-  module _ (i : ℕ) (after : Wires) (f : Flipping wires byte mask i after) where
+  module _ (i : ℕ) (after : List ℕ) (f : Flipping bytes byte mask i after) where
     -- one byte more
-    pub flip_byte_more : i < block_length → (x : ℕ) → x ≡ flipped_in i byte mask →
-        Flipping wires byte mask (i + 1) (beside after (set after.bits i (bit_xor (get_or after.bits i 0) x)))
-    flip_byte_more l x is = record {
-      long = length-set after.bits i _ ∙ f.long;
+    pub flip_byte_more : i < length bytes → (x y : ℕ) → x ≡ flipped_in i byte mask → y ≡ bit_xor (get_or after i 0) x →
+        Flipping bytes byte mask (i + 1) (set after i y)
+    flip_byte_more l x y is e = record {
+      long = length-set after i _ ∙ f.long;
       below = λ j m. by_eq j i
-          (λ e. rw (e, get_or-set_same after.bits i (bit_xor (get_or after.bits i 0) x) 0 (rw f.long l), f.above i (omega arith), is))
-          (λ n. get_or-set_other after.bits i j _ 0 n ∙ f.below j (omega arith));
-      above = λ j m. get_or-set_other after.bits i j _ 0 (λ e. omega arith) ∙ f.above j (omega arith);
-      counts = rw f.counts;
+          (λ q. rw (q, get_or-set_same after i y 0 (rw f.long l), e, f.above i (omega arith), is))
+          (λ n. get_or-set_other after i j _ 0 n ∙ f.below j (omega arith));
+      above = λ j m. get_or-set_other after i j _ 0 (λ q. omega arith) ∙ f.above j (omega arith);
     }
 
     -- all bytes: one of them is flipped in
-    flip_all : IsBlock wires.bits → byte < block_length → block_length ≤ i → after ≡ beside wires (set wires.bits byte (bit_xor (get_or wires.bits byte 0) mask))
-    flip_all h l g = f.counts ∙ ap (beside wires) (ext_get_or 0 after.bits (set wires.bits byte (bit_xor (get_or wires.bits byte 0) mask))
-        (f.long ∙ sym (length-set wires.bits byte _ ∙ h.long))
-        (λ j m. let k : j < block_length = rw f.long at m in f.below j (omega arith) ∙ by_eq j byte
-        (λ e. rw (e, ← flipped_here byte byte mask refl, get_or-set_same wires.bits byte (bit_xor (get_or wires.bits byte 0) mask) 0 (rw h.long l)))
-        (λ n. rw (← flipped_not j byte mask n, get_or-set_other wires.bits byte j (bit_xor (get_or wires.bits byte 0) mask) 0 n)
-        (xor_zero_r (get_or wires.bits j 0)))))
+    flip_all : byte < length bytes → length bytes ≤ i → after ≡ set bytes byte (bit_xor (get_or bytes byte 0) mask)
+    flip_all l g = ext_get_or 0 after (set bytes byte (bit_xor (get_or bytes byte 0) mask))
+        (f.long ∙ sym (length-set bytes byte _))
+        (λ j m. let k : j < length bytes = rw f.long at m in f.below j (omega arith) ∙ by_eq j byte
+        (λ e. rw (e, ← flipped_here byte byte mask refl, get_or-set_same bytes byte (bit_xor (get_or bytes byte 0) mask) 0 l))
+        (λ n. rw (← flipped_not j byte mask n, get_or-set_other bytes byte j (bit_xor (get_or bytes byte 0) mask) 0 n)
+        (xor_zero_r (get_or bytes j 0))))
 
 -- the bit of a wire, flipped
-pub flips_bit : (wires : Wires) (w : ℕ) → IsBlock wires.bits → w ≢ 0 → w < 256 → (i : ℕ) (after : Wires) → block_length ≤ i
-    → Flipping wires ((w - 1) / 8) ((1 * 2 ^ ((w - 1) % 8)) % 256) i after → after ≡ in_state (flipped w (now wires)) wires
-flips_bit wires w h n l i after g f =
-    flip_all wires ((w - 1) / 8) ((1 * 2 ^ ((w - 1) % 8)) % 256) i after f h (omega arith) g
-    ∙ ap (beside wires)
-    (ap (λ (m : ℕ). set wires.bits ((w - 1) / 8) (bit_xor (get_or wires.bits ((w - 1) / 8) 0) m)) (shifted 8 ((w - 1) % 8) (omega arith))
-    ∙ flip_bytes wires.bits h (w - 1) (omega arith)
-    ∙ ap (λ (v : ℕ). block_of (flipped v (now wires))) (sym (before w n)))
+pub flips_bit : (wires : Wires) (w place : ℕ) → IsBlock wires.bits → (1 ≤ w) × (place ≡ w - 1) → w < 256 → (i : ℕ) (after : List ℕ) → block_length ≤ i
+    → Flipping wires.bits (place / 8) ((1 * 2 ^ (place % 8)) % 256) i after → beside wires after ≡ in_state (flipped w (now wires)) wires
+flips_bit wires w place h (some, at) l i after g f =
+    let suc_place : suc place ≡ w = omega arith in
+    ap (beside wires) (flip_all wires.bits (place / 8) ((1 * 2 ^ (place % 8)) % 256) i after f (rw h.long (omega arith)) (rw h.long g)
+    ∙ ap (λ (m : ℕ). set wires.bits (place / 8) (bit_xor (get_or wires.bits (place / 8) 0) m)) (shifted 8 (place % 8) (omega arith))
+    ∙ flip_bytes wires.bits h place (omega arith)
+    ∙ ap (λ (v : ℕ). block_of (flipped v (now wires))) suc_place)
 
 pub ruleset flipping = (rules, is_block, flips_none, flip_none, flip_byte_more, flips_bit)
 
@@ -224,53 +223,44 @@ module _ (wires : Wires) (u v : ℕ) (a b : Bool) (at_u : a ≡ now wires u) (at
 
 -- ---- start
 
--- a block into which the first i bytes of a word are written
-pub record Written (word i : ℕ) (bytes : List ℕ) : Type 0 where
-  pub long : length bytes ≡ block_length
-  pub below : (j : ℕ) → j < i → get_or bytes j 0 ≡ word / 2 ^ (8 * j) % 256
-  pub above : (j : ℕ) → i ≤ j → get_or bytes j 0 ≡ 0
-
 repeated : (n j z : ℕ) → get_or (replicate n z) j z ≡ z
 repeated n j z = by_lt j n
     (λ l. get_or-replicate n j z z l)
     (λ g. get_or-eq_default (replicate n z) z (rw (length-replicate n z) g))
 
--- no byte yet
-pub write_none : (word : ℕ) → Written word 0 (replicate block_length 0)
-write_none word = record { long = refl; below = λ j l. absurd (omega arith); above = λ j l. repeated block_length j 0 }
+-- the bytes of a word, and zeros behind them
+abbrev written : ℕ → List ℕ
+written word = to_le_bytes w64 word ++ replicate 24 0
 
--- the low byte is a byte
-pub byte_fits : (n : ℕ) → Fits w8 (bit_and n 255)
-byte_fits n = record { fits = mask_lt n 8 }
+written_below : (word j : ℕ) → j < 8 → get_or (written word) j 0 ≡ word / 2 ^ (8 * j) % 256
+written_below word zero l = ap (λ (x : ℕ). x % 256) (sym (div-one word))
+written_below word (suc zero) l = refl
+written_below word (suc (suc zero)) l = refl
+written_below word (suc (suc (suc zero))) l = refl
+written_below word (suc (suc (suc (suc zero)))) l = refl
+written_below word (suc (suc (suc (suc (suc zero))))) l = refl
+written_below word (suc (suc (suc (suc (suc (suc zero)))))) l = refl
+written_below word (suc (suc (suc (suc (suc (suc (suc zero))))))) l = refl
+written_below word (suc (suc (suc (suc (suc (suc (suc (suc j)))))))) l = absurd (omega arith)
 
--- one byte more
-pub write_byte : (word i : ℕ) (bytes : List ℕ) → i < 8 → Written word i bytes
-    → Written word (i + 1) (set bytes i (bit_and (word / 2 ^ (8 * i)) 255))
-write_byte word i bytes l h = record {
-  long = length-set bytes i _ ∙ h.long;
-  below = λ j m. by_eq j i
-      (λ e. rw (e, get_or-set_same bytes i (bit_and (word / 2 ^ (8 * i)) 255) 0 (rw h.long (omega arith))) (and_mask (word / 2 ^ (8 * i)) 8))
-      (λ n. get_or-set_other bytes i j (bit_and (word / 2 ^ (8 * i)) 255) 0 n ∙ h.below j (omega arith));
-  above = λ j m. get_or-set_other bytes i j (bit_and (word / 2 ^ (8 * i)) 255) 0 (λ e. omega arith) ∙ h.above j (omega arith);
-}
+written_above : (word j : ℕ) → 8 ≤ j → get_or (written word) j 0 ≡ 0
+written_above word j h = get_or-append_right (to_le_bytes w64 word) (replicate 24 0) j 0 h ∙ repeated 24 (j - 8) 0
 
-word_block : (word : ℕ) (bytes : List ℕ) → word < 2 ^ 64 → Written word 8 bytes → bytes ≡ block_of (state_of word)
+word_block : (word : ℕ) → word < 2 ^ 64 → written word ≡ block_of (state_of word)
 unfolding state_of
-word_block word bytes l h = sym (block_is bytes (record { long = h.long; byte = byte }) (state_of word) wire)
+word_block word l = sym (block_is (written word) (record { long = refl; byte = byte }) (state_of word) wire)
   where
-    byte : (i : ℕ) → get_or bytes i 0 < 256
+    byte : (i : ℕ) → get_or (written word) i 0 < 256
     byte i = by_lt i 8
-        (λ m. rw (h.below i m) (mod-lt (word / 2 ^ (8 * i)) (zero-lt-suc 255)))
-        (λ g. rw (h.above i g) (zero-lt-suc 255))
+        (λ m. rw (written_below word i m) (mod-lt (word / 2 ^ (8 * i)) (zero-lt-suc 255)))
+        (λ g. rw (written_above word i g) (zero-lt-suc 255))
 
-    wire : (w : ℕ) → 1 ≤ w → w ≤ block_bits → state_of word w ≡ state_in bytes w
+    wire : (w : ℕ) → 1 ≤ w → w ≤ block_bits → state_of word w ≡ state_in (written word) w
     wire zero p q = absurd (omega arith)
-    wire (suc k) p q = sym (state_at bytes k ∙ by_lt (k / 8) 8
-        (λ m. rw (h.below (k / 8) m) (byte_bit word (8 * (k / 8)) (k % 8) (omega arith) ∙ ap (bit word) (omega arith)))
-        (λ g. rw (h.above (k / 8) g) (zero_bit (k % 8) ∙ sym (past_bit 64 word k l (omega arith)))))
+    wire (suc k) p q = sym (state_at (written word) k ∙ by_lt (k / 8) 8
+        (λ m. rw (written_below word (k / 8) m) (byte_bit word (8 * (k / 8)) (k % 8) (omega arith) ∙ ap (bit word) (omega arith)))
+        (λ g. rw (written_above word (k / 8) g) (zero_bit (k % 8) ∙ sym (past_bit 64 word k l (omega arith)))))
 
--- all eight bytes
-pub write_all : (n ancillas word i : ℕ) (bytes : List ℕ) → word < 2 ^ 64 → i ≤ 8 → 8 ≤ i → Written word i bytes
-    → holding n ancillas bytes ≡ wires_of n ancillas (state_of word)
-write_all n ancillas word i bytes l p q h =
-    ap (holding n ancillas) (word_block word bytes l (subst (λ (m : ℕ). Written word m bytes) (omega arith) h))
+pub start_is : (n ancillas word : ℕ) (bytes : List ℕ) → word < 2 ^ 64 → bytes ≡ to_le_bytes w64 word →
+    holding n ancillas (bytes ++ replicate 24 0) ≡ wires_of n ancillas (state_of word)
+start_is n ancillas word bytes l e = ap (λ (b : List ℕ). holding n ancillas (b ++ replicate 24 0)) e ∙ ap (holding n ancillas) (word_block word l)

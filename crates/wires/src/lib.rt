@@ -20,10 +20,7 @@ pub struct Wires {
 pub fn fits(word: u64, n: u8) -> bool
     ensures { result ≡ ltb word (2 ^ n) }
 {
-    if 63 < n {
-        return true;
-    }
-    word >> n == 0
+    63 < n || word >> n == 0
 }
 
 // The wires at the start of a run: the data word in wires 1 to 64, every other wire 0.
@@ -31,9 +28,7 @@ pub fn start(data: u8, ancillas: u8, word: u64) -> Wires
     ensures { result ≡ wires_of «data» ancillas (state_of word) }
 {
     let mut bits = [0u8; BLOCK_LENGTH];
-    for i in 0..8 {
-        bits[i] = ((word >> (8 * i)) & 255) as u8;
-    }
+    bits[..8].copy_from_slice(&word.to_le_bytes());
     Wires {
         bits,
         data,
@@ -45,10 +40,9 @@ pub fn start(data: u8, ancillas: u8, word: u64) -> Wires
 pub fn holds(bits: &[u8; BLOCK_LENGTH], wire: u8) -> bool
     ensures { result ≡ state_in bits.now wire }
 {
-    if wire == 0 {
+    let Some(place) = wire.checked_sub(1) else {
         return false;
-    }
-    let place = wire - 1;
+    };
     let byte = bits[(place / 8) as usize];
     (byte >> (place % 8)) & 1 == 1
 }
@@ -65,15 +59,14 @@ fn flipped_in(i: usize, byte: usize, bit: u8) -> u8
 pub fn flip(wires: Wires, wire: u8) -> Wires
     ensures { result ≡ in_state (flipped wire (state_in wires.bits)) wires }
 {
-    if wire == 0 {
+    let Some(place) = wire.checked_sub(1) else {
         return wires;
-    }
-    let place = wire - 1;
+    };
     let byte = (place / 8) as usize;
     let bit = 1u8 << (place % 8);
     let mut after = wires;
-    for i in 0..BLOCK_LENGTH {
-        after.bits[i] = after.bits[i] ^ flipped_in(i, byte, bit);
+    for (i, bits) in after.bits.iter_mut().enumerate() {
+        *bits ^= flipped_in(i, byte, bit);
     }
     after
 }
