@@ -38,6 +38,7 @@ ghost use Rattle.model.specs.Limits.{
   no_room,
   short_table_room,
 };
+ghost use Rattle.limits.specs.Refusals.{number_of};
 ghost use Rattle.model.specs.Reading.{most_base};
 ghost use Rattle.model.specs.Page.{band_gates};
 ghost use Rattle.limits.specs.Sizes.{
@@ -124,6 +125,45 @@ pub const BLOCK_LENGTH: usize = 32;
 
 // "21 workspace shorter than 32,768 bytes"
 pub const LEAST_WORKSPACE: usize = 32768;
+
+// The one refusal that a bad input gets. As a number it is the paper's: 1 to 14 are "refusals from the input", 21 to 24 "refusals from the state".
+#[derive(Clone, Copy, PartialEq, Eq)]
+pub enum Refusal {
+    TableStops = 1,
+    WrongEdition = 2,
+    ManyProcedures = 3,
+    WrongKind = 4,
+    WrongMap = 5,
+    WrongField = 6,
+    TooDeep = 7,
+    BytesLeft = 8,
+    WrongQubits = 9,
+    NoRemoval = 10,
+    TooWide = 11,
+    AccessFault = 12,
+    HighBit = 13,
+    NotWellFormed = 14,
+    ShortWorkspace = 21,
+    ManyWires = 22,
+    NoRoom = 23,
+    ShortTableRoom = 24,
+}
+
+impl From<Refusal> for u8 {
+    ghost from_gives = { λ why number. number ≡ number_of why };
+
+    fn from(why: Refusal) -> u8 {
+        why as u8
+    }
+}
+
+impl From<Refusal> for u32 {
+    ghost from_gives = { λ why number. number ≡ number_of why };
+
+    fn from(why: Refusal) -> u32 {
+        why as u32
+    }
+}
 
 // "Refusals from the input"
 pub const TABLE_STOPS: u8 = 1;

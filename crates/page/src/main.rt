@@ -10,7 +10,6 @@ ghost use Rattle.page.specs.Parts.{page_part};
 use bands::page_band;
 use limits::{MOST_BAND, MOST_CIRCUIT};
 use std::io::Read;
-use std::rt::{Env, Files};
 use text::Writer;
 
 // One byte more than a circuit can have: enough to know that an input is too long.
@@ -77,20 +76,6 @@ fn print_page(rt: &(impl Print + Eprint + AllocGlobal), input: &mut impl Read) {
     }
 }
 
-fn print_argument(rt: &(impl Env + Files + Input + Print + Eprint + AllocGlobal), i: usize) {
-    let Some(mut source) = inputs::open(rt, i) else {
-        return;
-    };
-    print_page(rt, &mut source);
-    inputs::close(source);
-}
-
 fn main(rt: HostRuntime) {
-    let count = inputs::argument_count(&rt);
-    if count < 2 {
-        print_page(&rt, &mut rt.reader());
-    }
-    for i in 1..count {
-        print_argument(&rt, i);
-    }
+    inputs::each(&rt, |input| print_page(&rt, input));
 }
