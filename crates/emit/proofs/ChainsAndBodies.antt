@@ -47,6 +47,7 @@ use Rattle.model.proofs.ReachAndRank.{body_out, all_removing}
 use Rattle.agreement.proofs.InvocationsOfABody.{AllOf, invocations_shorter}
 use Rattle.agreement.proofs.KeysOfALength.{keys_shorter, calls_shorter}
 use Rattle.agreement.proofs.AncillaStack.{only_reverse, entries_only, bodies_stacked, bodies_from_stacked, chains_stacked}
+use Rattle.decoded.specs.declared.Program as decoded
 use Rattle.decoded.specs.DecodedTable.{procedure_count, root_of, statement_at, program_at}
 use Rattle.reach.proofs.MatrixOfAProgram.{count_at, body_at_lem}
 use Rattle.decoded.proofs.StatementAtARecord.{spent_skip}
@@ -114,7 +115,7 @@ use Rattle.emit.proofs.RightPart.{use_right}
 use Rattle.emit.proofs.NextBody.{keys_all, seek_none, seek_some, seek_key, seek_calls, seek_below}
 
 -- the bodies of a chain: where they end, and the whole of them
-module _ (prog : List ℕ) (k : ℕ) where
+module _ (prog : decoded.Program) (k : ℕ) where
   bodies_next : (n : ℕ) (ks : List Key) (calls all : List Invocation) (next : ℕ) → 0 < next →
       next_after next (bodies_up_to prog k n ks calls all next).events ≡ (bodies_up_to prog k n ks calls all next).next
   unfolding bodies_up_to next_after
@@ -133,7 +134,7 @@ module _ (prog : List ℕ) (k : ℕ) where
   bodies_all zero all next = refl
   bodies_all (suc n) all next = rw (keys_all (keys (suc n) all))
 
-module _ {prog : List ℕ} {k : ℕ} {st : Emit} {room : List ℕ} {ws : List Slot} {r : Emit} {room₁ : List ℕ} {ws₁ : List Slot} where
+module _ {prog : decoded.Program} {k : ℕ} {st : Emit} {room : List ℕ} {ws : List Slot} {r : Emit} {room₁ : List ℕ} {ws₁ : List Slot} where
   use_body_left : {d : ℕ} → BodyLeft prog k st room ws r room₁ ws₁ d → Ready prog st ws → d ≤ most_wires →
       Opens (left_of prog k (slot_of ws d) st.next) (body_invocations (program_at prog) (chains_in prog k) (slot_of ws d) st.next)
       st room ws r room₁ ws₁
@@ -159,7 +160,7 @@ module _ {prog : List ℕ} {k : ℕ} {st : Emit} {room : List ℕ} {ws : List Sl
   use_body (walks_body g) = g
 
 -- a body's calls have shorter lists, so that the calls of its own length are still those that were there
-module _ (prog : List ℕ) (k : ℕ) (passes10 : any_lacks_removal (program_at prog) ≡ false) (d : Invocation) (next : ℕ) (some : 0 < length d.list) where
+module _ (prog : decoded.Program) (k : ℕ) (passes10 : any_lacks_removal (program_at prog) ≡ false) (d : Invocation) (next : ℕ) (some : 0 < length d.list) where
   abbrev news : List Invocation
   news = body_invocations (program_at prog) (chains_in prog k) d next
 
@@ -188,7 +189,7 @@ module _ (prog : List ℕ) (k : ℕ) (passes10 : any_lacks_removal (program_at p
       )
 
 -- the bodies that are left, by the slot that is found
-module _ (prog : List ℕ) (k : ℕ) (ws : List Slot) {n : ℕ} (T : Tallied n ws) (base upto last m from d : ℕ) (O : Precedes last m from)
+module _ (prog : decoded.Program) (k : ℕ) (ws : List Slot) {n : ℕ} (T : Tallied n ws) (base upto last m from d : ℕ) (O : Precedes last m from)
     (N : NextSlot ws base last upto d) (passes10 : any_lacks_removal (program_at prog) ≡ false) (next : ℕ) where
   abbrev all : List Invocation
   all = calls_in ws base upto
@@ -219,11 +220,11 @@ module _ (prog : List ℕ) (k : ℕ) (ws : List Slot) {n : ℕ} (T : Tallied n w
       (next + length own) (T.lengths d))
 
 -- the ways out of `emit_bodies`
-pub bodies_stopped : {prog : List ℕ} {k : ℕ} (s : State) {room : List ℕ} {ws : List Slot} {base last : ℕ} →
+pub bodies_stopped : {prog : decoded.Program} {k : ℕ} (s : State) {room : List ℕ} {ws : List Slot} {base last : ℕ} →
     is_some s.refusal ≡ true → Bodies prog k (emit_in s) room ws (emit_in s) room ws base last
 bodies_stopped s {room = room} {ws = ws} h = walks_bodies (λ R le m from O. follows_stopped _ (emit_in s) room ws (some_refused s.refusal h))
 
-module _ {prog : List ℕ} {k : ℕ} {st : Emit} {room : List ℕ} {ws : List Slot} {base last : ℕ} where
+module _ {prog : decoded.Program} {k : ℕ} {st : Emit} {room : List ℕ} {ws : List Slot} {base last : ℕ} where
   pub bodies_none : NoneWaits ws base last st.next → Bodies prog k st room ws st room ws base last
   bodies_none none = walks_bodies (λ R le m from O. follows_as
       (sym (seek_none ws R.tallied base st.next last m from O none prog k st.next)) (follows_none st room ws))
@@ -238,7 +239,7 @@ module _ {prog : List ℕ} {k : ℕ} {st : Emit} {room : List ℕ} {ws : List Sl
       (rw same (seek_below ws R.tallied base st.next last m from O d N))))
 
 -- the way out of `emit_rest`: the bodies that follow and the right part
-module _ {prog : List ℕ} {k : ℕ} {st : Emit} {room : List ℕ} {ws : List Slot} {base last d : ℕ} where
+module _ {prog : decoded.Program} {k : ℕ} {st : Emit} {room : List ℕ} {ws : List Slot} {base last d : ℕ} where
   pub rest_walk : {a : Emit} {room₁ : List ℕ} {ws₁ : List Slot} {b : Emit} {room₂ : List ℕ} {ws₂ : List Slot} {behind : ℕ} → behind ≡ st.next →
       Bodies prog k st room ws a room₁ ws₁ base last → BodyRight prog k a room₁ ws₁ b room₂ ws₂ d behind →
       Rest prog k st room ws b room₂ ws₂ base last d
@@ -252,7 +253,7 @@ module _ {prog : List ℕ} {k : ℕ} {st : Emit} {room : List ℕ} {ws : List Sl
       (λ ok. rw (slot, follows_next F ok ∙ bodies_next prog k m (keys_from from (keys m all)) all all st.next R.some)) G))
 
 -- the way out of `emit_inner`: the left part, then the rest
-module _ {prog : List ℕ} {k : ℕ} {st : Emit} {room : List ℕ} {ws : List Slot} {base last d : ℕ} where
+module _ {prog : decoded.Program} {k : ℕ} {st : Emit} {room : List ℕ} {ws : List Slot} {base last d : ℕ} where
   use_rest : {r : Emit} {room₁ : List ℕ} {ws₁ : List Slot} → Rest prog k st room ws r room₁ ws₁ base last d →
       Ready prog st ws → base ≤ d → (m from : ℕ) → Precedes last m from → (first : ℕ) → d < first → first ≤ st.next →
       (st.status ≡ 0 → Before st.next first (length (body_invocations (program_at prog) (chains_in prog k) (slot_of ws d) first))) →
@@ -261,7 +262,7 @@ module _ {prog : List ℕ} {k : ℕ} {st : Emit} {room : List ℕ} {ws : List Sl
       inner.events ++ right_of prog k (slot_of ws d) first inner.next) st room ws r room₁ ws₁
   use_rest (walks_rest g) = g
 
-module _ {prog : List ℕ} {k : ℕ} {st : Emit} {room : List ℕ} {ws : List Slot} {base last d : ℕ} where
+module _ {prog : decoded.Program} {k : ℕ} {st : Emit} {room : List ℕ} {ws : List Slot} {base last d : ℕ} where
   pub inner_walk : {a : Emit} {room₁ : List ℕ} {ws₁ : List Slot} {b : Emit} {room₂ : List ℕ} {ws₂ : List Slot} → BodyLeft prog k st room ws a room₁ ws₁ d →
       Rest prog k a room₁ ws₁ b room₂ ws₂ base last d → Inner prog k st room ws b room₂ ws₂ base last d
   inner_walk {a = a} {ws₁ = ws₁} A B = walks_inner (λ R le lt m from O.
@@ -299,7 +300,7 @@ module _ {prog : List ℕ} {k : ℕ} {st : Emit} {room : List ℕ} {ws : List Sl
   use_inner (walks_inner g) = g
 
 -- the ways out of `emit_body`: entry gates, what is inside them, entry gates reversed
-module _ {prog : List ℕ} {k : ℕ} {st : Emit} {room : List ℕ} {ws : List Slot} {base last d upto : ℕ} (is_upto : upto ≡ st.next) where
+module _ {prog : decoded.Program} {k : ℕ} {st : Emit} {room : List ℕ} {ws : List Slot} {base last d upto : ℕ} (is_upto : upto ≡ st.next) where
   pub body_past : upto ≤ d → Body prog k st room ws st room ws base last d
   body_past h = walks_body (λ R le lt m from O. not_below d st.next (rw is_upto at h) lt)
 
@@ -315,7 +316,7 @@ around_is P ch d later next inner =
     let E = reverse (all_entry_gates d later) in
     rw (append_assoc L (inner.events ++ Q) E, append_assoc inner.events Q E)
 
-module _ {prog : List ℕ} {k : ℕ} {st : Emit} {room : List ℕ} {ws : List Slot} {base last d upto : ℕ} (is_upto : upto ≡ st.next) where
+module _ {prog : decoded.Program} {k : ℕ} {st : Emit} {room : List ℕ} {ws : List Slot} {base last d upto : ℕ} (is_upto : upto ≡ st.next) where
   pub body_walk : {a : Emit} {room₁ : List ℕ} {b : Emit} {room₂ : List ℕ} {ws₂ : List Slot} {r : Emit} {room₃ : List ℕ} →
       Enters ws (turned false (entries_to ws d (d + 1) (upto - (d + 1)))) (progress st room) (progress a room₁) →
       Inner prog k a room₁ ws b room₂ ws₂ base last d →
@@ -345,7 +346,7 @@ module _ {prog : List ℕ} {k : ℕ} {st : Emit} {room : List ℕ} {ws : List Sl
       follows_as (around_is (program_at prog) (chains_in prog k) s later st.next inner) (follows_append F (follows_append G₁ H)))
 
 -- the body of f by its record
-module _ (prog : List ℕ) (f i depth : ℕ) (at : i ≡ root_of prog f) (deep : depth ≡ body_depth (procedure_count prog) f) where
+module _ (prog : decoded.Program) (f i depth : ℕ) (at : i ≡ root_of prog f) (deep : depth ≡ body_depth (procedure_count prog) f) where
   abbrev p : ℕ
   p = procedure_count prog
 
@@ -364,13 +365,13 @@ module _ (prog : List ℕ) (f i depth : ℕ) (at : i ≡ root_of prog f) (deep :
   body_known known nz = by_lt p f (λ lt. absurd (nz (body_none lt))) (λ le. rw (body_all le, at) (known f le))
 
 -- the list of a slot is of the emission's qubits
-slot_within : {prog : List ℕ} {st : Emit} (ws : List Slot) (d : ℕ) (s : Slot) (site : Site) → s ≡ slot_in ws d → list_from site ≡ members_of s.list →
+slot_within : {prog : decoded.Program} {st : Emit} (ws : List Slot) (d : ℕ) (s : Slot) (site : Site) → s ≡ slot_in ws d → list_from site ≡ members_of s.list →
     Ready prog st ws → Within st.qubits (list_from site)
 slot_within {st = st} ws d s site is here R =
     subst (Within st.qubits) (sym (here ∙ ap (λ (v : Slot). members_of v.list) is)) (R.tallied.within d)
 
 -- the ways out of `emit_body_left` and `emit_body_right`
-module _ {prog : List ℕ} {k : ℕ} {st : Emit} {room : List ℕ} {ws : List Slot} {d : ℕ} {r : Emit} {room₁ : List ℕ} {ws₁ : List Slot} {s : Slot} {f i depth w : ℕ} {site : Site}
+module _ {prog : decoded.Program} {k : ℕ} {st : Emit} {room : List ℕ} {ws : List Slot} {d : ℕ} {r : Emit} {room₁ : List ℕ} {ws₁ : List Slot} {s : Slot} {f i depth w : ℕ} {site : Site}
     (is : s ≡ slot_in ws d) (is_f : f ≡ 255 - s.precedence % 256) (is_w : w ≡ wire_of d) (here : At site (members_of s.list) (under w)) (at : i ≡ root_of prog f)
     (deep : depth ≡ body_depth (procedure_count prog) f) where
   pub body_left_walk : Left prog k st room ws r room₁ ws₁ i depth (list_from site) (controls_from site) → BodyLeft prog k st room ws r room₁ ws₁ d
@@ -452,7 +453,7 @@ chain_is P zero f l a h = absurd (h refl)
 chain_is P (suc k) f l a h = let e : suc k - 1 ≡ k = omega arith in rw e
 
 -- an ancilla that was taken is a wire
-taken_low : {prog : List ℕ} {f : ℕ} {l : List ℕ} {cs : Controls} {st : Emit} {room : List ℕ} {ws : List Slot} {a : Emit} {room₁ : List ℕ} {ws₁ : List Slot} →
+taken_low : {prog : decoded.Program} {f : ℕ} {l : List ℕ} {cs : Controls} {st : Emit} {room : List ℕ} {ws : List Slot} {a : Emit} {room₁ : List ℕ} {ws₁ : List Slot} →
     Invokes f l cs st room ws a room₁ ws₁ → (length l ≡ 0 → ⊥) → Ready prog st ws → Within st.qubits l → a.status ≡ 0 →
     (a.next ≡ st.next + 1) × (wire_of st.next ≡ st.next)
 taken_low {f = f} {l = l} {cs = cs} {st = st} {a = a} A some R within ok =
@@ -463,11 +464,11 @@ taken_low {f = f} {l = l} {cs = cs} {st = st} {a = a} A some R within ok =
     (e, rw (le-ltb most_wires st.next le))
 
 -- the ways out of `emit_call`
-pub call_stopped : {prog : List ℕ} {k : ℕ} (s : State) {room : List ℕ} {ws : List Slot} {f : ℕ} {l : List ℕ} {cs : Controls} →
+pub call_stopped : {prog : decoded.Program} {k : ℕ} (s : State) {room : List ℕ} {ws : List Slot} {f : ℕ} {l : List ℕ} {cs : Controls} →
     is_some s.refusal ≡ true → Call prog k (emit_in s) room ws (emit_in s) room ws f l cs
 call_stopped s {room = room} {ws = ws} h = walks_call (λ R within. follows_stopped _ (emit_in s) room ws (some_refused s.refusal h))
 
-module _ {prog : List ℕ} {k : ℕ} {st : Emit} {room : List ℕ} {ws : List Slot} {f : ℕ} {l : List ℕ} {cs : Controls} where
+module _ {prog : decoded.Program} {k : ℕ} {st : Emit} {room : List ℕ} {ws : List Slot} {f : ℕ} {l : List ℕ} {cs : Controls} where
   module _ {n : ℕ} (is : n ≡ length l) where
     pub call_empty : n ≡ 0 → Call prog k st room ws st room ws f l cs
     call_empty e = walks_call (λ R within. follows_as (no_start (chains_in prog k) f l cs st.next (sym is ∙ e)) (follows_none st room ws))

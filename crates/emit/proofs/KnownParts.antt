@@ -13,6 +13,7 @@ use Rattle.model.specs.Lists.{holds}
 use Rattle.model.specs.Reach.{recursive, width}
 use Rattle.model.specs.Emission.{is_wide}
 use Rattle.model.proofs.BooleanLaws.{by_lt, by_bool}
+use Rattle.decoded.specs.declared.Program as decoded
 use Rattle.decoded.specs.DecodedTable.{width_in, removals_in, test_at, statement_at, program_at}
 use Rattle.decoded.specs.declared.Step.{Step}
 use Rattle.decoded.specs.declared.Step.TheVariants as step
@@ -23,13 +24,13 @@ use Rattle.widths.specs.KeptWidths.{OfParts, Known}
 use Rattle.emit.specs.WalkPromises.{KnownIn}
 
 -- a width that is known
-known_width : (r : ℕ → Bool) (prog : List ℕ) (d i : ℕ) → Known r prog d i → width_in prog i ≡ min 2 (width r (statement_at prog d i))
+known_width : (r : ℕ → Bool) (prog : decoded.Program) (d i : ℕ) → Known r prog d i → width_in prog i ≡ min 2 (width r (statement_at prog d i))
 unfolding Known statement_at width
 known_width r prog zero i K = K
 known_width r prog (suc d) i K = K.0
 
 -- tells whether the statement is wide
-pub width_told : (r : ℕ → Bool) (prog : List ℕ) (d i : ℕ) {w : Bool} → Known r prog d i → w ≡ ltb 0 (width_in prog i) → is_wide r (statement_at prog d i) ≡ w
+pub width_told : (r : ℕ → Bool) (prog : decoded.Program) (d i : ℕ) {w : Bool} → Known r prog d i → w ≡ ltb 0 (width_in prog i) → is_wide r (statement_at prog d i) ≡ w
 width_told r prog d i K e = rw (e, known_width r prog d i K) (capped (width r (statement_at prog d i)))
   where
     capped : (n : ℕ) → ltb 0 n ≡ ltb 0 (min 2 n)
@@ -37,7 +38,7 @@ width_told r prog d i K e = rw (e, known_width r prog d i K) (capped (width r (s
         (λ l. let c : 0 < min 2 n = omega arith in rw (lt-ltb 0 n l, lt-ltb 0 (min 2 n) c))
         (λ l. let c : min 2 n ≤ 0 = omega arith in rw (le-ltb 0 n l, le-ltb 0 (min 2 n) c))
 
-module _ (prog l : List ℕ) (depth i f : ℕ) {found : Step} (nz : depth ≡ 0 → ⊥) (is : found ≡ step_at prog i) where
+module _ (prog : decoded.Program) (l : List ℕ) (depth i f : ℕ) {found : Step} (nz : depth ≡ 0 → ⊥) (is : found ≡ step_at prog i) where
   abbrev rec : ℕ → Bool
   rec = recursive (program_at prog) f
 

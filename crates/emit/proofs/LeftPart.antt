@@ -31,6 +31,7 @@ use Rattle.agreement.proofs.EmissionClauses.{
 use Rattle.controls.specs.declared.Site.{Site}
 use Rattle.controls.specs.ControlWords.{with_qubit, controls_from, list_from, At}
 use Rattle.controls.proofs.ControlSets.{qubit_asked}
+use Rattle.decoded.specs.declared.Program as decoded
 use Rattle.decoded.specs.DecodedTable.{width_in, removals_in, test_at, statement_at, program_at}
 use Rattle.decoded.specs.declared.Step.{Step}
 use Rattle.decoded.specs.declared.Step.TheVariants as step
@@ -67,7 +68,7 @@ module _ {st : Emit} {room : List ℕ} {ws : List Slot} {r : Emit} {room₁ : Li
   unfolding held_in
   opens_none F = record { follows = F; held = λ z. refl }
 
-  pub use_left : (f : ℕ) {prog : List ℕ} {k i depth : ℕ} {l : List ℕ} {cs : Controls} → Left prog k st room ws r room₁ ws₁ i depth l cs →
+  pub use_left : (f : ℕ) {prog : decoded.Program} {k i depth : ℕ} {l : List ℕ} {cs : Controls} → Left prog k st room ws r room₁ ws₁ i depth l cs →
       KnownIn prog f depth i → Ready prog st ws → Within st.qubits l →
       Opens (left (chains_in prog k) (recursive (program_at prog) f) (statement_at prog depth i) l cs st.next)
       (invocations (recursive (program_at prog) f) (statement_at prog depth i) l st.next) st room ws r room₁ ws₁
@@ -95,7 +96,7 @@ module _ (ch : Chains) (r : ℕ → Bool) (l : List ℕ) (cs : Controls) (next :
   left_case rs a q x y e t = (rw (e, t), rw e)
 
 -- a part whole, then a part's left
-module _ (prog : List ℕ) (k : ℕ) (f : ℕ) (l : List ℕ) (cs : Controls) (x y : Statement) where
+module _ (prog : decoded.Program) (k : ℕ) (f : ℕ) (l : List ℕ) (cs : Controls) (x y : Statement) where
   whole_then_left : {st : Emit} {room : List ℕ} {ws : List Slot} {r : Emit} {room₁ : List ℕ} {ws₁ : List Slot} {b : Emit} {room₂ : List ℕ} {ws₂ : List Slot} →
       Ready prog st ws → Follows (whole (chains_in prog k) x l cs st.next) st room ws r room₁ ws₁ →
       Opens (left (chains_in prog k) (recursive (program_at prog) f) y l cs r.next)
@@ -111,7 +112,7 @@ module _ (prog : List ℕ) (k : ℕ) (f : ℕ) (l : List ℕ) (cs : Controls) (x
       }
 
 -- a part's left, then another's
-module _ (prog : List ℕ) (k : ℕ) (f : ℕ) (l : List ℕ) (cs₁ cs₂ : Controls) (x y : Statement) where
+module _ (prog : decoded.Program) (k : ℕ) (f : ℕ) (l : List ℕ) (cs₁ cs₂ : Controls) (x y : Statement) where
   left_then_left : {st : Emit} {room : List ℕ} {ws : List Slot} {r : Emit} {room₁ : List ℕ} {ws₁ : List Slot} {b : Emit} {room₂ : List ℕ} {ws₂ : List Slot} →
       Ready prog st ws →
       Opens (left (chains_in prog k) (recursive (program_at prog) f) x l cs₁ st.next)
@@ -145,12 +146,12 @@ module _ (prog : List ℕ) (k : ℕ) (f : ℕ) (l : List ℕ) (cs₁ cs₂ : Con
       }
 
 -- the ways out of `emit_left`
-pub left_stopped : {prog : List ℕ} {k : ℕ} (s : State) {room : List ℕ} {ws : List Slot} {i depth : ℕ} {l : List ℕ} {cs : Controls} →
+pub left_stopped : {prog : decoded.Program} {k : ℕ} (s : State) {room : List ℕ} {ws : List Slot} {i depth : ℕ} {l : List ℕ} {cs : Controls} →
     is_some s.refusal ≡ true → Left prog k (emit_in s) room ws (emit_in s) room ws i depth l cs
 left_stopped s {room = room} {ws = ws} h = let f = some_refused s.refusal h in
     walks_left (λ g K R within. record { follows = follows_stopped _ (emit_in s) room ws f; held = λ z. absurd (f z) })
 
-module _ {prog : List ℕ} {k : ℕ} {st : Emit} {room : List ℕ} {ws : List Slot} {i depth : ℕ} {l : List ℕ} {cs : Controls} where
+module _ {prog : decoded.Program} {k : ℕ} {st : Emit} {room : List ℕ} {ws : List Slot} {i depth : ℕ} {l : List ℕ} {cs : Controls} where
   left_skipped : statement_at prog depth i ≡ skip → Left prog k st room ws st room ws i depth l cs
   left_skipped e =
       walks_left (λ f K R within. let h = left_skip (chains_in prog k) (recursive (program_at prog) f) l cs st.next (statement_at prog depth i) e in

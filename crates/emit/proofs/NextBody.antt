@@ -14,6 +14,7 @@ use Rattle.model.proofs.BooleanLaws.{by_eq, by_lt, not_true_false}
 use Rattle.model.proofs.ListLaws.{member_head, member_tail, member_cases, not_in_nil}
 use Rattle.agreement.proofs.InvocationsOfABody.{Mem}
 use Rattle.agreement.proofs.KeysOfALength.{InOrder, is_of_lem, of_is, calls_here, calls_past, keys_in_order, keys_called, keys_order}
+use Rattle.decoded.specs.declared.Program as decoded
 use Rattle.decoded.specs.DecodedTable.{program_at}
 use Rattle.events.specs.declared.Slot.{Slot}
 use Rattle.events.specs.Scan.{slot_list_length, slot_procedure, slot_of, Tallied, held_in}
@@ -139,7 +140,7 @@ module _ (ws : List Slot) {n : ℕ} (T : Tallied n ws) (base upto : ℕ) where
       no_key : 0 < m → keys_from from (keys m all) ≡ []
       no_key some = from_none from (keys m all) (λ k b le. key_slot m k b (λ a l h long is. none_waits a l h (key_waits a long (rw is le) some)))
 
-      pub seek_none : (prog : List ℕ) (k next : ℕ) → (bodies_left prog k m from all next).events ≡ []
+      pub seek_none : (prog : decoded.Program) (k next : ℕ) → (bodies_left prog k m from all next).events ≡ []
       unfolding bodies_up_to bodies bodies_from
       seek_none prog k next = by_length m refl
         where
@@ -199,7 +200,7 @@ module _ (ws : List Slot) {n : ℕ} (T : Tallied n ws) (base upto : ℕ) where
       nothing_longer less = from_none from (keys m all) (λ k b le. key_slot m k b (λ a l h same is.
           let z = more_waits a l h (key_waits a same (rw is le) (omega arith)) in omega arith))
 
-      module _ (prog : List ℕ) (k next : ℕ) where
+      module _ (prog : decoded.Program) (k next : ℕ) where
         abbrev ks : List Key
         ks = key ∷ keys_from (key + 1) (keys long all)
 

@@ -36,6 +36,7 @@ use Rattle.agreement.proofs.EmissionClauses.{
 use Rattle.controls.specs.declared.Site.{Site}
 use Rattle.controls.specs.ControlWords.{with_qubit, controls_from, list_from, At}
 use Rattle.controls.proofs.ControlSets.{qubit_asked}
+use Rattle.decoded.specs.declared.Program as decoded
 use Rattle.decoded.specs.DecodedTable.{width_in, removals_in, test_at, statement_at, program_at}
 use Rattle.decoded.specs.declared.Step.{Step}
 use Rattle.decoded.specs.declared.Step.TheVariants as step
@@ -55,7 +56,7 @@ use Rattle.emit.proofs.WholeStatement.{right_next, use_whole}
 use Rattle.emit.proofs.LeftPart.{was_ok}
 use Rattle.emit.proofs.KnownParts.{width_told, call_told, known_sequence, known_chosen, known_branches}
 
-module _ {prog : List ℕ} {k : ℕ} {st : Emit} {room : List ℕ} {ws : List Slot} {r : Emit} {room₁ : List ℕ} {ws₁ : List Slot} where
+module _ {prog : decoded.Program} {k : ℕ} {st : Emit} {room : List ℕ} {ws : List Slot} {r : Emit} {room₁ : List ℕ} {ws₁ : List Slot} where
   pub use_right : (f : ℕ) {i depth : ℕ} {l : List ℕ} {cs : Controls} {behind given : ℕ} → Right prog k st room ws r room₁ ws₁ i depth l cs behind given →
       KnownIn prog f depth i → Ready prog st ws → Within st.qubits l → (first : ℕ) →
       (st.status ≡ 0 → Before behind first (length (invocations (recursive (program_at prog) f) (statement_at prog depth i) l first))) →
@@ -109,7 +110,7 @@ returns_wire g [] cs a b e h = refl
 returns_wire g (q ∷ l) cs a b e h = let le : a ≤ most_wires = omega arith in rw (e, le-ltb most_wires a le)
 
 -- a right part, then a part whole
-module _ (prog : List ℕ) (k : ℕ) (f : ℕ) (l : List ℕ) (cs : Controls) (first : ℕ) (x y : Statement) where
+module _ (prog : decoded.Program) (k : ℕ) (f : ℕ) (l : List ℕ) (cs : Controls) (first : ℕ) (x y : Statement) where
   right_then_whole : {st : Emit} {room : List ℕ} {ws : List Slot} {r : Emit} {room₁ : List ℕ} {ws₁ : List Slot} {b : Emit} {room₂ : List ℕ} {ws₂ : List Slot} →
       Ready prog st ws → Follows (right (chains_in prog k) (recursive (program_at prog) f) x l cs first st.next) st room ws r room₁ ws₁ →
       Follows (whole (chains_in prog k) y l cs r.next) r room₁ ws₁ b room₂ ws₂ →
@@ -120,7 +121,7 @@ module _ (prog : List ℕ) (k : ℕ) (f : ℕ) (l : List ℕ) (cs : Controls) (f
       (follows_next F ok ∙ right_next prog k (recursive (program_at prog) f) x l cs first st.next R.some)) G)
 
 -- a right part, then another
-module _ (prog : List ℕ) (k : ℕ) (f : ℕ) (l : List ℕ) (cs₁ cs₂ : Controls) (first second : ℕ) (x y : Statement) where
+module _ (prog : decoded.Program) (k : ℕ) (f : ℕ) (l : List ℕ) (cs₁ cs₂ : Controls) (first second : ℕ) (x y : Statement) where
   right_then_right : {st : Emit} {room : List ℕ} {ws : List Slot} {r : Emit} {room₁ : List ℕ} {ws₁ : List Slot} {b : Emit} {room₂ : List ℕ} {ws₂ : List Slot} →
       Ready prog st ws → Follows (right (chains_in prog k) (recursive (program_at prog) f) y l cs₁ second st.next) st room ws r room₁ ws₁ →
       Follows (right (chains_in prog k) (recursive (program_at prog) f) x l cs₂ first r.next) r room₁ ws₁ b room₂ ws₂ →
@@ -170,12 +171,12 @@ none_before : {behind first n : ℕ} → Before behind first n → 0 ≡ n → b
 none_before B e = let z = B.ends in omega arith
 
 -- the ways out of `emit_right`
-pub right_stopped : {prog : List ℕ} {k : ℕ} (s : State) {room : List ℕ} {ws : List Slot} {i depth : ℕ} {l : List ℕ} {cs : Controls} {behind : ℕ} →
+pub right_stopped : {prog : decoded.Program} {k : ℕ} (s : State) {room : List ℕ} {ws : List Slot} {i depth : ℕ} {l : List ℕ} {cs : Controls} {behind : ℕ} →
     is_some s.refusal ≡ true → Right prog k (emit_in s) room ws (emit_in s) room ws i depth l cs behind behind
 right_stopped s {room = room} {ws = ws} h = let f = some_refused s.refusal h in
     walks_right (λ g K R within first Q. (follows_stopped _ (emit_in s) room ws f, λ ok. absurd (f ok)))
 
-module _ {prog : List ℕ} {k : ℕ} {st : Emit} {room : List ℕ} {ws : List Slot} {i depth : ℕ} {l : List ℕ} {cs : Controls} {behind : ℕ} where
+module _ {prog : decoded.Program} {k : ℕ} {st : Emit} {room : List ℕ} {ws : List Slot} {i depth : ℕ} {l : List ℕ} {cs : Controls} {behind : ℕ} where
   right_skipped : statement_at prog depth i ≡ skip → Right prog k st room ws st room ws i depth l cs behind behind
   right_skipped e = walks_right (λ f K R within first Q. (
     follows_as (right_skip (chains_in prog k) (recursive (program_at prog) f) l cs first st.next (statement_at prog depth i) e) (follows_none st room ws),

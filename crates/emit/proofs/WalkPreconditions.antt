@@ -1,4 +1,5 @@
 -- What a walk needs, one behind the other.
+use Rattle.decoded.specs.declared.Program as decoded
 use mathlib.Core.Path.{◌≡◌, sym, subst}
 use mathlib.Core.List.{List}
 use Prim.Native.Nat.{ℕ}
@@ -17,7 +18,7 @@ use Rattle.emit.specs.WalkPromises.{Ready}
 
 module _ {es : List Event} {st : Emit} {room : List ℕ} {ws : List Slot} {a : Emit} {room₁ : List ℕ} {ws₁ : List Slot} where
   -- what a walk needs still holds behind another
-  pub ready_then : {prog : List ℕ} → Ready prog st ws → Follows es st room ws a room₁ ws₁ → Ready prog a ws₁
+  pub ready_then : {prog : decoded.Program} → Ready prog st ws → Follows es st room ws a room₁ ws₁ → Ready prog a ws₁
   ready_then R F =
       let up = F.rises in let some = R.some in let long : length ws₁ ≡ length ws = F.long in let space = R.space in let same = follows_qubits F in
       record { checked = R.checked; some = omega arith; low = F.low R.low; space = omega arith; tallied = rw same (F.tallied R.tallied) }

@@ -16,6 +16,7 @@ use Rattle.agreement.proofs.EmissionClauses.{whole_yes, whole_no}
 use Rattle.controls.specs.declared.Site.{Site}
 use Rattle.controls.specs.ControlWords.{with_qubit, controls_from, list_from, At}
 use Rattle.controls.proofs.ControlSets.{qubit_asked}
+use Rattle.decoded.specs.declared.Program as decoded
 use Rattle.decoded.specs.DecodedTable.{removals_in, test_at, statement_at, program_at}
 use Rattle.decoded.specs.declared.Step.{Step}
 use Rattle.decoded.specs.declared.Step.TheVariants as step
@@ -34,7 +35,7 @@ use Rattle.events.proofs.ConsecutiveWalks.{follows_none, follows_stopped, follow
 use Rattle.emit.proofs.WalkPreconditions.{ready_then, within_then, within_rest}
 
 -- the next wire behind a statement's events
-module _ (prog : List ℕ) (k : ℕ) where
+module _ (prog : decoded.Program) (k : ℕ) where
   stacked : StackedChains 0 (chains_in prog k)
   stacked = chains_stacked 0 (program_at prog) k
 
@@ -72,7 +73,7 @@ module _ (ch : Chains) (l : List ℕ) (cs : Controls) (next : ℕ) (s : Statemen
   unfolding whole
   whole_call e = rw e
 
-module _ {prog : List ℕ} {k : ℕ} {st : Emit} {room : List ℕ} {ws : List Slot} {r : Emit} {room₁ : List ℕ} {ws₁ : List Slot} where
+module _ {prog : decoded.Program} {k : ℕ} {st : Emit} {room : List ℕ} {ws : List Slot} {r : Emit} {room₁ : List ℕ} {ws₁ : List Slot} where
   -- what a walk promises
   pub use_whole : {i depth : ℕ} {l : List ℕ} {cs : Controls} → Whole prog k st room ws r room₁ ws₁ i depth l cs →
       Ready prog st ws → Within st.qubits l →
@@ -84,7 +85,7 @@ module _ {prog : List ℕ} {k : ℕ} {st : Emit} {room : List ℕ} {ws : List Sl
   use_call (walks_call f) = f
 
 -- two parts whole, one after the other
-module _ (prog : List ℕ) (k : ℕ) (l : List ℕ) (x y : Statement) (cs₁ cs₂ : Controls) where
+module _ (prog : decoded.Program) (k : ℕ) (l : List ℕ) (x y : Statement) (cs₁ cs₂ : Controls) where
   two_parts : {st : Emit} {room : List ℕ} {ws : List Slot} {r : Emit} {room₁ : List ℕ} {ws₁ : List Slot} {b : Emit} {room₂ : List ℕ} {ws₂ : List Slot} →
       Ready prog st ws →
       Follows (whole (chains_in prog k) x l cs₁ st.next) st room ws r room₁ ws₁ →
@@ -111,11 +112,11 @@ idle_else (step.Either x y) t s h b c = tt
 idle_else (step.Negates x) t s h b c = tt
 
 -- the ways out of `emit_whole`
-pub whole_stopped : {prog : List ℕ} {k : ℕ} (s : State) {room : List ℕ} {ws : List Slot} {i depth : ℕ} {l : List ℕ} {cs : Controls} →
+pub whole_stopped : {prog : decoded.Program} {k : ℕ} (s : State) {room : List ℕ} {ws : List Slot} {i depth : ℕ} {l : List ℕ} {cs : Controls} →
     is_some s.refusal ≡ true → Whole prog k (emit_in s) room ws (emit_in s) room ws i depth l cs
 whole_stopped s {room = room} {ws = ws} h = walks_whole (λ R within. follows_stopped _ (emit_in s) room ws (some_refused s.refusal h))
 
-module _ {prog : List ℕ} {k : ℕ} {st : Emit} {room : List ℕ} {ws : List Slot} {i depth : ℕ} {l : List ℕ} {cs : Controls} where
+module _ {prog : decoded.Program} {k : ℕ} {st : Emit} {room : List ℕ} {ws : List Slot} {i depth : ℕ} {l : List ℕ} {cs : Controls} where
   pub whole_spent : depth ≡ 0 → Whole prog k st room ws st room ws i depth l cs
   whole_spent e = walks_whole (λ R within. follows_as
       (whole_skip (chains_in prog k) l cs st.next (statement_at prog depth i) (spent_skip prog depth i e)) (follows_none st room ws))
