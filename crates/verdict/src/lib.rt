@@ -9,7 +9,7 @@ ghost use Rattle.verdict.specs.VerdictAnswers.{refusal_at, LeavesProgram, checke
 use decoded::{PROGRAM_LENGTH, Program};
 use faults::faults;
 use limits::{
-    ACCESS_FAULT, LEAST_WORKSPACE, MATRIX_LENGTH, MOST_N, NO_REMOVAL, SHORT_WORKSPACE, TOO_WIDE,
+    ACCESS_FAULT, BODY_COUNT, LEAST_WORKSPACE, MOST_N, NO_REMOVAL, SHORT_WORKSPACE, TOO_WIDE,
     WRONG_QUBITS,
 };
 use reach::{any_lacks_removal, fill_reach};
@@ -21,7 +21,7 @@ fn check_program(program: &mut Program, n: u8) -> u8
     ensures value { result ≡ refusal_at program.old program.new n }
     ensures leaves_program { LeavesProgram result program.old program.new }
 {
-    let mut matrix = [0u8; MATRIX_LENGTH];
+    let mut matrix = [0u32; BODY_COUNT];
     fill_reach(program, &mut matrix);
     if any_lacks_removal(program, &matrix) {
         return NO_REMOVAL;
