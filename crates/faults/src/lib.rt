@@ -14,8 +14,8 @@ ghost use Rattle.faults.specs.RowTable.{from_in, rank_in, ranks_in, rank_at};
 ghost use Rattle.faults.specs.RowTable.{filled_row, filled_if, filled_rank, filled_length, filled_asked, filled, faults_at};
 
 use decoded::{Parts, Program, Step, parts_at, procedures, removal_count, root, step_at};
-use limits::{BODIES, BODY_COUNT, LENGTH_COUNT, MATRIX_LENGTH, MOST_DEPTH, MOST_QUBITS, ROW_COUNT};
-use reach::recursive;
+use limits::{BODIES, BODY_COUNT, LENGTH_COUNT, MOST_DEPTH, MOST_QUBITS, ROW_COUNT};
+use reach::{Matrix, recursive};
 use sets::{QubitSet, carried, size};
 use step::{all, chosen, remaining, touched};
 
@@ -154,14 +154,14 @@ fn sums_of(counts: u64) -> u64
 }
 
 // 1 where f reaches x or is x, otherwise 0.
-fn reached(matrix: &[u8; MATRIX_LENGTH], f: u8, x: u8) -> usize
+fn reached(matrix: &Matrix, f: u8, x: u8) -> usize
     ensures { result ≡ digit (from_in matrix.now f x) }
 {
     usize::from(x == f || recursive(matrix, x, f))
 }
 
 // How many of the bodies 0 to p f reaches, itself among them. The rank falls at each call that is not recursive.
-fn rank(matrix: &[u8; MATRIX_LENGTH], f: u8, p: u8) -> usize
+fn rank(matrix: &Matrix, f: u8, p: u8) -> usize
     ensures { result ≡ rank_in matrix.now f p }
 {
     let mut n: usize = 0;
@@ -172,7 +172,7 @@ fn rank(matrix: &[u8; MATRIX_LENGTH], f: u8, p: u8) -> usize
 }
 
 // The ranks of all bodies.
-fn all_ranks(matrix: &[u8; MATRIX_LENGTH], p: u8) -> [usize; BODY_COUNT]
+fn all_ranks(matrix: &Matrix, p: u8) -> [usize; BODY_COUNT]
     ensures { result ≡ ranks_in matrix.now p }
 {
     let mut all = [0; BODY_COUNT];
@@ -208,7 +208,8 @@ fn fill_row(program: &Program, f: u8, m: u8, known: &mut [u64; ROW_COUNT])
     store(known, f, m, row);
 }
 
-// All procedures of rank k, on lists of length m.
+// All procedures of rank k, on lists of length m. Program, ranks and rows stay parameters: each contract on a struct of them would have to say that all but
+// the rows stays as it is.
 fn fill_rank(
     program: &Program,
     k: usize,
@@ -235,7 +236,7 @@ fn fill_length(program: &Program, m: u8, ranks: &[usize; BODY_COUNT], known: &mu
 }
 
 // All procedures, on lists of the lengths 1 to n that calls can lead to, the shortest first: of main's n entries they have removed the others.
-fn fill(program: &Program, n: u8, matrix: &[u8; MATRIX_LENGTH], known: &mut [u64; ROW_COUNT])
+fn fill(program: &Program, n: u8, matrix: &Matrix, known: &mut [u64; ROW_COUNT])
     ensures { known.new ≡ filled program.now (ranks_in matrix.now (procedure_count program.now))
         (sums_in program.now) n n known.old }
 {
@@ -249,7 +250,7 @@ fn fill(program: &Program, n: u8, matrix: &[u8; MATRIX_LENGTH], known: &mut [u64
 }
 
 // Refusal 12: does main fault on n qubits? `matrix` says which procedure reaches which.
-pub fn faults(program: &Program, n: u8, matrix: &[u8; MATRIX_LENGTH]) -> bool
+pub fn faults(program: &Program, n: u8, matrix: &Matrix) -> bool
     ensures { result ≡ faults_at program.now matrix.now n }
 {
     let mut known = [0; ROW_COUNT];

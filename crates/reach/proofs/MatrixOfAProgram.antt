@@ -18,7 +18,7 @@ use Rattle.decoded.specs.declared.Program as decoded
 use Rattle.decoded.specs.DecodedTable.{procedure_count, body_at, program_at}
 use Rattle.reach.specs.Matrix.{closed, reach_table, no_marks}
 use Rattle.reach.specs.CallsInATable.{marked, marked_below}
-use Rattle.reach.proofs.MatrixRelation.{Shows, shows_as, shows_mark, one_more, below_more, not_below, shows_none, shows_closed, shown_digits}
+use Rattle.reach.proofs.MatrixRelation.{Shows, shows_as, shows_mark, one_more, below_more, not_below, shows_none, shows_closed, shown_rows}
 
 both_calls : (a row s t : Bool) → (a || (row && s)) || (row && t) ≡ a || (row && (s || t))
 both_calls true row s t = refl
@@ -91,7 +91,7 @@ module _ (g : decoded.Program) where
   -- marked for every body and closed, the matrix is the table of reach
   pub filled_reach : p ≤ most_procedures → closed (suc p) (marked_below (body_at g) (suc p) no_marks) ≡ reach_table P
   unfolding reach_table
-  filled_reach l = shown_digits (reaches P) (closed (suc p) m)
+  filled_reach l = shown_rows (reaches P) (closed (suc p) m)
       (subst (λ (n : ℕ). Shows (closed (suc p) m) (reaches_below P (suc n))) (sym count_at) (shows_closed P m shown (suc p) (suc-le-suc l)))
     where
       m : List ℕ

@@ -1,116 +1,95 @@
 -- One law for each way out of a function: its premises are the tests passed and what the calls on that way ensure, in the code's order.
-use mathlib.Core.Path.{◌≡◌, refl}
+use mathlib.Core.Path.{◌≡◌, refl, sym, ap, ◌∙◌}
 use mathlib.Core.Bool.{Bool, true, false}
-use mathlib.Core.List.{List}
-use Prim.Native.Nat.{ℕ, suc, ◌+◌, ◌≤◌, ◌<◌}
+use mathlib.Core.List.{List, ◌++◌, map, append-nil}
+use Prim.Native.Nat.{ℕ, suc, ◌+◌, ◌*◌, ◌/◌, ◌%◌, ◌^◌, ◌≤◌, ◌<◌}
 use native.Mathlib.Numerals.{add-one}
 use native.Mathlib.Omega.{arith}
 use borrow.Author.Rules.{rules}
 use borrow.Author.Tests.{lt-ltb, le-ltb}
-use lib.ListN.{get_or, set}
+use lib.Bits.{bit_and, bit_or}
+use lib.ListN.{length, get_or, set, take, drop, length-append, length-map, drop_of_length-le}
+use Rattle.std.proofs.lemmas.List.{take-append-drop}
+use Rattle.std.proofs.lemmas.List.Edits.{map_over_more}
+use Rattle.std.proofs.lemmas.Grind.{get_or_default_zero}
 use lib.Dec.{eqb}
-use Rattle.limits.specs.Sizes.{body_count, matrix_length}
 use Rattle.model.specs.Limits.{most_procedures}
 use Rattle.model.proofs.BooleanLaws.{not_below}
-use Rattle.reach.specs.Matrix.{cell, mark_at, entry, mark, carried, joined, extended, through, closed}
+use Rattle.model.proofs.WordBits.{tested, shifted}
+use Rattle.reach.specs.Matrix.{row_in, has, entry, mark, joined, through, closed}
 
--- a mark is looked for within the matrix only
-pub mark_within : (m : List ℕ) (at : ℕ) → at < matrix_length → eqb (get_or m at 0) 1 ≡ mark_at m at
-unfolding mark_at
-mark_within m at l = rw (lt-ltb at matrix_length l)
+-- is a bit in a row?
+pub has_here : (row g : ℕ) → g ≤ most_procedures → eqb (bit_and (row / 2 ^ g) 1) 1 ≡ has row g
+unfolding has
+has_here row g l = rw (le-ltb most_procedures g l) (tested row g)
 
-pub mark_past : (m : List ℕ) (at : ℕ) → matrix_length ≤ at → false ≡ mark_at m at
-unfolding mark_at
-mark_past m at l = rw (le-ltb at matrix_length l)
+pub has_past : (row g : ℕ) → most_procedures < g → false ≡ has row g
+unfolding has
+has_past row g l = rw (lt-ltb most_procedures g l)
 
--- the matrix's cells
+pub entry_is : (m : List ℕ) (f g row : ℕ) (r : Bool) → row ≡ row_in m f → r ≡ has row g → r ≡ entry m f g
+unfolding entry
+entry_is m f g row r e h = rw (← e) h
+
+-- a mark
 module _ (m : List ℕ) (f g : ℕ) where
-  pub entry_low : most_procedures < f → false ≡ entry m f g
-  unfolding entry
-  entry_low l = rw (lt-ltb most_procedures f l)
-
   pub mark_low : most_procedures < f → m ≡ mark f g m
   unfolding mark
   mark_low l = rw (lt-ltb most_procedures f l)
 
   module _ (lf : f ≤ most_procedures) where
-    pub entry_right : most_procedures < g → false ≡ entry m f g
-    unfolding entry
-    entry_right l = rw (le-ltb most_procedures f lf, lt-ltb most_procedures g l)
-
     pub mark_right : most_procedures < g → m ≡ mark f g m
     unfolding mark
     mark_right l = rw (le-ltb most_procedures f lf, lt-ltb most_procedures g l)
 
-    module _ (lg : g ≤ most_procedures) (at : ℕ) (a : at ≡ cell f g) where
-      pub entry_there : (r : Bool) → r ≡ mark_at m at → r ≡ entry m f g
-      unfolding entry
-      entry_there r e = rw (le-ltb most_procedures f lf, le-ltb most_procedures g lg, ← a) e
+    pub mark_there : g ≤ most_procedures → set m f (bit_or (get_or m f 0) ((1 * 2 ^ g) % 2 ^ 32)) ≡ mark f g m
+    unfolding mark
+    mark_there lg = rw (le-ltb most_procedures f lf, le-ltb most_procedures g lg, shifted 32 g (omega arith))
 
-      pub mark_there : set m at 1 ≡ mark f g m
-      unfolding mark
-      mark_there = rw (le-ltb most_procedures f lf, le-ltb most_procedures g lg, ← a)
-
-module _ (m : List ℕ) (from to : ℕ) where
-  pub carry_past : matrix_length ≤ to → m ≡ carried from to m
-  unfolding carried
-  carry_past l = rw (le-ltb to matrix_length l)
-
-  module _ (l : to < matrix_length) (b : Bool) (e : b ≡ mark_at m from) where
-    pub carry_yes : b ≡ true → set m to 1 ≡ carried from to m
-    unfolding carried
-    carry_yes y = rw (lt-ltb to matrix_length l, ← e, y)
-
-    pub carry_not : b ≡ false → m ≡ carried from to m
-    unfolding carried
-    carry_not n = rw (lt-ltb to matrix_length l, ← e, n)
-
-pub ruleset cells =
-    (rules, mark_within, mark_past, entry_low, entry_right, entry_there, mark_low, mark_right, mark_there, carry_past, carry_yes, carry_not)
-
--- row f gets the marks of row v, column by column
-module _ (m m₀ : List ℕ) (f v g : ℕ) (q : m ≡ joined g f v m₀) where
-  pub join_more : (from to : ℕ) (next : List ℕ) → from ≡ cell v g → to ≡ cell f g → next ≡ carried from to m → next ≡ joined (g + 1) f v m₀
+-- a row that has v, or lacks it
+module _ (v w row : ℕ) (b : Bool) (e : b ≡ has row v) where
+  pub joined_yes : b ≡ true → bit_or row w ≡ joined v w row
   unfolding joined
-  join_more from to next a b e = rw (add-one g, ← q, ← a, ← b) e
+  joined_yes y = rw (← e, y)
 
-  pub join_end : body_count ≤ g → g ≤ body_count → m ≡ joined body_count f v m₀
-  join_end l h = let e : g ≡ body_count = omega arith in rw e at q
+  pub joined_not : b ≡ false → row ≡ joined v w row
+  unfolding joined
+  joined_not n = rw (← e, n)
 
-pub join_start : (m : List ℕ) (f v : ℕ) → m ≡ joined 0 f v m
-unfolding joined
-join_start m f v = refl
+pub ruleset cells = (rules, has_here, has_past, entry_is, mark_low, mark_right, mark_there, joined_yes, joined_not)
 
--- where f reaches v
-module _ (m : List ℕ) (f v at : ℕ) (b : Bool) (a : at ≡ cell f v) (e : b ≡ mark_at m at) where
-  pub extend_yes : (next : List ℕ) → b ≡ true → next ≡ joined body_count f v m → next ≡ extended f v m
-  unfolding extended
-  extend_yes next y j = rw (← a, ← e, y) j
+-- row after row
+pub through_start : (v w : ℕ) (m : List ℕ) → m ≡ map (joined v w) (take 0 m) ++ drop 0 m
+through_start v w m = refl
 
-  pub extend_not : b ≡ false → m ≡ extended f v m
-  unfolding extended
-  extend_not n = rw (← a, ← e, n)
+module _ (v w i n : ℕ) (m now : List ℕ) (long : length m ≡ n) (so : now ≡ map (joined v w) (take i m) ++ drop i m) where
+  same_length : length now ≡ length m
+  same_length =
+      ap length so ∙ length-append (map (joined v w) (take i m)) (drop i m)
+      ∙ ap (λ (k : ℕ). k + length (drop i m)) (length-map (take i m) (joined v w))
+      ∙ sym (length-append (take i m) (drop i m)) ∙ ap length (take-append-drop i m)
 
--- row by row through v
-module _ (m m₀ : List ℕ) (f v : ℕ) (q : m ≡ through f v m₀) where
-  pub through_more : (next : List ℕ) → next ≡ extended f v m → next ≡ through (f + 1) v m₀
+  pub through_more : (y : ℕ) → i < n → y ≡ joined v w (get_or now i 0) → set now i y ≡ map (joined v w) (take (i + 1) m) ++ drop (i + 1) m
+  through_more y l e =
+      let inside : i < length m = rw long l in
+      ap (set now i) e ∙ map_over_more (joined v w) m now i (get_or now i 0) inside so
+      (sym (get_or_default_zero now i (get_or now i 0) (rw same_length inside)))
+
+  pub through_end : n ≤ i → w ≡ row_in m v → now ≡ through v m
   unfolding through
-  through_more next e = rw (add-one f, ← q) e
-
-  pub through_end : body_count ≤ f → f ≤ body_count → m ≡ through body_count v m₀
-  through_end l h = let e : f ≡ body_count = omega arith in rw e at q
-
-pub through_start : (m : List ℕ) (v : ℕ) → m ≡ through 0 v m
-unfolding through
-through_start m v = refl
+  through_end l e =
+      let past : length m ≤ i = rw long l in
+      let whole : take i m ≡ m =
+      sym (append-nil (take i m)) ∙ ap (λ (d : List ℕ). take i m ++ d) (sym (drop_of_length-le m past)) ∙ take-append-drop i m in
+      so ∙ rw (whole, drop_of_length-le m past, append-nil (map (joined v w) m), e)
 
 -- one procedure after the other
 module _ (m m₀ : List ℕ) (v : ℕ) (q : m ≡ closed v m₀) where
-  pub close_more : (next : List ℕ) → next ≡ through body_count v m → next ≡ closed (v + 1) m₀
+  pub close_more : (next : List ℕ) → next ≡ through v m → next ≡ closed (v + 1) m₀
   unfolding closed
   close_more next e = rw (add-one v, ← q) e
 
-  pub close_last : (p : ℕ) (next : List ℕ) → v ≤ p → p ≤ v → next ≡ through body_count v m → next ≡ closed (suc p) m₀
+  pub close_last : (p : ℕ) (next : List ℕ) → v ≤ p → p ≤ v → next ≡ through v m → next ≡ closed (suc p) m₀
   unfolding closed
   close_last p next l h e = let same : p ≡ v = omega arith in rw (same, ← q) e
 
@@ -122,18 +101,4 @@ close_start m = refl
 pub left_never : {A : Type 0} (x y : A) (v p : ℕ) → v ≤ p → p < v → x ≡ y
 left_never x y v p l h = not_below p v l h
 
-pub ruleset rows = (
-  rules,
-  join_more,
-  join_end,
-  join_start,
-  extend_yes,
-  extend_not,
-  through_more,
-  through_end,
-  through_start,
-  close_more,
-  close_last,
-  close_start,
-  left_never,
-)
+pub ruleset rows = (rules, through_start, through_more, through_end, close_more, close_last, close_start, left_never)

@@ -1,73 +1,92 @@
--- What a matrix shows: a relation between bodies, main at 0. Each step on matrices shows what it should: marks, rows joined, rows going
--- through one procedure, and through all of them one after the other, which is reach.
+-- What a matrix shows: a relation between bodies, main at 0. Each step on matrices shows what it should: marks, rows going through one procedure,
+-- and through all of them one after the other, which is reach.
 use mathlib.Core.Path.{◌≡◌, refl, sym, ap, ◌∙◌}
 use mathlib.Core.Logic.{◌≢◌}
-use mathlib.Core.Bool.{Bool, true, false, ◌&&◌, ◌||◌, true≢false, and-true, and-false, or-true, or-false}
-use mathlib.Core.List.{List}
-use Prim.Native.Nat.{ℕ, zero, suc, ◌+◌, ◌/◌, ◌%◌, ◌≤◌, ◌<◌, zero-le, suc-le-suc}
-use native.Mathlib.Nat.{zero-add, div-add-mod, mod-lt, mul-add-div, mul-add-mod_self_left, div-eq_of_lt, mod-eq_of_lt}
+use mathlib.Core.Bool.{Bool, true, false, ◌&&◌, ◌||◌, true≢false, and-false, or-false}
+use mathlib.Core.List.{List, map}
+use Prim.Native.Nat.{ℕ, zero, suc, ◌^◌, ◌≤◌, ◌<◌, suc-le-suc}
+use native.Mathlib.Nat.{zero-add}
 use native.Mathlib.Omega.{arith}
-use borrow.Author.Tests.{lt-ltb, le-ltb, eq-eqb, ne_eqb, eqb-true}
-use lib.ListN.{length, get_or, set, length-set, length-map, length-replicate, get_or-replicate}
+use borrow.Author.Tests.{lt-ltb, le-ltb, eq-eqb, ne_eqb}
+use lib.Bits.{bit_or, or_lt}
+use lib.Pow.{pow-lt}
+use lib.ListN.{length, get_or, get_or-eq_default, get_or-map, set, length-set, length-map, length-replicate, get_or-replicate}
 use lib.Seq.{get_or-set_same, get_or-set_other, ext_get_or}
-use lib.Dec.{eqb, ltb}
-use Rattle.limits.specs.Sizes.{body_count, matrix_length}
+use lib.Dec.{eqb, ltb, lit<}
+use Rattle.limits.specs.Sizes.{body_count}
 use Rattle.model.specs.Limits.{most_procedures}
 use Rattle.model.specs.Lists.{range}
-use Rattle.model.specs.Meaning.{digit}
+use Rattle.model.specs.Meaning.{bit, word_from}
 use Rattle.model.specs.Syntax.{Program, body}
 use Rattle.model.specs.Reach.{calls, reaches_below}
 use Rattle.model.proofs.BooleanLaws.{by_bool, by_eq, by_lt, eqb_same}
-use Rattle.model.proofs.WordBits.{digit_mark}
+use Rattle.model.proofs.WordBits.{zero_bit, word_bit, word_below, word_is}
 use Rattle.model.proofs.ListLaws.{range_length, tabulated}
-use Rattle.reach.specs.Matrix.{cell, mark_at, mark, carried, joined, extended, through, closed, digits_of, no_marks}
+use Rattle.sets.proofs.BitLaws.{or_bit, power_same, power_other}
+use Rattle.reach.specs.Matrix.{row_in, has, entry, mark, joined, through, closed, rows_of, no_marks}
 
--- the matrix is whole, and its byte of row f and column g is the digit of R f g
+-- the matrix is whole, its rows have no bit past the last body, and bit g of row f says R f g
 pub record Shows (m : List ℕ) (R : ℕ → ℕ → Bool) : Type 0 where
-  pub whole : length m ≡ matrix_length
-  pub cells : (f g : ℕ) → f ≤ most_procedures → g ≤ most_procedures → get_or m (cell f g) 0 ≡ digit (R f g)
+  pub whole : length m ≡ body_count
+  pub low : (f : ℕ) → row_in m f < 2 ^ body_count
+  pub cells : (f g : ℕ) → f ≤ most_procedures → g ≤ most_procedures → bit (row_in m f) g ≡ R f g
 
 -- it shows any relation that is the same on the bodies that a table can have
 pub shows_as : (m : List ℕ) (R S : ℕ → ℕ → Bool) → ((f g : ℕ) → f ≤ most_procedures → g ≤ most_procedures → R f g ≡ S f g) → Shows m R → Shows m S
-shows_as m R S e h = record { whole = h.whole; cells = λ f g lf lg. h.cells f g lf lg ∙ ap digit (e f g lf lg) }
+shows_as m R S e h = record { whole = h.whole; low = h.low; cells = λ f g lf lg. h.cells f g lf lg ∙ e f g lf lg }
 
--- a mark stands where the relation holds
-pub shows_mark_at : (m : List ℕ) (R : ℕ → ℕ → Bool) → Shows m R → (f g : ℕ) → f ≤ most_procedures → g ≤ most_procedures → mark_at m (cell f g) ≡ R f g
-unfolding mark_at
-shows_mark_at m R h f g lf lg =
-    let within : cell f g < matrix_length = omega arith in
-    rw (lt-ltb (cell f g) matrix_length within, h.cells f g lf lg) (digit_mark (R f g))
+-- a row has what its bit says
+has_bit : (row g : ℕ) → g ≤ most_procedures → has row g ≡ bit row g
+unfolding has
+has_bit row g l = rw (le-ltb most_procedures g l)
 
--- two cells are one only where row and column are the same
-cell_row : (f g x y : ℕ) → g ≤ most_procedures → y ≤ most_procedures → cell x y ≡ cell f g → x ≡ f
-cell_row f g x y lg ly e = omega arith
+has_none : (g : ℕ) → false ≡ has 0 g
+unfolding has
+has_none g = by_lt most_procedures g
+    (λ o. rw (lt-ltb most_procedures g o))
+    (λ l. rw (le-ltb most_procedures g l) (sym (zero_bit g)))
 
-cell_column : (f g x y : ℕ) → g ≤ most_procedures → y ≤ most_procedures → cell x y ≡ cell f g → y ≡ g
-cell_column f g x y lg ly e = omega arith
+-- an entry is there where the relation holds, and outside the rows and columns there is none
+pub shows_entry : (m : List ℕ) (R : ℕ → ℕ → Bool) → Shows m R → (f g : ℕ) → f ≤ most_procedures → g ≤ most_procedures → entry m f g ≡ R f g
+unfolding entry
+shows_entry m R h f g lf lg = has_bit (row_in m f) g lg ∙ h.cells f g lf lg
 
--- one more cell marked
+pub entry_past_row : (m : List ℕ) (R : ℕ → ℕ → Bool) → Shows m R → (f g : ℕ) → most_procedures < f → false ≡ entry m f g
+unfolding entry
+entry_past_row m R h f g o =
+    let past : length m ≤ f = rw h.whole (omega arith) in
+    has_none g ∙ ap (λ (row : ℕ). has row g) (sym (get_or-eq_default m 0 past))
+
+pub entry_past_column : (m : List ℕ) (f g : ℕ) → most_procedures < g → false ≡ entry m f g
+unfolding entry has
+entry_past_column m f g o = rw (lt-ltb most_procedures g o)
+
+-- one more mark
+power_bit : (g y : ℕ) → bit (2 ^ g) y ≡ eqb g y
+power_bit g y = by_eq g y
+    (λ e. rw (← e, eqb_same g) (power_same g))
+    (λ ne. rw (ne_eqb g y ne) (power_other g y (λ q. ne (sym q))))
+
 module _ (m : List ℕ) (R : ℕ → ℕ → Bool) (h : Shows m R) (f g : ℕ) (lf : f ≤ most_procedures) (lg : g ≤ most_procedures) where
-  shows_set : Shows (set m (cell f g) 1) (λ x y. R x y || (eqb f x && eqb g y))
-  unfolding digit
-  shows_set = record { whole = length-set m (cell f g) 1 ∙ h.whole; cells = at }
-    where
-      within : cell f g < length m
-      within = rw h.whole (omega arith)
+  abbrev more : ℕ
+  more = bit_or (row_in m f) (2 ^ g)
 
-      other : (x y : ℕ) → x ≤ most_procedures → y ≤ most_procedures → cell x y ≢ cell f g → eqb f x && eqb g y ≡ false →
-          get_or (set m (cell f g) 1) (cell x y) 0 ≡ digit (R x y || (eqb f x && eqb g y))
-      other x y lx ly ne differs =
-          rw (differs, or-false (R x y)) (get_or-set_other m (cell f g) (cell x y) 1 0 ne ∙ h.cells x y lx ly)
+  same_row : row_in (set m f more) f ≡ more
+  same_row = get_or-set_same m f more 0 (rw h.whole (omega arith))
 
-      there : (x y : ℕ) → f ≡ x → g ≡ y → get_or (set m (cell f g) 1) (cell x y) 0 ≡ digit (R x y || (eqb f x && eqb g y))
-      there x y e d = rw (← e, ← d, eqb_same f, eqb_same g, or-true (R f g)) (get_or-set_same m (cell f g) 1 0 within)
+  other_row : (x : ℕ) → x ≢ f → row_in (set m f more) x ≡ row_in m x
+  other_row x ne = get_or-set_other m f x more 0 ne
 
-      at : (x y : ℕ) → x ≤ most_procedures → y ≤ most_procedures → get_or (set m (cell f g) 1) (cell x y) 0 ≡ digit (R x y || (eqb f x && eqb g y))
-      at x y lx ly = by_eq f x
-          (λ e. by_eq g y
-          (λ d. there x y e d)
-          (λ ne. other x y lx ly (λ c. ne (sym (cell_column f g x y lg ly c))) (rw (ne_eqb g y ne, and-false (eqb f x)))))
-          (λ ne. other x y lx ly (λ c. ne (sym (cell_row f g x y lg ly c))) (rw (ne_eqb f x ne)))
+  shows_set : Shows (set m f more) (λ x y. R x y || (eqb f x && eqb g y))
+  shows_set = record {
+    whole = length-set m f more ∙ h.whole;
+    low = λ x. by_eq x f
+        (λ e. rw (e, same_row) (or_lt body_count (row_in m f) (2 ^ g) (h.low f) (pow-lt (suc-le-suc lg))))
+        (λ ne. rw (other_row x ne) (h.low x));
+    cells = λ x y lx ly. by_eq f x
+        (λ e. rw (← e, same_row, or_bit (row_in m f) (2 ^ g) y, h.cells f y lf ly, power_bit g y, eqb_same f))
+        (λ ne. rw (other_row x (λ q. ne (sym q)), ne_eqb f x ne, or-false (R x y)) (h.cells x y lx ly));
+  }
 
 -- a mark at row f, column g: a matrix has none outside its rows and columns
 pub shows_mark : (m : List ℕ) (R : ℕ → ℕ → Bool) (f g : ℕ) → Shows m R → Shows (mark f g m) (λ x y. R x y || (eqb f x && eqb g y))
@@ -91,17 +110,6 @@ below_more y g = by_lt y g
 pub not_below : (n : ℕ) → ltb n n ≡ false
 not_below n = le-ltb n n (omega arith)
 
--- a mark carried from row v to row f
-module _ (m : List ℕ) (R : ℕ → ℕ → Bool) (h : Shows m R) (f v g : ℕ) (lf : f ≤ most_procedures) (lv : v ≤ most_procedures) (lg : g ≤ most_procedures) where
-  shows_carried : Shows (carried (cell v g) (cell f g) m) (λ x y. R x y || (eqb f x && (eqb g y && R v g)))
-  unfolding carried
-  shows_carried = let within : cell f g < matrix_length = omega arith in
-      rw (lt-ltb (cell f g) matrix_length within, shows_mark_at m R h v g lv lg) (by_bool (R v g)
-      (λ e. rw e (shows_as (set m (cell f g) 1) (λ x y. R x y || (eqb f x && eqb g y)) (λ x y. R x y || (eqb f x && (eqb g y && true)))
-      (λ x y lx ly. rw (and-true (eqb g y))) (shows_set m R h f g lf lg)))
-      (λ e. rw e (shows_as m R (λ x y. R x y || (eqb f x && (eqb g y && false)))
-      (λ x y lx ly. rw (and-false (eqb g y), and-false (eqb f x), or-false (R x y))) h)))
-
 -- a step at one number more: what holds below it, in `row`, is joined by what holds at it
 pub one_more : (a row below at r s : Bool) → (at ≡ true → (below ≡ false) × (s ≡ r)) →
     (a || (row && (below && r))) || (row && (at && s)) ≡ a || (row && ((below || at) && r))
@@ -113,102 +121,82 @@ one_more false true true false false s h = refl
 one_more false true false true r s h = (h refl).1
 one_more false true false false r s h = refl
 
-absorbed : (c d r : Bool) → r || (c && (d && r)) ≡ r
-absorbed c d true = refl
-absorbed true true false = refl
-absorbed true false false = refl
-absorbed false d false = refl
+-- all rows go through v
+module _ (m : List ℕ) (R : ℕ → ℕ → Bool) (h : Shows m R) (v : ℕ) (lv : v ≤ most_procedures) where
+  abbrev of_v : ℕ
+  of_v = row_in m v
 
--- row f gets the marks of row v in columns below n
-shows_joined : (m : List ℕ) (R : ℕ → ℕ → Bool) → Shows m R → (f v : ℕ) → f ≤ most_procedures → v ≤ most_procedures → (n : ℕ) → n ≤ body_count →
-    Shows (joined n f v m) (λ x y. R x y || (eqb f x && (ltb y n && R v y)))
-unfolding joined
-shows_joined m R h f v lf lv zero l = shows_as m R (λ x y. R x y || (eqb f x && (ltb y 0 && R v y)))
-    (λ x y lx ly. rw (le-ltb y 0 zero-le, and-false (eqb f x), or-false (R x y))) h
-shows_joined m R h f v lf lv (suc g) l =
-    shows_as (joined (suc g) f v m) (λ x y. S x y || (eqb f x && (eqb g y && S v g))) (λ x y. R x y || (eqb f x && (ltb y (suc g) && R v y)))
-    (λ x y lx ly. rw (below_more y g) (one_more (R x y) (eqb f x) (ltb y g) (eqb g y) (R v y) (S v g) (at x y)))
-    (shows_carried (joined g f v m) S (shows_joined m R h f v lf lv g (omega arith)) f v g lf lv (omega arith))
-  where
-    S : ℕ → ℕ → Bool
-    S x y = R x y || (eqb f x && (ltb y g && R v y))
+  joined_none : joined v of_v 0 ≡ 0
+  unfolding joined
+  joined_none = rw (← has_none v)
 
-    at : (x y : ℕ) → eqb g y ≡ true → (ltb y g ≡ false) × (S v g ≡ R v y)
-    at x y e = rw (← eqb-true g y e) (not_below g, rw (not_below g, and-false (eqb f v), or-false (R v g)))
+  row_through : (x : ℕ) → row_in (through v m) x ≡ joined v of_v (row_in m x)
+  unfolding through
+  row_through x =
+      ap (λ (d : ℕ). get_or (map (joined v of_v) m) x d) (sym joined_none) ∙ get_or-map (joined v of_v) m x 0
 
--- where f reaches v, it reaches what v reaches
-shows_extended : (m : List ℕ) (R : ℕ → ℕ → Bool) → Shows m R → (f v : ℕ) → f ≤ most_procedures → v ≤ most_procedures →
-    Shows (extended f v m) (λ x y. R x y || (eqb f x && (R f v && R v y)))
-unfolding extended
-shows_extended m R h f v lf lv = rw (shows_mark_at m R h f v lf lv) (by_bool (R f v)
-    (λ e. rw e (shows_as (joined body_count f v m) (λ x y. R x y || (eqb f x && (ltb y body_count && R v y))) (λ x y. R x y || (eqb f x && R v y))
-    (λ x y lx ly. rw (lt-ltb y body_count (suc-le-suc ly))) (shows_joined m R h f v lf lv body_count (omega arith))))
-    (λ e. rw e (shows_as m R (λ x y. R x y || (eqb f x && false)) (λ x y lx ly. rw (and-false (eqb f x), or-false (R x y))) h)))
+  joined_low : (row : ℕ) → row < 2 ^ body_count → joined v of_v row < 2 ^ body_count
+  unfolding joined
+  joined_low row l = by_bool (has row v)
+      (λ e. rw e (or_lt body_count row of_v l (h.low v)))
+      (λ e. rw e l)
 
--- the rows below n go through v: neither row v nor column v changes on the way
-shows_through : (m : List ℕ) (R : ℕ → ℕ → Bool) → Shows m R → (v : ℕ) → v ≤ most_procedures → (n : ℕ) → n ≤ body_count →
-    Shows (through n v m) (λ x y. R x y || (ltb x n && (R x v && R v y)))
-unfolding through
-shows_through m R h v lv zero l = shows_as m R (λ x y. R x y || (ltb x 0 && (R x v && R v y)))
-    (λ x y lx ly. rw (le-ltb x 0 zero-le, or-false (R x y))) h
-shows_through m R h v lv (suc k) l =
-    shows_as (through (suc k) v m) (λ x y. S x y || (eqb k x && (S k v && S v y))) (λ x y. R x y || (ltb x (suc k) && (R x v && R v y)))
-    (λ x y lx ly. rw (below_more x k) (one_more (R x y) true (ltb x k) (eqb k x) (R x v && R v y) (S k v && S v y) (at x y)))
-    (shows_extended (through k v m) S (shows_through m R h v lv k (omega arith)) k v (omega arith) lv)
-  where
-    S : ℕ → ℕ → Bool
-    S x y = R x y || (ltb x k && (R x v && R v y))
+  joined_bit : (row y : ℕ) → bit (joined v of_v row) y ≡ bit row y || (bit row v && bit of_v y)
+  unfolding joined
+  joined_bit row y = rw (has_bit row v lv) (by_bool (bit row v)
+      (λ e. rw e (or_bit row of_v y))
+      (λ e. rw (e, or-false (bit row y))))
 
-    at : (x y : ℕ) → eqb k x ≡ true → (ltb x k ≡ false) × (S k v && S v y ≡ R x v && R v y)
-    at x y e = rw (← eqb-true k x e) (not_below k, rw (not_below k, or-false (R k v), absorbed (ltb v k) (R v v) (R v y)))
+  through_long : length (through v m) ≡ length m
+  unfolding through
+  through_long = length-map m (joined v of_v)
+
+  shows_through : Shows (through v m) (λ x y. R x y || (R x v && R v y))
+  shows_through = record {
+    whole = through_long ∙ h.whole;
+    low = λ x. rw (row_through x) (joined_low (row_in m x) (h.low x));
+    cells = λ x y lx ly. rw (row_through x, joined_bit (row_in m x) y, h.cells x y lx ly, h.cells x v lx lv, h.cells v y lv ly);
+  }
 
 -- all rows through each procedure below n: from the calls of bodies to the reach through procedures below n
 pub shows_closed : (P : Program) (m : List ℕ) → Shows m (λ f g. calls (body P f) g) → (n : ℕ) → n ≤ body_count → Shows (closed n m) (reaches_below P n)
 unfolding closed reaches_below
 shows_closed P m h zero l = h
-shows_closed P m h (suc v) l =
-    shows_as (closed (suc v) m) (λ x y. R x y || (ltb x body_count && (R x v && R v y))) (reaches_below P (suc v))
-    (λ x y lx ly. rw (lt-ltb x body_count (suc-le-suc lx)))
-    (shows_through (closed v m) R (shows_closed P m h v (omega arith)) v (omega arith) body_count (omega arith))
-  where
-    R : ℕ → ℕ → Bool
-    R = reaches_below P v
+shows_closed P m h (suc v) l = shows_through (closed v m) (reaches_below P v) (shows_closed P m h v (omega arith)) v (omega arith)
 
 -- a matrix without a mark
+no_row : (f : ℕ) → row_in no_marks f ≡ 0
+no_row f = by_lt f body_count
+    (λ l. get_or-replicate {A = ℕ} body_count f 0 0 l)
+    (λ g. get_or-eq_default no_marks 0 {n = f} (rw (length-replicate {A = ℕ} body_count 0) g))
+
 pub shows_none : Shows no_marks (λ f g. false)
-unfolding digit
 shows_none = record {
-  whole = length-replicate {A = ℕ} matrix_length 0;
-  cells = λ f g lf lg. let within : cell f g < matrix_length = omega arith in get_or-replicate {A = ℕ} matrix_length (cell f g) 0 0 within;
+  whole = length-replicate {A = ℕ} body_count 0;
+  low = λ f. rw (no_row f) (lit< tt);
+  cells = λ f g lf lg. rw (no_row f) (zero_bit g);
 }
 
 module _ (R : ℕ → ℕ → Bool) where
-  digits_length : length (digits_of R) ≡ matrix_length
-  digits_length = length-map (range matrix_length 0) (λ k. digit (R (k / body_count) (k % body_count))) ∙ range_length matrix_length 0
+  rows_length : length (rows_of R) ≡ body_count
+  rows_length = length-map (range body_count 0) (λ f. word_from body_count 0 (R f)) ∙ range_length body_count 0
 
-  digit_at : (k f g : ℕ) → k < matrix_length → k / body_count ≡ f → k % body_count ≡ g → get_or (digits_of R) k 0 ≡ digit (R f g)
-  digit_at k f g l row column =
-      tabulated (λ i. digit (R (i / body_count) (i % body_count))) 0 matrix_length 0 k l ∙ rw (zero-add k, row, column)
+  row_of_at : (f : ℕ) → f < body_count → row_in (rows_of R) f ≡ word_from body_count 0 (R f)
+  row_of_at f l = tabulated (λ i. word_from body_count 0 (R i)) 0 body_count 0 f l ∙ ap (λ (i : ℕ). word_from body_count 0 (R i)) (zero-add f)
 
-  -- the row of a relation's digits shows it
-  pub digits_shown : Shows (digits_of R) R
-  digits_shown = record { whole = digits_length; cells = at }
-    where
-      at : (f g : ℕ) → f ≤ most_procedures → g ≤ most_procedures → get_or (digits_of R) (cell f g) 0 ≡ digit (R f g)
-      at f g lf lg =
-          let over : g / body_count ≡ 0 = div-eq_of_lt (suc-le-suc lg) in
-          let row : cell f g / body_count ≡ f + g / body_count = mul-add-div (suc-le-suc zero-le) f g in
-          digit_at (cell f g) f g (omega arith) (omega arith) (mul-add-mod_self_left body_count f g ∙ mod-eq_of_lt (suc-le-suc lg))
+  -- the rows of a relation show it
+  pub rows_shown : Shows (rows_of R) R
+  rows_shown = record {
+    whole = rows_length;
+    low = λ f. by_lt f body_count
+        (λ l. rw (row_of_at f l) (word_below body_count 0 (R f)))
+        (λ g. rw (get_or-eq_default (rows_of R) 0 {n = f} (rw rows_length g)) (lit< tt));
+    cells = λ f g lf lg. rw (row_of_at f (suc-le-suc lf)) (word_bit body_count 0 (R f) g (suc-le-suc lg) ∙ ap (R f) (zero-add g));
+  }
 
-  -- and a matrix that shows it is that row
-  pub shown_digits : (m : List ℕ) → Shows m R → m ≡ digits_of R
-  shown_digits m h = ext_get_or 0 m (digits_of R) (h.whole ∙ sym digits_length) at
-    where
-      at : (k : ℕ) → k < length m → get_or m k 0 ≡ get_or (digits_of R) k 0
-      at k l =
-          let below : k < matrix_length = rw h.whole at l in
-          let column : k % body_count < body_count = mod-lt k (suc-le-suc zero-le) in
-          let split : cell (k / body_count) (k % body_count) ≡ k = div-add-mod k body_count in
-          let row : k / body_count ≤ most_procedures = omega arith in
-          ap (λ (i : ℕ). get_or m i 0) (sym split) ∙ h.cells (k / body_count) (k % body_count) row (omega arith)
-          ∙ sym (digit_at k (k / body_count) (k % body_count) below refl refl)
+  -- and a matrix that shows it is those rows
+  pub shown_rows : (m : List ℕ) → Shows m R → m ≡ rows_of R
+  shown_rows m h = ext_get_or 0 m (rows_of R) (h.whole ∙ sym rows_length) (λ f l.
+      let inside : f < body_count = rw h.whole at l in
+      sym (row_of_at f inside ∙ word_is body_count 0 (R f) (row_in m f) (h.low f)
+      (λ k lk. ap (R f) (zero-add k) ∙ sym (h.cells f k (omega arith) (omega arith)))))

@@ -4,7 +4,7 @@ use mathlib.Core.Bool.{Bool, true, false}
 use mathlib.Core.List.{List}
 use Prim.Native.Nat.{ℕ, suc, ◌≤◌}
 use native.Mathlib.Nat.{le_trans, le_of_suc-le-suc, lt_irrefl, lt_of_le_of_lt}
-use borrow.Author.Tests.{lt-ltb, le-ltb}
+use borrow.Author.Tests.{le-ltb}
 use Rattle.model.specs.Limits.{most_procedures}
 use Rattle.model.specs.Syntax.{Program, Statement, count, body}
 use Rattle.model.specs.Reach.{calls, Reaches, direct, onward, reaches, recursive, lacks_removal, any_below, any_lacks_removal}
@@ -12,9 +12,9 @@ use Rattle.model.proofs.BooleanLaws.{by_lt, clash, not_true_false, any_same}
 use Rattle.model.proofs.ReachAndRank.{Named, body_out, reach_sound, reached_named}
 use Rattle.decoded.specs.declared.Program as decoded
 use Rattle.decoded.specs.DecodedTable.{procedure_count, body_at, program_at}
-use Rattle.reach.specs.Matrix.{entry, recursive_in, digits_of, reach_table}
+use Rattle.reach.specs.Matrix.{entry, recursive_in, rows_of, reach_table}
 use Rattle.reach.specs.CallsInATable.{reach_at, lacks_in, any_lacks_in}
-use Rattle.reach.proofs.MatrixRelation.{shows_mark_at, digits_shown}
+use Rattle.reach.proofs.MatrixRelation.{shows_entry, entry_past_row, entry_past_column, rows_shown}
 use Rattle.reach.proofs.MatrixOfAProgram.{count_at, body_at_lem}
 
 -- what calls something has a body, and so has what reaches something
@@ -47,12 +47,12 @@ module _ (g : decoded.Program) (l : procedure_count g ≤ most_procedures) (name
 
   -- its entry of row f and column g says whether f reaches g
   pub reach_entry : (f h : ℕ) → entry (reach_at g) f h ≡ reaches P f h
-  unfolding entry reach_table
+  unfolding reach_table
   reach_entry f h = rw reach_table_lem (by_lt most_procedures f
-      (λ o. rw (lt-ltb most_procedures f o) (outside f h (λ lf lg. lt_irrefl f (lt_of_le_of_lt lf o))))
-      (λ lf. rw (le-ltb most_procedures f lf) (by_lt most_procedures h
-      (λ o. rw (lt-ltb most_procedures h o) (outside f h (λ lf lg. lt_irrefl h (lt_of_le_of_lt lg o))))
-      (λ lg. rw (le-ltb most_procedures h lg) (shows_mark_at (digits_of (reaches P)) (reaches P) (digits_shown (reaches P)) f h lf lg)))))
+      (λ o. sym (entry_past_row (rows_of (reaches P)) (reaches P) (rows_shown (reaches P)) f h o) ∙ outside f h (λ lf lg. lt_irrefl f (lt_of_le_of_lt lf o)))
+      (λ lf. by_lt most_procedures h
+      (λ o. sym (entry_past_column (rows_of (reaches P)) f h o) ∙ outside f h (λ lf lg. lt_irrefl h (lt_of_le_of_lt lg o)))
+      (λ lg. shows_entry (rows_of (reaches P)) (reaches P) (rows_shown (reaches P)) f h lf lg)))
 
   -- a call from f is recursive by the matrix where it is
   pub recursive_entry : (f : ℕ) → recursive_in (reach_at g) f ≡ recursive P f

@@ -12,7 +12,7 @@ ghost use Rattle.verdict.specs.VerdictAnswers.{refusal_at, LeavesProgram, checke
 
 use decoded::{PROGRAM_LENGTH, Program};
 use faults::faults;
-use limits::{LEAST_WORKSPACE, MATRIX_LENGTH, MOST_N, Refusal};
+use limits::{BODY_COUNT, LEAST_WORKSPACE, MOST_N, Refusal};
 use reach::{any_lacks_removal, fill_reach};
 use table::{Table, read_table};
 use widths::any_too_wide;
@@ -22,7 +22,7 @@ fn check_program(program: &mut Program, n: u8) -> Result<(), Refusal>
     ensures value { result ≡ refusal_at program.old program.new n }
     ensures leaves_program { LeavesProgram result program.old program.new }
 {
-    let mut matrix = [0u8; MATRIX_LENGTH];
+    let mut matrix = [0u32; BODY_COUNT];
     fill_reach(program, &mut matrix);
     if any_lacks_removal(program, &matrix) {
         return Err(Refusal::NoRemoval);

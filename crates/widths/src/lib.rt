@@ -8,8 +8,8 @@ ghost use Rattle.widths.specs.KeptWidths.{joined_width, Noted, Judged};
 
 use decoded::write::note_width;
 use decoded::{Parts, Program, parts_at, procedures, root};
-use limits::{MATRIX_LENGTH, MOST_DEPTH};
-use reach::recursive;
+use limits::MOST_DEPTH;
+use reach::{Matrix, recursive};
 
 // The width of two statements: in turn the sum, of which more than 2 is no more than 2; of which one is chosen the larger.
 fn joined(in_turn: bool, first: u8, second: u8) -> u8
@@ -24,7 +24,7 @@ fn joined(in_turn: bool, first: u8, second: u8) -> u8
 
 // "Width: skip and NOT 0, sequence the sum, if and qcase the larger, recursive call 1, other call 0": of the statement at record i, in the body of f. The widths of
 // all statements in it are kept. More than 2 is given as 2.
-fn note_widths(program: &mut Program, i: u32, depth: u8, f: u8, matrix: &[u8; MATRIX_LENGTH]) -> u8
+fn note_widths(program: &mut Program, i: u32, depth: u8, f: u8, matrix: &Matrix) -> u8
     ensures { Noted (recursive_in matrix.now f) depth i program.old result program.new }
 {
     if depth == 0 {
@@ -52,7 +52,7 @@ fn note_widths(program: &mut Program, i: u32, depth: u8, f: u8, matrix: &[u8; MA
 }
 
 // Refusal 11: is one of the bodies too wide? Up to the first that is, the widths of all their statements are kept; where none is, all of them.
-pub fn any_too_wide(program: &mut Program, matrix: &[u8; MATRIX_LENGTH]) -> bool
+pub fn any_too_wide(program: &mut Program, matrix: &Matrix) -> bool
     ensures { Judged matrix.now program.old (suc (procedure_count program.old)) result program.new }
 {
     for f in 0..=procedures(program) {

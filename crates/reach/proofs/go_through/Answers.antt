@@ -1,9 +1,9 @@
--- `go_through` meets its contract.
+-- `go_through` meets its contract: each row is joined with the row of v.
 use Rattle.reach.proofs.MatrixOperations.{rows}
 use Rattle.reach.proofs.go_through.Goals as goal
 
-pub loop-f-init : goal.loop-f-init
-loop-f-init c = search rows
+pub loop-row-preserved : goal.loop-row-preserved
+loop-row-preserved c = search rows
 
-pub loop-f-preserved : goal.loop-f-preserved
-loop-f-preserved c = search rows
+pub returns : goal.returns
+returns c = search rows
