@@ -1,5 +1,5 @@
 // "Emission" in code: one walk over the program places the gates. A walker is lent where its statement stands (its list, and the controls in force), the room for the
-// circuit's bytes, the slots of the ancillas, and where the emission is.
+// circuit's bytes, and the emission. The program is no field of that struct: each walker would have to promise that it stays. So the right part has eight parameters.
 #![tactic(auto)]
 
 ghost use Rattle.std.specs.Prelude.{◌≡◌};

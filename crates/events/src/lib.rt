@@ -199,7 +199,7 @@ impl Slot {
     }
 }
 
-// An invocation is put into the slot of its ancilla.
+// An invocation is put into the slot of its ancilla. By index: of what `get_mut` lends out of an array, the proof does not know what comes back.
 fn fill_slot(slots: &mut Slots, a: u16, f: u8, list: QubitSet)
     ensures { slots.new ≡ filled slots.old a f list }
 {
@@ -225,20 +225,21 @@ pub fn seek(slots: &Slots, base: u16, last: u32, upto: u16) -> Option<u16>
     ensures { MatchOption result (NoneWaits slots.now base last upto) (λ d. NextSlot slots.now base last upto d) }
 {
     let mut greatest = 255;
-    let mut best = None;
+    // no Option in the loop: it would be one more test for each slot
+    let mut best = upto;
     for a in base..upto {
         let number = slot_in(slots, a).precedence;
-        let waits = number < last;
-        let more = greatest < number;
-        if waits && more {
-            greatest = number;
-            best = Some(a);
+        if number < last {
+            if greatest < number {
+                greatest = number;
+                best = a;
+            }
         }
     }
-    best
+    (best < upto).then_some(best)
 }
 
-// Swaps of pairs of wires under an ancilla, in order or reversed.
+// Swaps of pairs of wires under an ancilla, in order or reversed. Two loops, here and below: a function over any iterator would have to be told which pairs it gives.
 fn emit_swaps(e: u8, pairs: &[(u8, u8)], reversed: bool, room: &mut [u8], state: &mut State)
     ensures { progress (emit_in state.new) room.new ≡
         scan (turned reversed (swaps_along e pairs.now)) (progress (emit_in state.old) room.old) }
