@@ -13,7 +13,7 @@ ghost use Rattle.bands.specs.Starts.{drawn_from, started};
 
 use answers::PageBand;
 use circuit::read_whole;
-use limits::{BAND_GATES, HEADER_LENGTH, MOST_CIRCUIT, NOT_WELL_FORMED, WIRE_COUNT};
+use limits::{BAND_GATES, HEADER_LENGTH, MOST_CIRCUIT, Refusal, WIRE_COUNT};
 use marks::{Column, mark_band};
 use text::Writer;
 
@@ -90,7 +90,7 @@ fn refused() -> PageBand
     ensures { result ≡ refused_band not_well_formed }
 {
     PageBand {
-        number: NOT_WELL_FORMED as u32,
+        number: u32::from(Refusal::NotWellFormed),
         length: 0,
         next: 0,
     }
