@@ -85,7 +85,7 @@ fn put_rows(writer: &mut Writer<'_>, columns: &[Column], most: u8)
     }
 }
 
-// "14 alone where it is not well formed"
+// "14 alone where it is not well formed". PageBand is C's, so a refusal is a number there.
 fn refused() -> PageBand
     ensures { result ≡ refused_band not_well_formed }
 {
@@ -106,7 +106,7 @@ fn put_band(text: &mut [u8], size: usize, columns: &[Column], most: u8)
     }
 }
 
-// Where the next band begins: 0 where no byte is left.
+// Where the next band begins: 0 where no byte is left, as PageBand says it in C.
 fn next_place(bytes: &[u8], left: &[u8]) -> usize
     ensures { result ≡ place_of bytes.now (input_of left.now) }
 {
