@@ -13,7 +13,7 @@ ghost use Rattle.bands.specs.Starts.{drawn_from, started};
 
 use answers::PageBand;
 use circuit::read_whole;
-use limits::{BAND_GATES, HEADER_LENGTH, MOST_CIRCUIT, NOT_WELL_FORMED, WIRE_COUNT};
+use limits::{BAND_GATES, HEADER_LENGTH, MOST_CIRCUIT, Refusal, WIRE_COUNT};
 use marks::{Column, mark_band};
 use text::Writer;
 
@@ -85,12 +85,12 @@ fn put_rows(writer: &mut Writer<'_>, columns: &[Column], most: u8)
     }
 }
 
-// "14 alone where it is not well formed"
+// "14 alone where it is not well formed". PageBand is C's, so a refusal is a number there.
 fn refused() -> PageBand
     ensures { result ≡ refused_band not_well_formed }
 {
     PageBand {
-        number: NOT_WELL_FORMED as u32,
+        number: u32::from(Refusal::NotWellFormed),
         length: 0,
         next: 0,
     }
@@ -106,7 +106,7 @@ fn put_band(text: &mut [u8], size: usize, columns: &[Column], most: u8)
     }
 }
 
-// Where the next band begins: 0 where no byte is left.
+// Where the next band begins: 0 where no byte is left, as PageBand says it in C.
 fn next_place(bytes: &[u8], left: &[u8]) -> usize
     ensures { result ≡ place_of bytes.now (input_of left.now) }
 {

@@ -45,7 +45,8 @@ fn put_part(text: &mut [u8; MOST_BAND], input: &[u8], at: usize) -> Part
     }
 }
 
-// The same for an input of which the program read as much as the buffer takes: the buffer is long enough, whatever was left unread.
+// The same for an input of which the program read as much as the buffer takes: the buffer is long enough, whatever was left unread. That is said of the
+// buffer's length, so this takes the buffer with a count, and no part of it.
 fn put_part_read(
     text: &mut [u8; MOST_BAND],
     buffer: &[u8; INPUT_LENGTH],
@@ -61,7 +62,8 @@ fn put_part_read(
     put_part(text, &buffer[..count.min(INPUT_LENGTH)], at)
 }
 
-// The page of what can be read from an input, band by band. A place is above the one before it, or 0, which ends the page.
+// The page of what can be read from an input, band by band. A place is above the one before it, or 0, which ends the page; each band says where the next
+// begins, so no `for` could count the places.
 fn print_page(rt: &(impl Print + Eprint + AllocGlobal), input: &mut impl Read) {
     let mut buffer = [0u8; INPUT_LENGTH];
     let mut text = [0u8; MOST_BAND];
