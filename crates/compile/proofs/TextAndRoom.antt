@@ -8,7 +8,10 @@ use borrow.Author.Rules.{rules}
 use borrow.Author.Tests.{le-leb, lt-leb, le-ltb}
 use lib.ListN.{length, get_or, set, take, drop, replicate, length-append, length-take, length-replicate, get_or-replicate, get_or-eq_default}
 use lib.Seq.{sets, sets-eq, length-sets, length-take-le, take-append-add, take-take, take-add, take_at, drop_at, get_or-take}
-use Rattle.limits.specs.Sizes.{slots_length}
+use Rattle.std.specs.Prelude.{Option, Some, None, is_some}
+use Rattle.limits.specs.declared.Refusal.{Refusal}
+use Rattle.limits.specs.Refusals.{number_of}
+use Rattle.limits.specs.Sizes.{wire_count}
 use Rattle.model.specs.Limits.{most_wires, most_qubits, most_circuit, header_length, no_room}
 use Rattle.model.specs.Syntax.{Program}
 use Rattle.model.specs.Emission.{emission, gates, peak}
@@ -21,9 +24,10 @@ use Rattle.agreement.proofs.FirstMisfit.{fits_wires}
 use Rattle.circuit.specs.GatesToWrite.{header_bytes}
 use Rattle.sets.proofs.Members.{members_empty}
 use Rattle.decoded.specs.DecodedTable.{program_at}
-use Rattle.events.specs.Scan.{Emit, Tallied, slot_at, slot_list, Progress, progress, emit_of, room_of, emission_end, wire_of}
+use Rattle.events.specs.declared.Slot.{Slot}
+use Rattle.events.specs.Scan.{Emit, refusal_number, Tallied, slot_in, Progress, progress, emit_of, room_of, emission_end, wire_of}
 use Rattle.events.proofs.ScanOfEvents.{emission_status, emission_ends, emission_within}
-use Rattle.events.proofs.GatesAndSlots.{Storing, storing_starts, storing_next, stored_all, stored_full}
+use Rattle.events.proofs.GatesAndSlots.{some_refused, Storing, storing_starts, storing_next, stored_all, stored_full}
 use Rattle.emit.specs.WalkPromises.{Checked, Emits}
 use Rattle.emit.proofs.EmissionOfMain.{use_main}
 use Rattle.compile.specs.EmissionAnswer.{EmitsText, into_text, delivered, Compiles, walks_once, emission_answer, compiled_of}
@@ -116,9 +120,9 @@ given_answer P n room header e = rw (le-leb header_length (usable (length room))
 
 -- an emission into a text, of which as much is used as the room has of use: its number is that of the definitions, and where that is 0 the circuit
 -- stands in the text
-module _ {prog : List ℕ} {n : ℕ} (room text : List ℕ) {slots : List ℕ} {a : Emit} (text₁ : List ℕ) {slots₁ : List ℕ} (long : length text ≡ most_circuit)
+module _ {prog : List ℕ} {n : ℕ} (room text : List ℕ) {slots : List Slot} {a : Emit} (text₁ : List ℕ) {slots₁ : List Slot} (long : length text ≡ most_circuit)
     (A : Emits prog n (take (usable (length room)) text) slots a (take (usable (length room)) text₁) slots₁)
-    (checked : Checked prog) (small : n ≤ most_qubits) (space : slots_length ≤ length slots) (tallied : Tallied n slots)
+    (checked : Checked prog) (small : n ≤ most_qubits) (space : wire_count ≤ length slots) (tallied : Tallied n slots)
     (header : header_length ≤ usable (length room)) where
   abbrev P : Program
   P = program_at prog
@@ -202,12 +206,12 @@ module _ (text : List ℕ) (used : ℕ) (room₀ room : List ℕ) (count i : ℕ
 pub ruleset copying = (rules, storing_starts, copy_next, copy_ends)
 
 -- the way out of `put_circuit`
-pub circuit_put : (n : ℕ) (st : Emit) (text room : List ℕ) (h a g u : ℕ) (text₁ room₁ : List ℕ) → h ≡ st.highest → a ≡ wire_of (h - n) → g ≡ st.gates →
-    text₁ ≡ sets text 0 (header_bytes n a g) → u ≡ st.used → room₁ ≡ sets room 0 (take u text₁) → room₁ ≡ delivered n st text room
-circuit_put n st text room h a g u text₁ room₁ high low count put end copied = rw (copied, put, low, high, count, end)
+pub circuit_put : (n : ℕ) (st : Emit) (text room : List ℕ) (a : ℕ) (text₁ room₁ : List ℕ) → a ≡ wire_of (st.highest - n) →
+    text₁ ≡ sets text 0 (header_bytes n a st.gates) → room₁ ≡ sets room 0 (take st.used text₁) → room₁ ≡ delivered n st text room
+circuit_put n st text room a text₁ room₁ low put copied = rw (copied, put, low)
 
 -- the way out of `emit_front`: what was lent comes back at its place
-pub front_emitted : {prog : List ℕ} {n : ℕ} (end : ℕ) (text : List ℕ) {slots : List ℕ} {a : Emit} (back rest : List ℕ) {slots₁ : List ℕ} →
+pub front_emitted : {prog : List ℕ} {n : ℕ} (end : ℕ) (text : List ℕ) {slots : List Slot} {a : Emit} (back rest : List ℕ) {slots₁ : List Slot} →
     end ≤ length text → length back ≡ length (take (end - 0) text) → Emits prog n (take (end - 0) text) slots a back slots₁ →
     Emits prog n (take end text) slots a (take end (back ++ rest)) slots₁
 front_emitted end text back rest h same A =
@@ -215,28 +219,28 @@ front_emitted end text back rest h same A =
     let long : length back ≡ end = same ∙ ap (λ (v : ℕ). length (take v text)) none ∙ length-take-le end text h in
     rw (take_at back rest end long) (rw none at A)
 
--- slots that are all zero have the lengths of their lists, which are empty
-none_tallied : (n k : ℕ) → Tallied n (replicate k 0)
+-- slots of no calls have the lengths of their lists, which are empty
+abbrev no_call : Slot
+no_call = record { precedence = 0; list = 0 }
+
+none_tallied : (n k : ℕ) → Tallied n (replicate k no_call)
 none_tallied n k = record {
-  lengths = λ a. rw (zeros (slot_at a), empty a);
-  within = λ a w m. not_in_nil w (rw (empty a) at m);
+  lengths = λ a. rw (none a, members_empty);
+  within = λ a w m. not_in_nil w (rw (none a, members_empty) at m);
 }
   where
-    zeros : (i : ℕ) → ◌≡◌ {A = ℕ} (get_or (replicate k 0) i 0) 0
-    zeros i = by_lt i k
-        (λ lt. get_or-replicate {A = ℕ} k i 0 0 lt)
-        (λ ge. get_or-eq_default (replicate k 0) 0 (rw (length-replicate {A = ℕ} k 0) ge))
-
-    empty : (a : ℕ) → slot_list (replicate k 0) a ≡ []
-    empty a = rw (zeros (slot_at a + 1), members_empty)
+    none : (a : ℕ) → slot_in (replicate k no_call) a ≡ no_call
+    none a = by_lt a k
+        (λ lt. get_or-replicate k a no_call no_call lt)
+        (λ ge. get_or-eq_default (replicate k no_call) no_call (rw (length-replicate {A = Slot} k no_call) ge))
 
 -- the way out of `emit_text`
-pub text_emitted : {prog : List ℕ} {n room end : ℕ} (text : List ℕ) {a : Emit} (text₁ : List ℕ) {slots₁ : List ℕ} →
-    length text ≡ most_circuit → end ≡ usable room → Emits prog n (take end text) (replicate slots_length 0) a (take end text₁) slots₁ →
+pub text_emitted : {prog : List ℕ} {n room end : ℕ} (text : List ℕ) {a : Emit} (text₁ : List ℕ) {slots₁ : List Slot} →
+    length text ≡ most_circuit → end ≡ usable room → Emits prog n (take end text) (replicate wire_count no_call) a (take end text₁) slots₁ →
     EmitsText prog n room a text₁
 text_emitted {n = n} text text₁ {slots₁ = slots₁} long e A =
-    into_text text (replicate slots_length 0) slots₁ long (rw (length-replicate {A = ℕ} slots_length 0) (le_refl slots_length))
-    (none_tallied n slots_length) (rw e at A)
+    into_text text (replicate wire_count no_call) slots₁ long (rw (length-replicate {A = Slot} wire_count no_call) (le_refl wire_count))
+    (none_tallied n wire_count) (rw e at A)
 
 -- the ways out of `compile_emission`
 module _ {prog : List ℕ} {n : ℕ} {room : List ℕ} where
@@ -246,16 +250,18 @@ module _ {prog : List ℕ} {n : ℕ} {room : List ℕ} where
       let e = lt-leb header_length (usable (length room)) (omega arith) in (rw e, rw e))
 
 module _ {prog : List ℕ} {n : ℕ} {room : List ℕ} {a : Emit} {text₁ : List ℕ} where
-  pub text_refused : {s : ℕ} → header_length ≤ length room → EmitsText prog n (length room) a text₁ → s ≡ a.status → (s ≡ 0 → ⊥) →
-      Compiles prog n room (record { number = s; length = 0 }) room
-  text_refused {s = s} h (into_text text slots slots₁ long space tallied A) is z = walks_once (λ checked small.
+  pub text_refused : (o : Option Refusal) (why : Refusal) {s : ℕ} → header_length ≤ length room → EmitsText prog n (length room) a text₁ → refusal_number o ≡ a.status →
+      o ≡ Some why → s ≡ number_of why → Compiles prog n room (record { number = s; length = 0 }) room
+  text_refused o why {s = s} h (into_text text slots slots₁ long space tallied A) is some e = walks_once (λ checked small.
       let header : header_length ≤ usable (length room) = omega arith in
-      refused_answer (program_at prog) n s room header (is ∙ emitted_status room text text₁ long A checked small space tallied header) z)
+      let same : s ≡ a.status = e ∙ ap refusal_number (sym some) ∙ is in
+      refused_answer (program_at prog) n s room header (same ∙ emitted_status room text text₁ long A checked small space tallied header)
+      (λ z. some_refused o (ap is_some some) (ap refusal_number some ∙ sym e ∙ z)))
 
-  pub text_delivered : {room₁ : List ℕ} {s u : ℕ} → header_length ≤ length room → EmitsText prog n (length room) a text₁ → s ≡ a.status → s ≡ 0 →
-      room₁ ≡ delivered n a text₁ room → u ≡ a.used → Compiles prog n room (record { number = 0; length = u }) room₁
-  text_delivered {room₁ = room₁} h (into_text text slots slots₁ long space tallied A) is z e end = walks_once (λ checked small.
+  pub text_delivered : (o : Option Refusal) {room₁ : List ℕ} → header_length ≤ length room → EmitsText prog n (length room) a text₁ → refusal_number o ≡ a.status → o ≡ None →
+      room₁ ≡ delivered n a text₁ room → Compiles prog n room (record { number = 0; length = a.used }) room₁
+  text_delivered o {room₁ = room₁} h (into_text text slots slots₁ long space tallied A) is none e = walks_once (λ checked small.
       let header : header_length ≤ usable (length room) = omega arith in
-      rw end (emitted_answer room text text₁ long A checked small space tallied header (sym is ∙ z) room₁ e))
+      emitted_answer room text text₁ long A checked small space tallied header (sym is ∙ ap refusal_number none) room₁ e)
 
 pub ruleset delivering = (rules, ancillas_none, no_header, text_refused, text_delivered, circuit_put, front_emitted, text_emitted)

@@ -1,13 +1,14 @@
 -- The emission of compile: it goes into a text, and from there into the room where it fits.
 use Rattle.std.specs.Prelude.{ℕ, ◌-◌, ◌≤◌, ◌≡◌, List, [], length, take, leb}
 use Rattle.std.proofs.lemmas.List.Edits.{sets}
-use Rattle.limits.specs.Sizes.{slots_length}
+use Rattle.limits.specs.Sizes.{wire_count}
 use Rattle.model.specs.Limits.{most_qubits, most_circuit, header_length, no_room}
 use Rattle.model.specs.Syntax.{Program}
 use Rattle.model.specs.Emission.{emission}
 use Rattle.model.specs.Answers.{Outcome, require, fitted, fit, circuit, usable, number, value_or, room_after}
 use Rattle.circuit.specs.GatesToWrite.{header_bytes}
 use Rattle.decoded.specs.DecodedTable.{program_at}
+use Rattle.events.specs.declared.Slot.{Slot}
 use Rattle.events.specs.Scan.{Emit, Tallied, wire_of}
 use Rattle.emit.specs.WalkPromises.{Checked, Emits}
 use Rattle.compile.specs.declared.Compiled.{Compiled}
@@ -22,7 +23,7 @@ compiled_of o = record { number = number o; length = length (value_or [] o) }
 
 -- main emitted into the front of a text, as much of it as a room of that length has of use, with slots for all wires
 pub data EmitsText (prog : List ℕ) (n room : ℕ) (r : Emit) (text₁ : List ℕ) : Type 0 where
-  into_text : (text slots slots₁ : List ℕ) → length text ≡ most_circuit → slots_length ≤ length slots → Tallied n slots →
+  into_text : (text : List ℕ) (slots slots₁ : List Slot) → length text ≡ most_circuit → wire_count ≤ length slots → Tallied n slots →
       Emits prog n (take (usable room) text) slots r (take (usable room) text₁) slots₁ → EmitsText prog n room r text₁
 
 -- the room behind a circuit that fits: the header is put into the text, and the used bytes of the text into the room

@@ -13,9 +13,9 @@ ghost use Rattle.compile.specs.AnswerAndRoom.{answered, answered_of};
 use circuit::write::put_header;
 use decoded::{PROGRAM_LENGTH, Program};
 use emit::emit_main;
-use events::{Slots, State, gates, highest, status, usable, used, wire};
+use events::{NO_CALL, Slots, State, usable, wire};
 use limits::{
-    HEADER_LENGTH, LEAST_WORKSPACE, MOST_CIRCUIT, MOST_N, NO_ROOM, SHORT_WORKSPACE, SLOTS_LENGTH,
+    HEADER_LENGTH, LEAST_WORKSPACE, MOST_CIRCUIT, MOST_N, NO_ROOM, SHORT_WORKSPACE, WIRE_COUNT,
     WRONG_QUBITS,
 };
 use verdict::check_table;
@@ -61,8 +61,8 @@ fn put_circuit(n: u8, state: &State, text: &mut [u8; MOST_CIRCUIT], room: &mut [
     ensures { room.new ≡ delivered n (emit_in state.now) text.old room.old }
 {
     let bytes = &mut text[..];
-    put_header(bytes, n, ancillas(n, highest(state)), gates(state));
-    copy(bytes, used(state), room);
+    put_header(bytes, n, ancillas(n, state.highest), state.gates);
+    copy(bytes, state.used, room);
 }
 
 // An emission into the front of a text.
@@ -78,7 +78,7 @@ fn emit_front(program: &Program, n: u8, end: usize, text: &mut [u8], slots: &mut
 fn emit_text(program: &Program, n: u8, room: usize, text: &mut [u8; MOST_CIRCUIT]) -> State
     ensures { EmitsText program.now n room (emit_in result) text.new }
 {
-    let mut slots = [0u64; SLOTS_LENGTH];
+    let mut slots = [NO_CALL; WIRE_COUNT];
     emit_front(program, n, usable(room), &mut text[..], &mut slots)
 }
 
@@ -94,14 +94,16 @@ fn compile_emission(program: &Program, n: u8, room: &mut [u8]) -> Compiled
     }
     let mut text = [0u8; MOST_CIRCUIT];
     let state = emit_text(program, n, room.len(), &mut text);
-    let number = status(&state);
-    if number != 0 {
-        return Compiled { number, length: 0 };
+    if let Some(why) = state.refusal {
+        return Compiled {
+            number: why.into(),
+            length: 0,
+        };
     }
     put_circuit(n, &state, &mut text, room);
     Compiled {
         number: 0,
-        length: used(&state),
+        length: state.used,
     }
 }
 

@@ -21,7 +21,7 @@ use Rattle.circuit.proofs.GateBytes.{sets_past, sets_append}
 use Rattle.sets.specs.Sets.{members_of}
 use Rattle.sets.proofs.Members.{members_length, members_empty}
 use Rattle.sets.proofs.Readings.{members_split}
-use Rattle.controls.specs.ControlWords.{wires_in, controls_of, Only, only}
+use Rattle.controls.specs.ControlWords.{wires_in, controls_of, Only}
 
 -- an empty set has no member
 pub count_none : (w : ℕ) → w ≡ 0 → 0 ≡ length (members_of w)
@@ -105,8 +105,8 @@ under_bytes : (w : ℕ) → (w ≡ 0 → ⊥) → control_bytes (under w) ≡ 1 
 unfolding with_control insert list_bytes
 under_bytes w h = rw (asked_wire w [] (omega arith))
 
-pub length_only : (cs : Controls) (w : ℕ) → Only w cs → (w ≡ 0 → ⊥) → 4 ≡ 2 + length (control_bytes cs)
-length_only cs w (only f) nz = rw (f nz, under_bytes w nz)
+pub length_only : (cs : Controls) (w : ℕ) → Only w cs → 4 ≡ 2 + length (control_bytes cs)
+length_only cs w is = rw (is.1, under_bytes w (omega (arith, is.0)))
 
 pub length_more : (cs : Controls) (n : ℕ) → n ≡ length (control_bytes cs) → 2 + n ≡ 2 + length (control_bytes cs)
 length_more cs n e = rw e
@@ -197,11 +197,11 @@ pub flip_put : (room : List ℕ) (at target : ℕ) (cs : Controls) (map : ℕ) (
 unfolding encode
 flip_put room at target cs map one two is p q = let s : suc (suc at) ≡ at + 2 = omega arith in rw (q, p, is, ← s)
 
-pub flip_put_only : (room : List ℕ) (at target : ℕ) (cs : Controls) (w : ℕ) (one two : List ℕ) → Only w cs → (w ≡ 0 → ⊥) → one ≡ sets room at (1 ∷ target ∷ []) →
+pub flip_put_only : (room : List ℕ) (at target : ℕ) (cs : Controls) (w : ℕ) (one two : List ℕ) → Only w cs → one ≡ sets room at (1 ∷ target ∷ []) →
     two ≡ sets one (at + 2) (1 ∷ w ∷ []) → two ≡ sets room at (encode (flip cs target))
 unfolding encode with_control insert list_bytes list_bit
-flip_put_only room at target cs w one two (only f) nz p q =
-    let s : at + 2 ≡ suc (suc at) = omega arith in rw (f nz, q, p, s, asked_wire w [] (omega arith))
+flip_put_only room at target cs w one two is p q =
+    let s : at + 2 ≡ suc (suc at) = omega arith in rw (is.1, q, p, s, asked_wire w [] is.0)
 
 module _ (room : List ℕ) (at w u v low high : ℕ) (is_low : low ≡ min u v) (is_high : high ≡ max u v) where
   pub swap_put_bare : (one two : List ℕ) → w ≡ 0 → one ≡ sets room at (4 ∷ low ∷ []) → two ≡ set one (at + 2) high →

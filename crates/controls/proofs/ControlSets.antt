@@ -2,14 +2,16 @@
 use mathlib.Core.Path.{◌≡◌, refl, sym, ap, ◌∙◌}
 use mathlib.Core.Logic.{◌≢◌}
 use mathlib.Core.Bool.{Bool, true, false, ◌||◌, or-false}
+use Rattle.std.specs.Prelude.{eqb, IfSome}
+use Rattle.std.specs.Bool.{then_some}
 use mathlib.Core.List.{List, [], ◌∷◌, ◌++◌, append-nil}
 use Prim.Native.Nat.{ℕ, zero, suc, ◌+◌, ◌-◌, ◌*◌, ◌%◌, ◌^◌, ◌≤◌, ◌<◌}
 use native.Mathlib.Omega.{arith}
 use borrow.Author.Rules.{rules}
-use borrow.Author.Tests.{lt-ltb, le-ltb}
+use borrow.Author.Tests.{lt-ltb, le-ltb, eqb-true}
 use lib.Bits.{bit_or}
-use lib.ListN.{get_or, drop}
-use mir.Syntax.{w8, w64}
+use lib.ListN.{drop}
+use mir.Syntax.{w64}
 use mir.Val.{Fits}
 use Rattle.limits.specs.Sizes.{set_length}
 use Rattle.model.specs.Lists.{member, entry}
@@ -25,7 +27,8 @@ use Rattle.sets.proofs.Filtering.{picked, picked_yes, picked_no, picked_same, pi
 use Rattle.sets.proofs.BitLaws.{or_bit, power_same, power_other}
 use Rattle.sets.proofs.Members.{state_bit, state_zero, members_empty}
 use Rattle.sets.proofs.Readings.{members_split}
-use Rattle.controls.specs.ControlWords.{asked_within, with_qubit, high_wire, controls_of, high_in, controls_from, list_from, At, Only, only}
+use Rattle.controls.specs.declared.Site.{Site}
+use Rattle.controls.specs.ControlWords.{asked_within, with_qubit, high_wire, controls_of, controls_from, list_from, At, Only}
 
 -- a wire below all others goes first
 insert_front : (w : ℕ) (l : List ℕ) → ((v : ℕ) → member v l ≡ true → w < v) → insert w l ≡ w ∷ l
@@ -100,40 +103,39 @@ asked_high q h l le = by_eq q 0
     (λ ge. rw (le-ltb set_length h ge, append-nil l, append-nil (insert q l)))))
 
 -- the ways out of `with_control`: one qubit more among those asked for 1, or for 0
-module _ (site : List ℕ) (q : ℕ) (b : Bool) (more : ℕ) where
-  pub one_more : b ≡ true → members_of more ≡ asked_within q (members_of (get_or site 0 0)) →
-      At (more ∷ get_or site 1 0 ∷ get_or site 2 0 ∷ get_or site 3 0 ∷ []) (list_from site) (with_qubit q b (controls_from site))
+module _ (site : Site) (q : ℕ) (b : Bool) (more : ℕ) where
+  pub one_more : b ≡ true → members_of more ≡ asked_within q (members_of site.ones) →
+      At (record { ones = more; zeros = site.zeros; high = site.high; list = site.list }) (list_from site) (with_qubit q b (controls_from site))
   unfolding with_control
   one_more e is = record {
     list = refl;
     controls = rw (e, is) (by_lt set_length q
         (λ lt. rw (lt-ltb set_length q lt))
-        (λ le. rw (le-ltb set_length q le, asked_high q (high_in site) (members_of (get_or site 0 0)) le)));
+        (λ le. rw (le-ltb set_length q le, asked_high q site.high (members_of site.ones) le)));
   }
 
-  pub zero_more : b ≡ false → members_of more ≡ asked_within q (members_of (get_or site 1 0)) →
-      At (get_or site 0 0 ∷ more ∷ get_or site 2 0 ∷ get_or site 3 0 ∷ []) (list_from site) (with_qubit q b (controls_from site))
+  pub zero_more : b ≡ false → members_of more ≡ asked_within q (members_of site.zeros) →
+      At (record { ones = site.ones; zeros = more; high = site.high; list = site.list }) (list_from site) (with_qubit q b (controls_from site))
   unfolding with_control
   zero_more e is = record {
     list = refl;
     controls = rw (e, is) (by_lt set_length q
         (λ lt. rw (lt-ltb set_length q lt))
-        (λ le. rw (le-ltb set_length q le, asked_high q 0 (members_of (get_or site 1 0)) le)));
+        (λ le. rw (le-ltb set_length q le, asked_high q 0 (members_of site.zeros) le)));
   }
 
--- the ways out of `free_site` and `under`
+-- the ways out of `free` and `under`
 module _ (l : ℕ) where
-  pub none_asked : At (0 ∷ 0 ∷ 0 ∷ l ∷ []) (members_of l) no_controls
+  pub none_asked : At (record { ones = 0; zeros = 0; high = 0; list = l }) (members_of l) no_controls
   none_asked = record { list = refl; controls = rw members_empty }
 
-  module _ (w : ℕ) (byte : Fits w8 w) where
-    pub under_high : set_length < w → At (0 ∷ 0 ∷ w ∷ l ∷ []) (members_of l) (under w)
+  module _ (w : ℕ) where
+    pub under_high : set_length < w → At (record { ones = 0; zeros = 0; high = w; list = l }) (members_of l) (under w)
     unfolding with_control insert
-    under_high h =
-        let same : w % 256 ≡ w = omega (arith, byte.fits) in
-        record { list = refl; controls = rw (members_empty, same, lt-ltb set_length w h, asked_wire w [] (omega arith)) }
+    under_high h = record { list = refl; controls = rw (members_empty, lt-ltb set_length w h, asked_wire w [] (omega arith)) }
 
-    pub under_low : (more : ℕ) → w ≤ set_length → members_of more ≡ asked_within w (members_of 0) → At (more ∷ 0 ∷ 0 ∷ l ∷ []) (members_of l) (under w)
+    pub under_low : (more : ℕ) → w ≤ set_length → members_of more ≡ asked_within w (members_of 0) →
+        At (record { ones = more; zeros = 0; high = 0; list = l }) (members_of l) (under w)
     unfolding with_control
     under_low more h is = record { list = refl; controls = rw (is, members_empty, le-ltb set_length w h) (rw (append-nil (asked w []))) }
 
@@ -144,20 +146,20 @@ pub qubit_asked : (q : ℕ) (b : Bool) (cs : Controls) → q ≤ set_length → 
 qubit_asked q b cs h = rw (le-ltb set_length q h)
 
 -- the ways out of `only_wire`
-pub only_none : (cs : Controls) → Only 0 cs
-only_none cs = only (λ nz. absurd (nz refl))
-
 module _ (ones high zeros : ℕ) (empty : zeros ≡ 0) where
-  pub only_high : set_length < high → ones ≡ 0 → Only high (controls_of ones high zeros)
+  pub only_high : (alone : Bool) → set_length < high → alone ≡ eqb ones 0 → IfSome (then_some alone high) (λ w. Only w (controls_of ones high zeros))
   unfolding with_control insert
-  only_high h e = only (λ nz. rw (empty, e, members_empty, lt-ltb set_length high h, asked_wire high [] (omega arith)))
+  only_high true h is =
+      let e : ones ≡ 0 = eqb-true ones 0 (sym is) in
+      (omega arith, rw (empty, e, members_empty, lt-ltb set_length high h, asked_wire high [] (omega arith)))
+  only_high false h is = tt
 
-  pub only_member : (less w : ℕ) → Fits w64 ones → high ≤ set_length → members_of less ≡ drop 1 (members_of ones) → less ≡ 0 → w ≡ entry (members_of ones) 1 →
-      Only w (controls_of ones high zeros)
+  pub only_member : (less w : ℕ) → Fits w64 ones → high ≤ set_length → (ones ≡ 0 → ⊥) → members_of less ≡ drop 1 (members_of ones) → less ≡ 0 →
+      w ≡ entry (members_of ones) 1 → Only w (controls_of ones high zeros)
   unfolding with_control insert
-  only_member less w fits h e z is = only (λ nz.
-      let some : ones ≡ 0 → ⊥ = λ o. nz (is ∙ ap (λ (v : ℕ). entry (members_of v) 1) o ∙ ap (λ l. entry l 1) members_empty) in
+  only_member less w fits h some e z is =
       let one : members_of ones ≡ w ∷ [] = members_split ones fits some ∙ rw (← is, ← e, z, members_empty) in
-      rw (empty, members_empty, le-ltb set_length high h, one, asked_wire w [] (omega arith)))
+      let there : 0 < w = (picked_bounds 64 1 (state_of ones) w (rw one (member_head w []))).0 in
+      (there, rw (empty, members_empty, le-ltb set_length high h, one, asked_wire w [] there))
 
-pub ruleset onlys = (rules, only_none, only_high, only_member)
+pub ruleset onlys = (rules, only_member)

@@ -1,9 +1,11 @@
 -- Controls as the code keeps them, in the terms of document 01's definitions.
-use Rattle.std.specs.Prelude.{ℕ, ◌%◌, ◌≡◌, Bool, cond, List, [], ◌∷◌, ◌++◌, get_or, ltb}
-use Rattle.limits.specs.Sizes.{set_length, ones_word, zeros_word, high_word, list_word}
+use Rattle.std.specs.Prelude.{ℕ, ◌≡◌, ◌<◌, Bool, cond, List, [], ◌∷◌, ◌++◌, ltb}
+use Rattle.limits.specs.Sizes.{set_length}
 use Rattle.model.specs.Gates.{Controls, asked, with_control}
 use Rattle.model.specs.Emission.{under}
 use Rattle.sets.specs.Sets.{members_of}
+use Rattle.controls.specs.declared.Site.{Site}
+use Rattle.controls.specs.declared.Wires.{Wires}
 
 -- a qubit asked beside others; above 64 there is none
 abbrev pub asked_within : ℕ → List ℕ → List ℕ
@@ -25,21 +27,22 @@ wires_in set high = members_of set ++ high_wire high
 abbrev pub controls_of : ℕ → ℕ → ℕ → Controls
 controls_of ones high zeros = record { ones = wires_in ones high; zeros = wires_in zeros 0 }
 
--- the words of a site: the wires up to 64 asked for 1, those asked for 0, a wire above 64 that is asked for 1, and the list
-abbrev pub high_in : List ℕ → ℕ
-high_in site = get_or site high_word 0 % 256
+-- the wires of a list as the code keeps it
+abbrev pub wires_of : Wires → List ℕ
+wires_of w = wires_in w.set w.high
 
-abbrev pub controls_from : List ℕ → Controls
-controls_from site = controls_of (get_or site ones_word 0) (high_in site) (get_or site zeros_word 0)
+-- a site's controls and its list
+abbrev pub controls_from : Site → Controls
+controls_from site = controls_of site.ones site.high site.zeros
 
-abbrev pub list_from : List ℕ → List ℕ
-list_from site = members_of (get_or site list_word 0)
+abbrev pub list_from : Site → List ℕ
+list_from site = members_of site.list
 
 -- a site with a list and under controls
-pub record At (site l : List ℕ) (cs : Controls) : Type 0 where
+pub record At (site : Site) (l : List ℕ) (cs : Controls) : Type 0 where
   pub list : list_from site ≡ l
   pub controls : controls_from site ≡ cs
 
--- a wire that, unless it is 0, is the only one that controls ask, for 1
-pub data Only (w : ℕ) (cs : Controls) : Type 0 where
-  only : ((w ≡ 0 → ⊥) → cs ≡ under w) → Only w cs
+-- a wire that is the only one that controls ask, for 1
+abbrev pub Only : ℕ → Controls → Type 0
+Only w cs = (0 < w) × (cs ≡ under w)

@@ -1,13 +1,14 @@
 -- The ways out of the walkers over chains: a call, the bodies of a chain, one body around those that follow it.
 use mathlib.Core.Path.{◌≡◌, refl, sym, ap, ◌∙◌, subst}
-use mathlib.Core.Bool.{false}
+use mathlib.Core.Bool.{true, false}
+use Rattle.std.specs.Prelude.{is_some}
 use mathlib.Core.List.{List, [], ◌∷◌, ◌++◌, reverse, append_assoc}
-use Prim.Native.Nat.{ℕ, zero, suc, ◌+◌, ◌-◌, ◌*◌, ◌≤◌, ◌<◌}
+use Prim.Native.Nat.{ℕ, zero, suc, ◌+◌, ◌-◌, ◌*◌, ◌%◌, ◌≤◌, ◌<◌}
 use native.Mathlib.Nat.{le_refl}
 use native.Mathlib.Omega.{arith}
 use borrow.Author.Rules.{rules}
 use borrow.Author.Tests.{lt-ltb, le-ltb, eqb-true, ne_eqb}
-use lib.ListN.{length, get_or}
+use lib.ListN.{length}
 use lib.Seq.{sets}
 use lib.Dec.{eqb}
 use Rattle.model.specs.Limits.{most_wires, most_depth, most_circuit}
@@ -51,9 +52,12 @@ use Rattle.reach.proofs.MatrixOfAProgram.{count_at, body_at_lem}
 use Rattle.decoded.proofs.StatementAtARecord.{spent_skip}
 use Rattle.controls.specs.ControlWords.{controls_from, list_from, At}
 use Rattle.widths.specs.KeptWidths.{WidthsKnown}
+use Rattle.sets.specs.Sets.{members_of}
 use Rattle.lookup.specs.Plans.{Within}
-use Rattle.events.specs.Scan.{Emit, Progress, progress, emit_of, freed, placed, scan, slot_at, slot_list_length, slot_procedure, slot_list, wire_of, slot_of, Tallied, held_in}
-use Rattle.events.specs.Slots.{precedence_in, NextSlot, Enters, entries_to}
+use Rattle.events.specs.declared.State.{State}
+use Rattle.events.specs.declared.Slot.{Slot}
+use Rattle.events.specs.Scan.{Emit, emit_in, Progress, progress, emit_of, freed, placed, scan, slot_in, slot_list_length, slot_procedure, wire_of, slot_of, Tallied, held_in}
+use Rattle.events.specs.Slots.{NoneWaits, NextSlot, turned, Enters, entries_to}
 use Rattle.events.specs.FollowedEvents.{Follows, Opens, Invokes}
 use Rattle.emit.specs.WalkPromises.{
   Ready,
@@ -87,6 +91,7 @@ use Rattle.emit.specs.WalkPromises.{
   walks_body,
 }
 use Rattle.events.proofs.ScanOfEvents.{scan_append, scan_stopped, scan_places, scan_no_gate, scan_many, scan_frees, next_after, stacked_after}
+use Rattle.events.proofs.GatesAndSlots.{some_refused}
 use Rattle.events.proofs.EntryGates.{scan_nothing, use_enters, entries_are}
 use Rattle.events.proofs.ConsecutiveWalks.{
   gates_next,
@@ -127,7 +132,7 @@ module _ (prog : List ℕ) (k : ℕ) where
   bodies_all zero all next = refl
   bodies_all (suc n) all next = rw (keys_all (keys (suc n) all))
 
-module _ {prog : List ℕ} {k : ℕ} {st : Emit} {room ws : List ℕ} {r : Emit} {room₁ ws₁ : List ℕ} where
+module _ {prog : List ℕ} {k : ℕ} {st : Emit} {room : List ℕ} {ws : List Slot} {r : Emit} {room₁ : List ℕ} {ws₁ : List Slot} where
   use_body_left : {d : ℕ} → BodyLeft prog k st room ws r room₁ ws₁ d → Ready prog st ws → d ≤ most_wires →
       Opens (left_of prog k (slot_of ws d) st.next) (body_invocations (program_at prog) (chains_in prog k) (slot_of ws d) st.next)
       st room ws r room₁ ws₁
@@ -182,8 +187,8 @@ module _ (prog : List ℕ) (k : ℕ) (passes10 : any_lacks_removal (program_at p
       )
 
 -- the bodies that are left, by the slot that is found
-module _ (prog : List ℕ) (k : ℕ) (ws : List ℕ) {n : ℕ} (T : Tallied n ws) (base upto last m from d : ℕ) (O : Precedes last m from)
-    (N : NextSlot ws base last upto d) (lt : d < upto) (passes10 : any_lacks_removal (program_at prog) ≡ false) (next : ℕ) where
+module _ (prog : List ℕ) (k : ℕ) (ws : List Slot) {n : ℕ} (T : Tallied n ws) (base upto last m from d : ℕ) (O : Precedes last m from)
+    (N : NextSlot ws base last upto d) (passes10 : any_lacks_removal (program_at prog) ≡ false) (next : ℕ) where
   abbrev all : List Invocation
   all = calls_in ws base upto
 
@@ -197,7 +202,7 @@ module _ (prog : List ℕ) (k : ℕ) (ws : List ℕ) {n : ℕ} (T : Tallied n ws
   unfolding bodies_up_to bodies shared
   shared_first zero h e = absurd (omega arith)
   shared_first (suc v) h e =
-      let calls : calls_to (suc v) (slot_procedure ws d) all ≡ slot_of ws d ∷ later_calls ws upto d = rw e (seek_calls ws T base upto last m from d O N lt) in
+      let calls : calls_to (suc v) (slot_procedure ws d) all ≡ slot_of ws d ∷ later_calls ws upto d = rw e (seek_calls ws T base upto last m from O d N) in
       rw calls
 
   pub up_found : bodies_left prog k m from all next ≡
@@ -205,37 +210,35 @@ module _ (prog : List ℕ) (k : ℕ) (ws : List ℕ) {n : ℕ} (T : Tallied n ws
       (bodies_left prog k (slot_list_length ws d) (slot_procedure ws d + 1) (all ++ own) (next + length own))
   unfolding slot_of
   up_found =
-      let some = seek_some ws T base upto last m from d O N lt in
-      seek_key ws T base upto last m from d O N lt prog k next
+      let some = seek_some ws T base upto last m from O d N in
+      seek_key ws T base upto last m from O d N prog k next
       ∙ shared_first (slot_list_length ws d) some refl
       ∙ ap (around (program_at prog) (chains_in prog k) (slot_of ws d) (later_calls ws upto d) next)
       (following_same prog k passes10 (slot_of ws d) next (rw (← T.lengths d) some) (slot_list_length ws d) (slot_procedure ws d + 1) all
       (next + length own) (T.lengths d))
 
 -- the ways out of `emit_bodies`
-module _ {prog : List ℕ} {k : ℕ} {st : Emit} {room ws : List ℕ} {base last : ℕ} where
-  pub bodies_stopped : {s : ℕ} → s ≡ st.status → (s ≡ 0 → ⊥) → Bodies prog k st room ws st room ws base last
-  bodies_stopped e h = walks_bodies (λ R le m from O. follows_stopped _ st room ws (λ z. h (e ∙ z)))
+pub bodies_stopped : {prog : List ℕ} {k : ℕ} (s : State) {room : List ℕ} {ws : List Slot} {base last : ℕ} →
+    is_some s.refusal ≡ true → Bodies prog k (emit_in s) room ws (emit_in s) room ws base last
+bodies_stopped s {room = room} {ws = ws} h = walks_bodies (λ R le m from O. follows_stopped _ (emit_in s) room ws (some_refused s.refusal h))
 
-  module _ {upto d : ℕ} (is : upto ≡ st.next) (N : NextSlot ws base last upto d) where
-    pub bodies_none : upto ≤ d → Bodies prog k st room ws st room ws base last
-    bodies_none h = walks_bodies (λ R le m from O. follows_as
-        (sym (seek_none ws R.tallied base st.next last m from d O (rw is at N) (rw is at h) prog k st.next)) (follows_none st room ws))
+module _ {prog : List ℕ} {k : ℕ} {st : Emit} {room : List ℕ} {ws : List Slot} {base last : ℕ} where
+  pub bodies_none : NoneWaits ws base last st.next → Bodies prog k st room ws st room ws base last
+  bodies_none none = walks_bodies (λ R le m from O. follows_as
+      (sym (seek_none ws R.tallied base st.next last m from O none prog k st.next)) (follows_none st room ws))
 
-    pub bodies_found : {r : Emit} {room₁ ws₁ : List ℕ} {p : ℕ} → d < upto → p ≡ precedence_in ws d →
-        Body prog k st room ws r room₁ ws₁ base p d → Bodies prog k st room ws r room₁ ws₁ base last
-    bodies_found h same A = walks_bodies (λ R le m from O.
-        let M = rw is at N in
-        let lt = rw is at h in
-        follows_as
-        (sym (ap (λ (o : Emitted). o.events)
-        (up_found prog k ws R.tallied base st.next last m from d O M lt R.checked.removes st.next)))
-        (use_body A R (M.waits lt).0 lt (slot_list_length ws d) (slot_procedure ws d + 1)
-        (rw same (seek_below ws R.tallied base st.next last m from d O M lt))))
+  pub bodies_found : {d : ℕ} {r : Emit} {room₁ : List ℕ} {ws₁ : List Slot} {s : Slot} → NextSlot ws base last st.next d → s ≡ slot_in ws d →
+      Body prog k st room ws r room₁ ws₁ base s.precedence d → Bodies prog k st room ws r room₁ ws₁ base last
+  bodies_found {d = d} {s = s} N same A = walks_bodies (λ R le m from O.
+      follows_as
+      (sym (ap (λ (o : Emitted). o.events)
+      (up_found prog k ws R.tallied base st.next last m from d O N R.checked.removes st.next)))
+      (use_body A R N.from N.below (slot_list_length ws d) (slot_procedure ws d + 1)
+      (rw same (seek_below ws R.tallied base st.next last m from O d N))))
 
 -- the way out of `emit_rest`: the bodies that follow and the right part
-module _ {prog : List ℕ} {k : ℕ} {st : Emit} {room ws : List ℕ} {base last d : ℕ} where
-  pub rest_walk : {a : Emit} {room₁ ws₁ : List ℕ} {b : Emit} {room₂ ws₂ : List ℕ} {behind : ℕ} → behind ≡ st.next →
+module _ {prog : List ℕ} {k : ℕ} {st : Emit} {room : List ℕ} {ws : List Slot} {base last d : ℕ} where
+  pub rest_walk : {a : Emit} {room₁ : List ℕ} {ws₁ : List Slot} {b : Emit} {room₂ : List ℕ} {ws₂ : List Slot} {behind : ℕ} → behind ≡ st.next →
       Bodies prog k st room ws a room₁ ws₁ base last → BodyRight prog k a room₁ ws₁ b room₂ ws₂ d behind →
       Rest prog k st room ws b room₂ ws₂ base last d
   rest_walk {a = a} {ws₁ = ws₁} is A B = walks_rest (λ R le m from O first top over Q.
@@ -248,8 +251,8 @@ module _ {prog : List ℕ} {k : ℕ} {st : Emit} {room ws : List ℕ} {base last
       (λ ok. rw (slot, follows_next F ok ∙ bodies_next prog k m (keys_from from (keys m all)) all all st.next R.some)) G))
 
 -- the way out of `emit_inner`: the left part, then the rest
-module _ {prog : List ℕ} {k : ℕ} {st : Emit} {room ws : List ℕ} {base last d : ℕ} where
-  use_rest : {r : Emit} {room₁ ws₁ : List ℕ} → Rest prog k st room ws r room₁ ws₁ base last d →
+module _ {prog : List ℕ} {k : ℕ} {st : Emit} {room : List ℕ} {ws : List Slot} {base last d : ℕ} where
+  use_rest : {r : Emit} {room₁ : List ℕ} {ws₁ : List Slot} → Rest prog k st room ws r room₁ ws₁ base last d →
       Ready prog st ws → base ≤ d → (m from : ℕ) → Precedes last m from → (first : ℕ) → d < first → first ≤ st.next →
       (st.status ≡ 0 → Before st.next first (length (body_invocations (program_at prog) (chains_in prog k) (slot_of ws d) first))) →
       Follows
@@ -257,8 +260,8 @@ module _ {prog : List ℕ} {k : ℕ} {st : Emit} {room ws : List ℕ} {base last
       inner.events ++ right_of prog k (slot_of ws d) first inner.next) st room ws r room₁ ws₁
   use_rest (walks_rest g) = g
 
-module _ {prog : List ℕ} {k : ℕ} {st : Emit} {room ws : List ℕ} {base last d : ℕ} where
-  pub inner_walk : {a : Emit} {room₁ ws₁ : List ℕ} {b : Emit} {room₂ ws₂ : List ℕ} → BodyLeft prog k st room ws a room₁ ws₁ d →
+module _ {prog : List ℕ} {k : ℕ} {st : Emit} {room : List ℕ} {ws : List Slot} {base last d : ℕ} where
+  pub inner_walk : {a : Emit} {room₁ : List ℕ} {ws₁ : List Slot} {b : Emit} {room₂ : List ℕ} {ws₂ : List Slot} → BodyLeft prog k st room ws a room₁ ws₁ d →
       Rest prog k a room₁ ws₁ b room₂ ws₂ base last d → Inner prog k st room ws b room₂ ws₂ base last d
   inner_walk {a = a} {ws₁ = ws₁} A B = walks_inner (λ R le lt m from O.
       let P = program_at prog in
@@ -285,7 +288,7 @@ module _ {prog : List ℕ} {k : ℕ} {st : Emit} {room ws : List ℕ} {base last
       let G = use_rest B R₁ le m from O st.next lt F.rises (λ ok. rw slot (record { ends = up ok; wires = R₁.low })) in
       follows_append F (follows_if (λ ok. rw (slot, all ok, up ok)) G))
 
-  use_inner : {r : Emit} {room₁ ws₁ : List ℕ} → Inner prog k st room ws r room₁ ws₁ base last d →
+  use_inner : {r : Emit} {room₁ : List ℕ} {ws₁ : List Slot} → Inner prog k st room ws r room₁ ws₁ base last d →
       Ready prog st ws → base ≤ d → d < st.next → (m from : ℕ) → Precedes last m from →
       Follows
       (let news = body_invocations (program_at prog) (chains_in prog k) (slot_of ws d) st.next in
@@ -295,7 +298,7 @@ module _ {prog : List ℕ} {k : ℕ} {st : Emit} {room ws : List ℕ} {base last
   use_inner (walks_inner g) = g
 
 -- the ways out of `emit_body`: entry gates, what is inside them, entry gates reversed
-module _ {prog : List ℕ} {k : ℕ} {st : Emit} {room ws : List ℕ} {base last d upto : ℕ} (is_upto : upto ≡ st.next) where
+module _ {prog : List ℕ} {k : ℕ} {st : Emit} {room : List ℕ} {ws : List Slot} {base last d upto : ℕ} (is_upto : upto ≡ st.next) where
   pub body_past : upto ≤ d → Body prog k st room ws st room ws base last d
   body_past h = walks_body (λ R le lt m from O. not_below d st.next (rw is_upto at h) lt)
 
@@ -311,11 +314,11 @@ around_is P ch d later next inner =
     let E = reverse (all_entry_gates d later) in
     rw (append_assoc L (inner.events ++ Q) E, append_assoc inner.events Q E)
 
-module _ {prog : List ℕ} {k : ℕ} {st : Emit} {room ws : List ℕ} {base last d upto : ℕ} (is_upto : upto ≡ st.next) where
-  pub body_walk : {a : Emit} {room₁ : List ℕ} {b : Emit} {room₂ ws₂ : List ℕ} {r : Emit} {room₃ : List ℕ} →
-      Enters ws (entries_to ws d (d + 1) (upto - (d + 1))) (progress st room) (progress a room₁) →
+module _ {prog : List ℕ} {k : ℕ} {st : Emit} {room : List ℕ} {ws : List Slot} {base last d upto : ℕ} (is_upto : upto ≡ st.next) where
+  pub body_walk : {a : Emit} {room₁ : List ℕ} {b : Emit} {room₂ : List ℕ} {ws₂ : List Slot} {r : Emit} {room₃ : List ℕ} →
+      Enters ws (turned false (entries_to ws d (d + 1) (upto - (d + 1)))) (progress st room) (progress a room₁) →
       Inner prog k a room₁ ws b room₂ ws₂ base last d →
-      Enters ws₂ (reverse (entries_to ws₂ d (d + 1) (upto - (d + 1)))) (progress b room₂) (progress r room₃) →
+      Enters ws₂ (turned true (entries_to ws₂ d (d + 1) (upto - (d + 1)))) (progress b room₂) (progress r room₃) →
       Body prog k st room ws r room₃ ws₂ base last d
   body_walk {a = a} {room₁ = room₁} {b = b} {room₂ = room₂} {ws₂ = ws₂} {r = r} {room₃ = room₃} e₀ A q₀ = walks_body (λ R le lt m from O.
       let s = slot_of ws d in
@@ -328,12 +331,12 @@ module _ {prog : List ℕ} {k : ℕ} {st : Emit} {room ws : List ℕ} {base last
       let R₁ = ready_then R F in
       let G = use_inner A R₁ le (omega arith) m from O in
       let T = (ready_then R₁ G).tallied in
-      let word : get_or ws₂ (slot_at d) 0 ≡ get_or ws (slot_at d) 0 = G.kept (slot_at d) (omega arith) in
+      let kept : slot_in ws₂ d ≡ slot_in ws d = G.kept d (omega arith) in
       let slot : slot_of ws₂ d ≡ s = slot_kept ws ws₂ a.next G.kept d (omega arith) in
       let held : calls_in ws₂ (d + 1) st.next ≡ calls_in ws (d + 1) st.next =
       held_kept ws ws₂ a.next G.kept (d + 1) (st.next - (d + 1)) (omega arith) in
       let q = rw (is_upto, entries_are ws₂ T d (d + 1) (st.next - (d + 1))) at (use_enters q₀ T) in
-      let H = follows_gates (reverse E) b room₂ ws₂ r room₃ (only_reverse E only) (rw (slot, held, word) at q) in
+      let H = follows_gates (reverse E) b room₂ ws₂ r room₃ (only_reverse E only) (rw (slot, held, kept) at q) in
       let news = body_invocations (program_at prog) (chains_in prog k) s st.next in
       let inner = bodies_left prog k m from (calls_in ws base st.next ++ news) (st.next + length news) in
       let G₁ : Follows (left_of prog k s st.next ++ (inner.events ++ right_of prog k s st.next inner.next)) a room₁ ws b room₂ ws₂ =
@@ -360,27 +363,28 @@ module _ (prog : List ℕ) (f i depth : ℕ) (at : i ≡ root_of prog f) (deep :
   body_known known nz = by_lt p f (λ lt. absurd (nz (body_none lt))) (λ le. rw (body_all le, at) (known f le))
 
 -- the list of a slot is of the emission's qubits
-slot_within : {prog : List ℕ} {st : Emit} (ws : List ℕ) (d : ℕ) {l : List ℕ} (site : List ℕ) → l ≡ slot_list ws d → list_from site ≡ l → Ready prog st ws →
-    Within st.qubits (list_from site)
-slot_within {st = st} ws d site is_l here R = subst (Within st.qubits) (sym (here ∙ is_l)) (R.tallied.within d)
+slot_within : {prog : List ℕ} {st : Emit} (ws : List Slot) (d : ℕ) (s : Slot) (site : List ℕ) → s ≡ slot_in ws d → list_from site ≡ members_of s.list →
+    Ready prog st ws → Within st.qubits (list_from site)
+slot_within {st = st} ws d s site is here R =
+    subst (Within st.qubits) (sym (here ∙ ap (λ (v : Slot). members_of v.list) is)) (R.tallied.within d)
 
 -- the ways out of `emit_body_left` and `emit_body_right`
-module _ {prog : List ℕ} {k : ℕ} {st : Emit} {room ws : List ℕ} {d : ℕ} {r : Emit} {room₁ ws₁ : List ℕ} {f i depth w : ℕ} {l site : List ℕ}
-    (is_f : f ≡ slot_procedure ws d) (is_w : w ≡ wire_of d) (is_l : l ≡ slot_list ws d) (here : At site l (under w)) (at : i ≡ root_of prog f)
+module _ {prog : List ℕ} {k : ℕ} {st : Emit} {room : List ℕ} {ws : List Slot} {d : ℕ} {r : Emit} {room₁ : List ℕ} {ws₁ : List Slot} {s : Slot} {f i depth w : ℕ} {site : List ℕ}
+    (is : s ≡ slot_in ws d) (is_f : f ≡ 255 - s.precedence % 256) (is_w : w ≡ wire_of d) (here : At site (members_of s.list) (under w)) (at : i ≡ root_of prog f)
     (deep : depth ≡ body_depth (procedure_count prog) f) where
   pub body_left_walk : Left prog k st room ws r room₁ ws₁ i depth (list_from site) (controls_from site) → BodyLeft prog k st room ws r room₁ ws₁ d
   unfolding slot_of
   body_left_walk A = walks_body_left (λ R h.
-      let O = use_left f A (body_known prog f i depth at deep R.checked.widths) R (slot_within ws d site is_l here.list R) in
-      rw (body_is prog f i depth at deep, here.list, here.controls, is_f, is_l, is_w) at O)
+      let O = use_left f A (body_known prog f i depth at deep R.checked.widths) R (slot_within ws d s site is here.list R) in
+      rw (body_is prog f i depth at deep, here.list, here.controls, is_f, is, is_w) at O)
 
   pub body_right_walk : {behind given : ℕ} → Right prog k st room ws r room₁ ws₁ i depth (list_from site) (controls_from site) behind given →
       BodyRight prog k st room ws r room₁ ws₁ d behind
   unfolding slot_of
   body_right_walk A = walks_body_right (λ R h first Q.
-      let F = use_right f A (body_known prog f i depth at deep R.checked.widths) R (slot_within ws d site is_l here.list R) first
-      (λ ok. rw (body_is prog f i depth at deep, here.list, is_f, is_l) (Q ok)) in
-      rw (body_is prog f i depth at deep, here.list, here.controls, is_f, is_l, is_w) at F.0)
+      let F = use_right f A (body_known prog f i depth at deep R.checked.widths) R (slot_within ws d s site is here.list R) first
+      (λ ok. rw (body_is prog f i depth at deep, here.list, is_f, is) (Q ok)) in
+      rw (body_is prog f i depth at deep, here.list, here.controls, is_f, is, is_w) at F.0)
 
 -- a chain's end: its first ancilla is flipped back, and all its ancillas are given back
 finish_between : (g : Gate) (a : ℕ) (b : Emit) (room : List ℕ) → a ≤ b.next →
@@ -398,7 +402,7 @@ finish_between g a b room h = by_bool (eqb b.status 0)
     (λ many. rw (scan_many (frees a ∷ []) b room ok g many) (h, le_refl b.next))))
     (λ z. rw (scan_stopped (places g ∷ frees a ∷ []) b room z) (h, le_refl b.next))
 
-follows_finish : {xs : List Event} {st : Emit} {room ws : List ℕ} {b : Emit} {room₁ ws₁ : List ℕ} {r : Emit} {room₂ : List ℕ} (g h : Gate) →
+follows_finish : {xs : List Event} {st : Emit} {room : List ℕ} {ws : List Slot} {b : Emit} {room₁ : List ℕ} {ws₁ : List Slot} {r : Emit} {room₂ : List ℕ} (g h : Gate) →
     Follows xs st room ws b room₁ ws₁ → (b.status ≡ 0 → g ≡ h) →
     progress r room₂ ≡ scan (places g ∷ frees st.next ∷ []) (progress b room₁) →
     Follows (xs ++ (places h ∷ frees st.next ∷ [])) st room ws r room₂ ws₁
@@ -447,7 +451,7 @@ chain_is P zero f l a h = absurd (h refl)
 chain_is P (suc k) f l a h = let e : suc k - 1 ≡ k = omega arith in rw e
 
 -- an ancilla that was taken is a wire
-taken_low : {prog : List ℕ} {f : ℕ} {l : List ℕ} {cs : Controls} {st : Emit} {room ws : List ℕ} {a : Emit} {room₁ ws₁ : List ℕ} →
+taken_low : {prog : List ℕ} {f : ℕ} {l : List ℕ} {cs : Controls} {st : Emit} {room : List ℕ} {ws : List Slot} {a : Emit} {room₁ : List ℕ} {ws₁ : List Slot} →
     Invokes f l cs st room ws a room₁ ws₁ → (length l ≡ 0 → ⊥) → Ready prog st ws → Within st.qubits l → a.status ≡ 0 →
     (a.next ≡ st.next + 1) × (wire_of st.next ≡ st.next)
 taken_low {f = f} {l = l} {cs = cs} {st = st} {a = a} A some R within ok =
@@ -458,15 +462,16 @@ taken_low {f = f} {l = l} {cs = cs} {st = st} {a = a} A some R within ok =
     (e, rw (le-ltb most_wires st.next le))
 
 -- the ways out of `emit_call`
-module _ {prog : List ℕ} {k : ℕ} {st : Emit} {room ws : List ℕ} {f : ℕ} {l : List ℕ} {cs : Controls} where
-  pub call_stopped : {s : ℕ} → s ≡ st.status → (s ≡ 0 → ⊥) → Call prog k st room ws st room ws f l cs
-  call_stopped e h = walks_call (λ R within. follows_stopped _ st room ws (λ z. h (e ∙ z)))
+pub call_stopped : {prog : List ℕ} {k : ℕ} (s : State) {room : List ℕ} {ws : List Slot} {f : ℕ} {l : List ℕ} {cs : Controls} →
+    is_some s.refusal ≡ true → Call prog k (emit_in s) room ws (emit_in s) room ws f l cs
+call_stopped s {room = room} {ws = ws} h = walks_call (λ R within. follows_stopped _ (emit_in s) room ws (some_refused s.refusal h))
 
+module _ {prog : List ℕ} {k : ℕ} {st : Emit} {room : List ℕ} {ws : List Slot} {f : ℕ} {l : List ℕ} {cs : Controls} where
   module _ {n : ℕ} (is : n ≡ length l) where
     pub call_empty : n ≡ 0 → Call prog k st room ws st room ws f l cs
     call_empty e = walks_call (λ R within. follows_as (no_start (chains_in prog k) f l cs st.next (sym is ∙ e)) (follows_none st room ws))
 
-    module _ {a : Emit} {room₁ ws₁ : List ℕ} (nz : n ≡ 0 → ⊥) (A : Invokes f l cs st room ws a room₁ ws₁) where
+    module _ {a : Emit} {room₁ : List ℕ} {ws₁ : List Slot} (nz : n ≡ 0 → ⊥) (A : Invokes f l cs st room ws a room₁ ws₁) where
       pub call_flat : {base : ℕ} {r : Emit} {room₂ : List ℕ} → base ≡ st.next → k ≡ 0 →
           progress r room₂ ≡ scan (places (flip cs (wire_of base)) ∷ frees base ∷ []) (progress a room₁) →
           Call prog k st room ws r room₂ ws₁ f l cs
@@ -480,7 +485,7 @@ module _ {prog : List ℕ} {k : ℕ} {st : Emit} {room ws : List ℕ} {f : ℕ} 
           (follows_finish (flip cs (wire_of st.next)) (flip cs st.next) O.follows
           (λ ok. ap (flip cs) (taken_low A (λ e. nz (is ∙ e)) R within ok).1) q))
 
-      pub call_chain : {base last : ℕ} {b : Emit} {room₂ ws₂ : List ℕ} {r : Emit} {room₃ : List ℕ} → base ≡ st.next → (k ≡ 0 → ⊥) → last ≡ 256 * n + 256 →
+      pub call_chain : {base last : ℕ} {b : Emit} {room₂ : List ℕ} {ws₂ : List Slot} {r : Emit} {room₃ : List ℕ} → base ≡ st.next → (k ≡ 0 → ⊥) → last ≡ 256 * n + 256 →
           Bodies prog (k - 1) a room₁ ws₁ b room₂ ws₂ base last →
           progress r room₃ ≡ scan (places (flip cs (wire_of base)) ∷ frees base ∷ []) (progress b room₂) →
           Call prog k st room ws r room₃ ws₂ f l cs

@@ -1,12 +1,11 @@
 -- Main emitted from its start: the whole emission is scanned.
 use mathlib.Core.Path.{◌≡◌, refl, sym, ap, ◌∙◌, subst}
 use mathlib.Core.List.{List}
-use Prim.Native.Nat.{ℕ, suc, ◌+◌, ◌≤◌, ◌<◌, min}
+use Prim.Native.Nat.{ℕ, suc, ◌+◌, ◌≤◌, min}
 use native.Mathlib.Omega.{arith}
 use borrow.Author.Rules.{rules}
-use borrow.Author.Tests.{lt-ltb, le-ltb}
 use lib.ListN.{length}
-use Rattle.limits.specs.Sizes.{slots_length}
+use Rattle.limits.specs.Sizes.{wire_count}
 use Rattle.model.specs.Limits.{most_qubits, most_depth}
 use Rattle.model.specs.Lists.{qubits}
 use Rattle.model.specs.Gates.{Controls, no_controls}
@@ -16,8 +15,9 @@ use Rattle.decoded.specs.DecodedTable.{procedure_count, root_of, statement_at, p
 use Rattle.reach.proofs.MatrixOfAProgram.{count_at}
 use Rattle.controls.specs.ControlWords.{controls_from, list_from, At}
 use Rattle.lookup.specs.Plans.{Within}
+use Rattle.events.specs.declared.Slot.{Slot}
 use Rattle.events.specs.Scan.{Emit, progress, scan, begun, Tallied}
-use Rattle.emit.specs.WalkPromises.{body_depth, Checked, Ready, chains_in, Whole, Emits, walks_main}
+use Rattle.emit.specs.WalkPromises.{Checked, Ready, chains_in, Whole, Emits, walks_main}
 use Rattle.emit.proofs.WholeStatement.{use_whole}
 
 -- the emission as a walk over the program
@@ -34,7 +34,7 @@ emission_is prog n k root l cs h e a q c =
 main_within : (n : ℕ) (l : List ℕ) → n ≤ most_qubits → l ≡ qubits (min n most_qubits) → Within n l
 main_within n l h e = let all : min n most_qubits ≡ n = omega arith in subst (Within n) (sym (e ∙ ap qubits all)) (qubits_data n)
 
-pub main_walk : {prog : List ℕ} {n : ℕ} {st : Emit} {room ws : List ℕ} {r : Emit} {room₁ ws₁ : List ℕ} {k root : ℕ} {l site : List ℕ} →
+pub main_walk : {prog : List ℕ} {n : ℕ} {st : Emit} {room : List ℕ} {ws : List Slot} {r : Emit} {room₁ : List ℕ} {ws₁ : List Slot} {k root : ℕ} {l site : List ℕ} →
     st ≡ begun n → k ≡ procedure_count prog → root ≡ root_of prog 0 → l ≡ qubits (min n most_qubits) → At site l no_controls →
     Whole prog k st room ws r room₁ ws₁ root most_depth (list_from site) (controls_from site) → Emits prog n room ws r room₁ ws₁
 main_walk {prog = prog} {n = n} {room = room} {ws = ws} {k = k} {root = root} {l = l} b e a q c W =
@@ -44,20 +44,9 @@ main_walk {prog = prog} {n = n} {room = room} {ws = ws} {k = k} {root = root} {l
     let F = use_whole A R (main_within n l small q) in
     (F.scanned ∙ ap (λ es. scan es (progress (begun n) room)) (emission_is prog n k root l no_controls small e a q refl), F.long))
 
-pub use_main : {prog : List ℕ} {n : ℕ} {room ws : List ℕ} {r : Emit} {room₁ ws₁ : List ℕ} → Emits prog n room ws r room₁ ws₁ →
-    Checked prog → n ≤ most_qubits → slots_length ≤ length ws → Tallied n ws →
+pub use_main : {prog : List ℕ} {n : ℕ} {room : List ℕ} {ws : List Slot} {r : Emit} {room₁ : List ℕ} {ws₁ : List Slot} → Emits prog n room ws r room₁ ws₁ →
+    Checked prog → n ≤ most_qubits → wire_count ≤ length ws → Tallied n ws →
     (progress r room₁ ≡ scan (emission (program_at prog) n) (progress (begun n) room)) × (length ws₁ ≡ length ws)
 use_main (walks_main g) = g
 
 pub ruleset emitting = (rules, main_walk)
-
--- the ways out of `body_depth`
-pub depth_none : {q p f : ℕ} → q ≡ p → q < f → 0 ≡ body_depth p f
-unfolding body_depth
-depth_none {p = p} {f = f} e h = let l : p < f = omega arith in rw (lt-ltb _ _ l)
-
-pub depth_all : {q p f : ℕ} → q ≡ p → f ≤ q → most_depth ≡ body_depth p f
-unfolding body_depth
-depth_all {p = p} {f = f} e h = let l : f ≤ p = omega arith in rw (le-ltb _ _ l)
-
-pub ruleset depths = (rules, depth_none, depth_all)

@@ -7,7 +7,8 @@ use native.Mathlib.Omega.{arith}
 use borrow.Author.Rules.{rules}
 use lib.Dec.{ltb}
 use lib.ListN.{length, length-append}
-use Rattle.limits.specs.Sizes.{set_length, slots_length}
+use Rattle.std.specs.Prelude.{is_some}
+use Rattle.limits.specs.Sizes.{set_length, wire_count}
 use Rattle.model.specs.Syntax.{Number, Statement, skip, NOT, qcase}
 use Rattle.model.specs.Lists.{remaining, touched, holds}
 use Rattle.model.specs.Reach.{recursive}
@@ -36,22 +37,25 @@ use Rattle.decoded.specs.Steps.{touched_by, step_at}
 use Rattle.decoded.proofs.StatementAtARecord.{Idle, at_step, at_touches, at_branches, idle_skip, spent_skip}
 use Rattle.step.proofs.ChosenBranch.{chosen_means}
 use Rattle.lookup.specs.Plans.{Within}
-use Rattle.events.specs.Scan.{Emit, Progress, progress, emit_of, scan, held_in}
+use Rattle.events.specs.declared.State.{State}
+use Rattle.events.specs.declared.Slot.{Slot}
+use Rattle.events.specs.Scan.{Emit, emit_in, Progress, progress, emit_of, scan, held_in}
 use Rattle.events.specs.FollowedEvents.{Follows, Opens, Invokes, fills_slot}
 use Rattle.emit.specs.WalkPromises.{Ready, chains_in, KnownIn, Whole, Call, Left, walks_left}
 use Rattle.events.proofs.ScanOfEvents.{scan_was}
+use Rattle.events.proofs.GatesAndSlots.{some_refused}
 use Rattle.events.proofs.ConsecutiveWalks.{follows_none, follows_stopped, follows_gates, follows_next, follows_if, follows_append, held_kept, held_append}
 use Rattle.emit.proofs.WalkPreconditions.{ready_then, within_then, within_rest}
 use Rattle.emit.proofs.KnownParts.{width_told, call_told, known_sequence, known_chosen, known_branches}
 use Rattle.emit.proofs.WholeStatement.{whole_next, left_next, use_whole, use_call}
 
 -- nothing was refused before
-pub was_ok : {es : List Event} {st : Emit} {room ws : List ℕ} {r : Emit} {room₁ ws₁ : List ℕ} →
+pub was_ok : {es : List Event} {st : Emit} {room : List ℕ} {ws : List Slot} {r : Emit} {room₁ : List ℕ} {ws₁ : List Slot} →
     Follows es st room ws r room₁ ws₁ → r.status ≡ 0 → st.status ≡ 0
 was_ok {es = es} {st = st} {room = room} F ok =
     scan_was es st room (sym (ap (λ (s : Progress). (emit_of s).status) F.scanned) ∙ ok)
 
-module _ {st : Emit} {room ws : List ℕ} {r : Emit} {room₁ ws₁ : List ℕ} where
+module _ {st : Emit} {room : List ℕ} {ws : List Slot} {r : Emit} {room₁ : List ℕ} {ws₁ : List Slot} where
   opens_by : {es es₁ : List Event} {news news₁ : List Invocation} → es ≡ es₁ → news ≡ news₁ → Opens es news st room ws r room₁ ws₁ →
       Opens es₁ news₁ st room ws r room₁ ws₁
   opens_by {es = es} {news₁ = news₁} e n O =
@@ -68,7 +72,7 @@ module _ {st : Emit} {room ws : List ℕ} {r : Emit} {room₁ ws₁ : List ℕ} 
       (invocations (recursive (program_at prog) f) (statement_at prog depth i) l st.next) st room ws r room₁ ws₁
   use_left f (walks_left g) = g f
 
-  pub use_invokes : {f : ℕ} {l : List ℕ} {cs : Controls} → Invokes f l cs st room ws r room₁ ws₁ → slots_length ≤ length ws → Within st.qubits l →
+  pub use_invokes : {f : ℕ} {l : List ℕ} {cs : Controls} → Invokes f l cs st room ws r room₁ ws₁ → wire_count ≤ length ws → Within st.qubits l →
       Opens (invokes l cs st.next) (invoked f l st.next) st room ws r room₁ ws₁
   use_invokes (fills_slot g) = g
 
@@ -91,7 +95,7 @@ module _ (ch : Chains) (r : ℕ → Bool) (l : List ℕ) (cs : Controls) (next :
 
 -- a part whole, then a part's left
 module _ (prog : List ℕ) (k : ℕ) (f : ℕ) (l : List ℕ) (cs : Controls) (x y : Statement) where
-  whole_then_left : {st : Emit} {room ws : List ℕ} {r : Emit} {room₁ ws₁ : List ℕ} {b : Emit} {room₂ ws₂ : List ℕ} →
+  whole_then_left : {st : Emit} {room : List ℕ} {ws : List Slot} {r : Emit} {room₁ : List ℕ} {ws₁ : List Slot} {b : Emit} {room₂ : List ℕ} {ws₂ : List Slot} →
       Ready prog st ws → Follows (whole (chains_in prog k) x l cs st.next) st room ws r room₁ ws₁ →
       Opens (left (chains_in prog k) (recursive (program_at prog) f) y l cs r.next)
       (invocations (recursive (program_at prog) f) y l r.next) r room₁ ws₁ b room₂ ws₂ →
@@ -107,7 +111,7 @@ module _ (prog : List ℕ) (k : ℕ) (f : ℕ) (l : List ℕ) (cs : Controls) (x
 
 -- a part's left, then another's
 module _ (prog : List ℕ) (k : ℕ) (f : ℕ) (l : List ℕ) (cs₁ cs₂ : Controls) (x y : Statement) where
-  left_then_left : {st : Emit} {room ws : List ℕ} {r : Emit} {room₁ ws₁ : List ℕ} {b : Emit} {room₂ ws₂ : List ℕ} →
+  left_then_left : {st : Emit} {room : List ℕ} {ws : List Slot} {r : Emit} {room₁ : List ℕ} {ws₁ : List Slot} {b : Emit} {room₂ : List ℕ} {ws₂ : List Slot} →
       Ready prog st ws →
       Opens (left (chains_in prog k) (recursive (program_at prog) f) x l cs₁ st.next)
       (invocations (recursive (program_at prog) f) x l st.next) st room ws r room₁ ws₁ →
@@ -140,15 +144,16 @@ module _ (prog : List ℕ) (k : ℕ) (f : ℕ) (l : List ℕ) (cs₁ cs₂ : Con
       }
 
 -- the ways out of `emit_left`
-module _ {prog : List ℕ} {k : ℕ} {st : Emit} {room ws : List ℕ} {i depth : ℕ} {l : List ℕ} {cs : Controls} where
+pub left_stopped : {prog : List ℕ} {k : ℕ} (s : State) {room : List ℕ} {ws : List Slot} {i depth : ℕ} {l : List ℕ} {cs : Controls} →
+    is_some s.refusal ≡ true → Left prog k (emit_in s) room ws (emit_in s) room ws i depth l cs
+left_stopped s {room = room} {ws = ws} h = let f = some_refused s.refusal h in
+    walks_left (λ g K R within. record { follows = follows_stopped _ (emit_in s) room ws f; held = λ z. absurd (f z) })
+
+module _ {prog : List ℕ} {k : ℕ} {st : Emit} {room : List ℕ} {ws : List Slot} {i depth : ℕ} {l : List ℕ} {cs : Controls} where
   left_skipped : statement_at prog depth i ≡ skip → Left prog k st room ws st room ws i depth l cs
   left_skipped e =
       walks_left (λ f K R within. let h = left_skip (chains_in prog k) (recursive (program_at prog) f) l cs st.next (statement_at prog depth i) e in
       opens_by h.0 h.1 (opens_none (follows_none st room ws)))
-
-  pub left_stopped : {s : ℕ} → s ≡ st.status → (s ≡ 0 → ⊥) → Left prog k st room ws st room ws i depth l cs
-  left_stopped {s = s} e g = let h : st.status ≡ 0 → ⊥ = λ z. g (e ∙ z) in
-      walks_left (λ f K R within. record { follows = follows_stopped _ st room ws h; held = λ z. absurd (h z) })
 
   pub left_spent : depth ≡ 0 → Left prog k st room ws st room ws i depth l cs
   left_spent e = left_skipped (spent_skip prog depth i e)
@@ -166,7 +171,7 @@ module _ {prog : List ℕ} {k : ℕ} {st : Emit} {room ws : List ℕ} {i depth :
           let t = left_not (chains_in prog k) (recursive (program_at prog) f) l cs st.next (statement_at prog depth i) h.0 h.1 q h.2 h.3 in
           opens_by t.0 t.1 (opens_none (follows_gates _ st room ws r room₁ tt g)))
 
-      module _ {ws₁ : List ℕ} where
+      module _ {ws₁ : List Slot} where
         pub left_chosen : {c a b x : ℕ} → found ≡ step.Chooses c a b → x ≡ cond (holds (test_at prog (depth - 1) c) l) a b →
             Left prog k st room ws r room₁ ws₁ x (depth - 1) l cs → Left prog k st room ws r room₁ ws₁ i depth l cs
         left_chosen e q A =
@@ -213,7 +218,7 @@ module _ {prog : List ℕ} {k : ℕ} {st : Emit} {room ws : List ℕ} {i depth :
             (rw q (sym (invocations_other rec l st.next (removals_in prog at) g no)))
             (opens_none (use_call A R (within_rest st.qubits (removals_in prog at) l d within))))
 
-        module _ {b : Emit} {room₂ ws₂ : List ℕ} where
+        module _ {b : Emit} {room₂ : List ℕ} {ws₂ : List Slot} where
           pub left_second : {x y : ℕ} {w : Bool} → found ≡ step.Sequence x y → w ≡ ltb 0 (width_in prog x) → w ≡ false →
               Whole prog k st room ws r room₁ ws₁ x (depth - 1) l cs → Left prog k r room₁ ws₁ b room₂ ws₂ y (depth - 1) l cs →
               Left prog k st room ws b room₂ ws₂ i depth l cs

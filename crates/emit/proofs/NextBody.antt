@@ -6,7 +6,7 @@ use mathlib.Core.List.{List, [], ◌∷◌}
 use Prim.Native.Nat.{ℕ, zero, suc, ◌+◌, ◌-◌, ◌*◌, ◌/◌, ◌%◌, ◌≤◌, ◌<◌, zero-le}
 use native.Mathlib.Omega.{arith}
 use borrow.Author.Tests.{ltb-true, le-leb, lt-leb}
-use lib.ListN.{length, get_or}
+use lib.ListN.{length}
 use Rattle.model.specs.Syntax.{Program}
 use Rattle.model.specs.Lists.{member}
 use Rattle.model.specs.Emission.{Chains, Invocation, Key, key_of, keys, is_of, calls_to, Emitted, bodies, bodies_from}
@@ -15,8 +15,9 @@ use Rattle.model.proofs.ListLaws.{member_head, member_tail, member_cases, not_in
 use Rattle.agreement.proofs.InvocationsOfABody.{Mem}
 use Rattle.agreement.proofs.KeysOfALength.{InOrder, is_of_lem, of_is, calls_here, calls_past, keys_in_order, keys_called, keys_order}
 use Rattle.decoded.specs.DecodedTable.{program_at}
-use Rattle.events.specs.Scan.{slot_at, slot_list_length, slot_procedure, slot_of, Tallied, held_in}
-use Rattle.events.specs.Slots.{precedence_in, Waits, NextSlot}
+use Rattle.events.specs.declared.Slot.{Slot}
+use Rattle.events.specs.Scan.{slot_list_length, slot_procedure, slot_of, Tallied, held_in}
+use Rattle.events.specs.Slots.{precedence_in, Waits, NoneWaits, NextSlot}
 use Rattle.emit.specs.WalkPromises.{chains_in, bodies_up_to, keys_from, bodies_left, calls_in, later_calls, Precedes}
 
 -- the keys from a number on: none, all, or the lowest and those above it
@@ -57,7 +58,7 @@ from_next from k (x ∷ ks) o m le low = by_eq k x
     let below : x < from = by_lt x from (λ lt. lt) (λ ge. let z = low x (member_head x ks) ge in omega arith) in
     rw (lt-leb from x below, lt-leb (k + 1) x (omega arith)) (from_next from k ks o.1 behind le (λ y b. low y (member_tail y x ks b))))
 
-module _ (ws : List ℕ) where
+module _ (ws : List Slot) where
   -- a slot's invocation is among those held, and each of those is a slot's
   held_in_lem : (j c a : ℕ) → j ≤ a → a < j + c → Mem (slot_of ws a) (held_in ws j c)
   unfolding held_in
@@ -72,7 +73,7 @@ module _ (ws : List ℕ) where
   in_held j (suc c) x (inl e) f = f j (omega arith) (omega arith) e
   in_held j (suc c) x (inr m) f = in_held (j + 1) c x m (λ a l h. f a (omega arith) (omega arith))
 
-module _ (ws : List ℕ) {n : ℕ} (T : Tallied n ws) (base upto : ℕ) where
+module _ (ws : List Slot) {n : ℕ} (T : Tallied n ws) (base upto : ℕ) where
   abbrev all : List Invocation
   all = calls_in ws base upto
 
@@ -108,15 +109,15 @@ module _ (ws : List ℕ) {n : ℕ} (T : Tallied n ws) (base upto : ℕ) where
 
   -- the precedence of a slot, by its length and its key
   slot_precedence : (a : ℕ) → precedence_in ws a ≡ 256 * slot_list_length ws a + (255 - slot_procedure ws a)
-  slot_precedence a = number (get_or ws (slot_at a) 0)
+  slot_precedence a = number (precedence_in ws a)
     where
-      number : (w : ℕ) → w % 65536 ≡ 256 * (w / 256 % 256) + (255 - (255 - w % 256))
+      number : (w : ℕ) → w ≡ 256 * (w / 256) + (255 - (255 - w % 256))
       number w = omega arith
 
   slot_byte : (a : ℕ) → slot_procedure ws a ≤ 255
   slot_byte a = omega arith
 
-  module _ (last m from d : ℕ) (O : Precedes last m from) (N : NextSlot ws base last upto d) where
+  module _ (last m from : ℕ) (O : Precedes last m from) where
     -- a slot of length m with a key from `from` on waits, and so does one with a shorter list
     key_waits : (a : ℕ) → slot_list_length ws a ≡ m → from ≤ slot_procedure ws a → 0 < m → Waits ws last a
     key_waits a long le some =
@@ -134,10 +135,7 @@ module _ (ws : List ℕ) {n : ℕ} (T : Tallied n ws) (base upto : ℕ) where
         (omega arith, omega arith)
 
     -- no slot waits: no key is left, and no shorter length
-    module _ (past : upto ≤ d) where
-      none_waits : (a : ℕ) → base ≤ a → a < upto → Waits ws last a → ⊥
-      none_waits a l h w = let lt : d < upto = (N.greatest a l h w).0 in omega arith
-
+    module _ (none_waits : NoneWaits ws base last upto) where
       no_key : 0 < m → keys_from from (keys m all) ≡ []
       no_key some = from_none from (keys m all) (λ k b le. key_slot m k b (λ a l h long is. none_waits a l h (key_waits a long (rw is le) some)))
 
@@ -152,7 +150,7 @@ module _ (ws : List ℕ) {n : ℕ} (T : Tallied n ws) (base upto : ℕ) where
               (λ a l h some le. none_waits a l h (shorter_waits a (omega arith) some))))
 
     -- slot d is found
-    module _ (lt : d < upto) where
+    module _ (d : ℕ) (N : NextSlot ws base last upto d) where
       abbrev key : Key
       key = slot_procedure ws d
 
@@ -162,7 +160,7 @@ module _ (ws : List ℕ) {n : ℕ} (T : Tallied n ws) (base upto : ℕ) where
       -- its key is the next of its length, and the keys above it are left
       lowest : (a : ℕ) → base ≤ a → a < upto → slot_list_length ws a ≡ long → Waits ws last a → key ≤ slot_procedure ws a
       lowest a l h same w =
-          let z : precedence_in ws a ≤ precedence_in ws d = (N.greatest a l h w).1 in
+          let z : precedence_in ws a ≤ precedence_in ws d = N.greatest a l h w in
           let e = slot_precedence a in
           let q = slot_precedence d in
           let b = slot_byte a in
@@ -170,13 +168,13 @@ module _ (ws : List ℕ) {n : ℕ} (T : Tallied n ws) (base upto : ℕ) where
           omega arith
 
       pub seek_some : 0 < long
-      seek_some = let e = slot_precedence d in let w = (N.waits lt).1.0 in let b = slot_byte d in omega arith
+      seek_some = let e = slot_precedence d in let w = N.waits.0 in let b = slot_byte d in omega arith
 
       -- its length is m or less, at m its key is one from `from` on
       d_length : (long ≡ m → from ≤ key) × (long ≤ m)
       d_length =
           let e = slot_precedence d in
-          let w = (N.waits lt).1.1 in
+          let w = N.waits.1 in
           let b = slot_byte d in
           let o = O.below in
           let c = O.key in
@@ -184,13 +182,13 @@ module _ (ws : List ℕ) {n : ℕ} (T : Tallied n ws) (base upto : ℕ) where
 
       keys_next : (start : ℕ) → start ≤ key → ((a : ℕ) → slot_list_length ws a ≡ long → start ≤ slot_procedure ws a → Waits ws last a) →
           keys_from start (keys long all) ≡ key ∷ keys_from (key + 1) (keys long all)
-      keys_next start le waits = from_next start key (keys long all) (keys_in_order long all) (slot_key long d (N.waits lt).0 lt refl) le
+      keys_next start le waits = from_next start key (keys long all) (keys_in_order long all) (slot_key long d N.from N.below refl) le
           (λ x b h. key_slot long x b (λ a l g same is. let z : key ≤ slot_procedure ws a = lowest a l g same (waits a same (rw is h)) in omega arith))
 
       -- where its length is less, nothing longer is left
       more_waits : (a : ℕ) → base ≤ a → a < upto → Waits ws last a → slot_list_length ws a ≤ long
       more_waits a l h w =
-          let z : precedence_in ws a ≤ precedence_in ws d = (N.greatest a l h w).1 in
+          let z : precedence_in ws a ≤ precedence_in ws d = N.greatest a l h w in
           let e = slot_precedence a in
           let q = slot_precedence d in
           let b = slot_byte a in
@@ -241,9 +239,9 @@ module _ (ws : List ℕ) {n : ℕ} (T : Tallied n ws) (base upto : ℕ) where
           let pair = is_of_lem long key (slot_of ws a) t in
           let e = slot_precedence a in
           let q = slot_precedence d in
-          let w = (N.waits lt).1 in
+          let w = N.waits in
           let same : precedence_in ws a ≡ precedence_in ws d = e ∙ rw (T.lengths a ∙ pair.0, pair.1) (sym q) in
-          let z : precedence_in ws a < precedence_in ws d = N.first a l h lt (omega arith, omega arith) in
+          let z : precedence_in ws a < precedence_in ws d = N.first a l h (omega arith, omega arith) in
           omega arith)
 
       calls_found : (j c : ℕ) → base ≤ j → j ≤ d → d < j + c →
@@ -259,7 +257,8 @@ module _ (ws : List ℕ) {n : ℕ} (T : Tallied n ws) (base upto : ℕ) where
 
       pub seek_calls : calls_to long key all ≡ slot_of ws d ∷ later_calls ws upto d
       seek_calls =
-          let w = (N.waits lt).0 in
+          let w = N.from in
+          let lt = N.below in
           let end : base + (upto - base) - (d + 1) ≡ upto - (d + 1) = omega arith in
           calls_found base (upto - base) (omega arith) w (omega arith) ∙ rw end
 
@@ -268,5 +267,5 @@ module _ (ws : List ℕ) {n : ℕ} (T : Tallied n ws) (base upto : ℕ) where
       seek_below = let e = slot_precedence d in let b = slot_byte d in record { key = omega arith; below = omega arith }
 
 -- precedence falls from body to body
-pub seek_falls : (ws : List ℕ) (base last upto d p : ℕ) → NextSlot ws base last upto d → d < upto → p ≡ precedence_in ws d → p < last
-seek_falls ws base last upto d p N lt is = let w = (N.waits lt).1.1 in omega arith
+pub seek_falls : (ws : List Slot) (base last upto d p : ℕ) → NextSlot ws base last upto d → d < upto → p ≡ precedence_in ws d → p < last
+seek_falls ws base last upto d p N lt is = let w = N.waits.1 in omega arith

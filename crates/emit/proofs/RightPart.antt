@@ -8,6 +8,7 @@ use borrow.Author.Rules.{rules}
 use borrow.Author.Tests.{le-ltb}
 use lib.Dec.{ltb}
 use lib.ListN.{length, length-append}
+use Rattle.std.specs.Prelude.{is_some}
 use Rattle.limits.specs.Sizes.{set_length, wire_count}
 use Rattle.model.specs.Limits.{most_wires}
 use Rattle.model.specs.Syntax.{Number, Statement, skip, NOT, sequence, if, qcase, call}
@@ -41,16 +42,19 @@ use Rattle.decoded.specs.Steps.{touched_by, step_at}
 use Rattle.decoded.proofs.StatementAtARecord.{Idle, at_step, at_branches, idle_skip, spent_skip}
 use Rattle.step.proofs.ChosenBranch.{chosen_means}
 use Rattle.lookup.specs.Plans.{Within}
-use Rattle.events.specs.Scan.{Emit, progress, scan, wire_of}
+use Rattle.events.specs.declared.State.{State}
+use Rattle.events.specs.declared.Slot.{Slot}
+use Rattle.events.specs.Scan.{Emit, emit_in, progress, scan, wire_of}
 use Rattle.events.specs.FollowedEvents.{Follows}
 use Rattle.emit.specs.WalkPromises.{Ready, chains_in, KnownIn, Before, Whole, Right, walks_right}
+use Rattle.events.proofs.GatesAndSlots.{some_refused}
 use Rattle.events.proofs.ConsecutiveWalks.{follows_none, follows_stopped, follows_gates, follows_next, follows_if, follows_as, follows_append}
 use Rattle.emit.proofs.WalkPreconditions.{ready_then, within_then}
 use Rattle.emit.proofs.WholeStatement.{right_next, use_whole}
 use Rattle.emit.proofs.LeftPart.{was_ok}
 use Rattle.emit.proofs.KnownParts.{width_told, call_told, known_sequence, known_chosen, known_branches}
 
-module _ {prog : List ℕ} {k : ℕ} {st : Emit} {room ws : List ℕ} {r : Emit} {room₁ ws₁ : List ℕ} where
+module _ {prog : List ℕ} {k : ℕ} {st : Emit} {room : List ℕ} {ws : List Slot} {r : Emit} {room₁ : List ℕ} {ws₁ : List Slot} where
   pub use_right : (f : ℕ) {i depth : ℕ} {l : List ℕ} {cs : Controls} {behind given : ℕ} → Right prog k st room ws r room₁ ws₁ i depth l cs behind given →
       KnownIn prog f depth i → Ready prog st ws → Within st.qubits l → (first : ℕ) →
       (st.status ≡ 0 → Before behind first (length (invocations (recursive (program_at prog) f) (statement_at prog depth i) l first))) →
@@ -105,7 +109,7 @@ returns_wire g (q ∷ l) cs a b e h = let le : a ≤ most_wires = omega arith in
 
 -- a right part, then a part whole
 module _ (prog : List ℕ) (k : ℕ) (f : ℕ) (l : List ℕ) (cs : Controls) (first : ℕ) (x y : Statement) where
-  right_then_whole : {st : Emit} {room ws : List ℕ} {r : Emit} {room₁ ws₁ : List ℕ} {b : Emit} {room₂ ws₂ : List ℕ} →
+  right_then_whole : {st : Emit} {room : List ℕ} {ws : List Slot} {r : Emit} {room₁ : List ℕ} {ws₁ : List Slot} {b : Emit} {room₂ : List ℕ} {ws₂ : List Slot} →
       Ready prog st ws → Follows (right (chains_in prog k) (recursive (program_at prog) f) x l cs first st.next) st room ws r room₁ ws₁ →
       Follows (whole (chains_in prog k) y l cs r.next) r room₁ ws₁ b room₂ ws₂ →
       Follows (right (chains_in prog k) (recursive (program_at prog) f) x l cs first st.next ++ whole (chains_in prog k) y l cs st.next)
@@ -116,7 +120,7 @@ module _ (prog : List ℕ) (k : ℕ) (f : ℕ) (l : List ℕ) (cs : Controls) (f
 
 -- a right part, then another
 module _ (prog : List ℕ) (k : ℕ) (f : ℕ) (l : List ℕ) (cs₁ cs₂ : Controls) (first second : ℕ) (x y : Statement) where
-  right_then_right : {st : Emit} {room ws : List ℕ} {r : Emit} {room₁ ws₁ : List ℕ} {b : Emit} {room₂ ws₂ : List ℕ} →
+  right_then_right : {st : Emit} {room : List ℕ} {ws : List Slot} {r : Emit} {room₁ : List ℕ} {ws₁ : List Slot} {b : Emit} {room₂ : List ℕ} {ws₂ : List Slot} →
       Ready prog st ws → Follows (right (chains_in prog k) (recursive (program_at prog) f) y l cs₁ second st.next) st room ws r room₁ ws₁ →
       Follows (right (chains_in prog k) (recursive (program_at prog) f) x l cs₂ first r.next) r room₁ ws₁ b room₂ ws₂ →
       Follows (right (chains_in prog k) (recursive (program_at prog) f) y l cs₁ second st.next ++
@@ -165,15 +169,17 @@ none_before : {behind first n : ℕ} → Before behind first n → 0 ≡ n → b
 none_before B e = let z = B.ends in omega arith
 
 -- the ways out of `emit_right`
-module _ {prog : List ℕ} {k : ℕ} {st : Emit} {room ws : List ℕ} {i depth : ℕ} {l : List ℕ} {cs : Controls} {behind : ℕ} where
+pub right_stopped : {prog : List ℕ} {k : ℕ} (s : State) {room : List ℕ} {ws : List Slot} {i depth : ℕ} {l : List ℕ} {cs : Controls} {behind : ℕ} →
+    is_some s.refusal ≡ true → Right prog k (emit_in s) room ws (emit_in s) room ws i depth l cs behind behind
+right_stopped s {room = room} {ws = ws} h = let f = some_refused s.refusal h in
+    walks_right (λ g K R within first Q. (follows_stopped _ (emit_in s) room ws f, λ ok. absurd (f ok)))
+
+module _ {prog : List ℕ} {k : ℕ} {st : Emit} {room : List ℕ} {ws : List Slot} {i depth : ℕ} {l : List ℕ} {cs : Controls} {behind : ℕ} where
   right_skipped : statement_at prog depth i ≡ skip → Right prog k st room ws st room ws i depth l cs behind behind
   right_skipped e = walks_right (λ f K R within first Q. (
     follows_as (right_skip (chains_in prog k) (recursive (program_at prog) f) l cs first st.next (statement_at prog depth i) e) (follows_none st room ws),
     λ ok. none_before (Q ok) (count_skip (chains_in prog k) (recursive (program_at prog) f) l cs first st.next (statement_at prog depth i) e),
   ))
-
-  pub right_stopped : {s : ℕ} → s ≡ st.status → (s ≡ 0 → ⊥) → Right prog k st room ws st room ws i depth l cs behind behind
-  right_stopped e g = let h : st.status ≡ 0 → ⊥ = λ z. g (e ∙ z) in walks_right (λ f K R within first Q. (follows_stopped _ st room ws h, λ ok. absurd (h ok)))
 
   pub right_spent : depth ≡ 0 → Right prog k st room ws st room ws i depth l cs behind behind
   right_spent e = right_skipped (spent_skip prog depth i e)
@@ -218,7 +224,7 @@ module _ {prog : List ℕ} {k : ℕ} {st : Emit} {room ws : List ℕ} {i depth :
             λ ok. back (was_ok F ok),
           ))
 
-      module _ {ws₁ : List ℕ} where
+      module _ {ws₁ : List Slot} where
         pub right_chosen : {c a b x : ℕ} → found ≡ step.Chooses c a b → x ≡ cond (holds (test_at prog (depth - 1) c) l) a b →
             Right prog k st room ws r room₁ ws₁ x (depth - 1) l cs behind given → Right prog k st room ws r room₁ ws₁ i depth l cs behind given
         right_chosen e q A =
@@ -247,7 +253,7 @@ module _ {prog : List ℕ} {k : ℕ} {st : Emit} {room ws : List ℕ} {i depth :
             let F = use_right f A (λ d. both.1) R within first (λ ok. rw (q, invocations_thin rec l first X Y thin) at (Q ok)) in
             (follows_as (rw q (sym (right_thin (chains_in prog k) rec l cs first X Y st.next thin))) F.0, F.1))
 
-        module _ {b : Emit} {room₂ ws₂ : List ℕ} where
+        module _ {b : Emit} {room₂ : List ℕ} {ws₂ : List Slot} where
           pub right_first : {x y : ℕ} {w : Bool} → found ≡ step.Sequence x y → w ≡ ltb 0 (width_in prog x) → w ≡ true →
               Right prog k st room ws r room₁ ws₁ x (depth - 1) l cs behind given → Whole prog k r room₁ ws₁ b room₂ ws₂ y (depth - 1) l cs →
               Right prog k st room ws b room₂ ws₂ i depth l cs behind given

@@ -9,12 +9,13 @@ use Rattle.model.specs.Lists.{remaining}
 use Rattle.model.specs.Emission.{Event}
 use Rattle.model.proofs.ListLaws.{data_remaining}
 use Rattle.lookup.specs.Plans.{Within}
+use Rattle.events.specs.declared.Slot.{Slot}
 use Rattle.events.specs.Scan.{Emit}
 use Rattle.events.specs.FollowedEvents.{Follows}
 use Rattle.events.proofs.ConsecutiveWalks.{follows_qubits}
 use Rattle.emit.specs.WalkPromises.{Ready}
 
-module _ {es : List Event} {st : Emit} {room ws : List ℕ} {a : Emit} {room₁ ws₁ : List ℕ} where
+module _ {es : List Event} {st : Emit} {room : List ℕ} {ws : List Slot} {a : Emit} {room₁ : List ℕ} {ws₁ : List Slot} where
   -- what a walk needs still holds behind another
   pub ready_then : {prog : List ℕ} → Ready prog st ws → Follows es st room ws a room₁ ws₁ → Ready prog a ws₁
   ready_then R F =

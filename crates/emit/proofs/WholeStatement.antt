@@ -5,6 +5,7 @@ use mathlib.Core.List.{List, [], ◌∷◌, ◌++◌}
 use Prim.Native.Nat.{ℕ, ◌+◌, ◌-◌, ◌≤◌, ◌<◌}
 use borrow.Author.Rules.{rules}
 use lib.ListN.{length}
+use Rattle.std.specs.Prelude.{is_some}
 use Rattle.limits.specs.Sizes.{set_length}
 use Rattle.model.specs.Syntax.{Number, Statement, skip, NOT, sequence, qcase, call}
 use Rattle.model.specs.Lists.{remaining, touched, holds}
@@ -21,10 +22,13 @@ use Rattle.decoded.specs.Steps.{touched_by, step_at}
 use Rattle.decoded.proofs.StatementAtARecord.{Idle, at_step, at_touches, at_branches, idle_skip, spent_skip}
 use Rattle.step.proofs.ChosenBranch.{chosen_means}
 use Rattle.lookup.specs.Plans.{Within}
-use Rattle.events.specs.Scan.{Emit, progress, scan}
+use Rattle.events.specs.declared.State.{State}
+use Rattle.events.specs.declared.Slot.{Slot}
+use Rattle.events.specs.Scan.{Emit, emit_in, progress, scan}
 use Rattle.events.specs.FollowedEvents.{Follows}
 use Rattle.emit.specs.WalkPromises.{Ready, chains_in, Whole, walks_whole, Call, walks_call}
 use Rattle.events.proofs.ScanOfEvents.{next_after, stacked_after}
+use Rattle.events.proofs.GatesAndSlots.{some_refused}
 use Rattle.events.proofs.ConsecutiveWalks.{follows_none, follows_stopped, follows_gates, follows_next, follows_if, follows_as, follows_append}
 use Rattle.emit.proofs.WalkPreconditions.{ready_then, within_then, within_rest}
 
@@ -67,7 +71,7 @@ module _ (ch : Chains) (l : List ℕ) (cs : Controls) (next : ℕ) (s : Statemen
   unfolding whole
   whole_call e = rw e
 
-module _ {prog : List ℕ} {k : ℕ} {st : Emit} {room ws : List ℕ} {r : Emit} {room₁ ws₁ : List ℕ} where
+module _ {prog : List ℕ} {k : ℕ} {st : Emit} {room : List ℕ} {ws : List Slot} {r : Emit} {room₁ : List ℕ} {ws₁ : List Slot} where
   -- what a walk promises
   pub use_whole : {i depth : ℕ} {l : List ℕ} {cs : Controls} → Whole prog k st room ws r room₁ ws₁ i depth l cs →
       Ready prog st ws → Within st.qubits l →
@@ -80,7 +84,7 @@ module _ {prog : List ℕ} {k : ℕ} {st : Emit} {room ws : List ℕ} {r : Emit}
 
 -- two parts whole, one after the other
 module _ (prog : List ℕ) (k : ℕ) (l : List ℕ) (x y : Statement) (cs₁ cs₂ : Controls) where
-  two_parts : {st : Emit} {room ws : List ℕ} {r : Emit} {room₁ ws₁ : List ℕ} {b : Emit} {room₂ ws₂ : List ℕ} →
+  two_parts : {st : Emit} {room : List ℕ} {ws : List Slot} {r : Emit} {room₁ : List ℕ} {ws₁ : List Slot} {b : Emit} {room₂ : List ℕ} {ws₂ : List Slot} →
       Ready prog st ws →
       Follows (whole (chains_in prog k) x l cs₁ st.next) st room ws r room₁ ws₁ →
       Follows (whole (chains_in prog k) y l cs₂ r.next) r room₁ ws₁ b room₂ ws₂ →
@@ -90,10 +94,11 @@ module _ (prog : List ℕ) (k : ℕ) (l : List ℕ) (x y : Statement) (cs₁ cs�
       (follows_next F ok ∙ whole_next prog k x l cs₁ st.next R.some)) G)
 
 -- the ways out of `emit_whole`
-module _ {prog : List ℕ} {k : ℕ} {st : Emit} {room ws : List ℕ} {i depth : ℕ} {l : List ℕ} {cs : Controls} where
-  pub whole_stopped : {s : ℕ} → s ≡ st.status → (s ≡ 0 → ⊥) → Whole prog k st room ws st room ws i depth l cs
-  whole_stopped e f = walks_whole (λ R within. follows_stopped _ st room ws (λ z. f (e ∙ z)))
+pub whole_stopped : {prog : List ℕ} {k : ℕ} (s : State) {room : List ℕ} {ws : List Slot} {i depth : ℕ} {l : List ℕ} {cs : Controls} →
+    is_some s.refusal ≡ true → Whole prog k (emit_in s) room ws (emit_in s) room ws i depth l cs
+whole_stopped s {room = room} {ws = ws} h = walks_whole (λ R within. follows_stopped _ (emit_in s) room ws (some_refused s.refusal h))
 
+module _ {prog : List ℕ} {k : ℕ} {st : Emit} {room : List ℕ} {ws : List Slot} {i depth : ℕ} {l : List ℕ} {cs : Controls} where
   pub whole_spent : depth ≡ 0 → Whole prog k st room ws st room ws i depth l cs
   whole_spent e = walks_whole (λ R within. follows_as
       (whole_skip (chains_in prog k) l cs st.next (statement_at prog depth i) (spent_skip prog depth i e)) (follows_none st room ws))
@@ -113,7 +118,7 @@ module _ {prog : List ℕ} {k : ℕ} {st : Emit} {room ws : List ℕ} {i depth :
           walks_whole (λ R within. follows_as (whole_not (chains_in prog k) l cs st.next (statement_at prog depth i) h.2 h.3)
           (follows_gates _ st room ws r room₁ tt g))
 
-      module _ {ws₁ : List ℕ} where
+      module _ {ws₁ : List Slot} where
         pub whole_calls : {f at : ℕ} {rest : List ℕ} → found ≡ step.Calls f at → rest ≡ remaining (removals_in prog at) l →
             Call prog k st room ws r room₁ ws₁ f rest cs → Whole prog k st room ws r room₁ ws₁ i depth l cs
         whole_calls {f = f} {at = at} {rest = rest} e q A = let h = at_step prog depth i nz is e in
@@ -130,7 +135,7 @@ module _ {prog : List ℕ} {k : ℕ} {st : Emit} {room ws : List ℕ} {i depth :
             (sym (chosen_means (λ s. whole ch s l cs st.next) l (whole_yes ch l cs st.next) (whole_no ch l cs st.next) prog depth i nz is e q))
             (use_whole A R within))
 
-        module _ {b : Emit} {room₂ ws₂ : List ℕ} where
+        module _ {b : Emit} {room₂ : List ℕ} {ws₂ : List Slot} where
           pub whole_sequence : {x y : ℕ} → found ≡ step.Sequence x y →
               Whole prog k st room ws r room₁ ws₁ x (depth - 1) l cs → Whole prog k r room₁ ws₁ b room₂ ws₂ y (depth - 1) l cs →
               Whole prog k st room ws b room₂ ws₂ i depth l cs

@@ -1,6 +1,6 @@
 -- What the walkers promise: each follows the events that the definitions have for it.
 use Rattle.std.specs.Prelude.{ℕ, zero, suc, ◌+◌, ◌-◌, ◌*◌, ◌≤◌, ◌<◌, ◌≡◌, false, cond, List, [], ◌∷◌, ◌++◌, length, ltb, leb}
-use Rattle.limits.specs.Sizes.{wire_count, slots_length}
+use Rattle.limits.specs.Sizes.{wire_count}
 use Rattle.model.specs.Limits.{most_procedures, most_qubits, most_depth, most_wires}
 use Rattle.model.specs.Syntax.{Program, body}
 use Rattle.model.specs.Reach.{recursive, any_lacks_removal}
@@ -29,6 +29,7 @@ use Rattle.model.specs.Emission.{
 use Rattle.decoded.specs.DecodedTable.{procedure_count, statement_at, program_at}
 use Rattle.widths.specs.KeptWidths.{Known, WidthsKnown}
 use Rattle.lookup.specs.Plans.{Within}
+use Rattle.events.specs.declared.Slot.{Slot}
 use Rattle.events.specs.Scan.{Emit, progress, scan, begun, slot_list_length, slot_procedure, slot_of, Tallied, held_in}
 use Rattle.events.specs.FollowedEvents.{Follows, Opens}
 
@@ -39,11 +40,11 @@ pub record Checked (prog : List ℕ) : Type 0 where
   pub removes : any_lacks_removal (program_at prog) ≡ false
 
 -- such a program, wires within their limit, and slots for all of them, each with the length of its list, which is of the emission's qubits
-pub record Ready (prog : List ℕ) (st : Emit) (ws : List ℕ) : Type 0 where
+pub record Ready (prog : List ℕ) (st : Emit) (ws : List Slot) : Type 0 where
   pub checked : Checked prog
   pub some : 0 < st.next
   pub low : st.next ≤ wire_count
-  pub space : slots_length ≤ length ws
+  pub space : wire_count ≤ length ws
   pub tallied : Tallied st.qubits ws
 
 -- how deep a body is: nothing where no procedure is f
@@ -78,11 +79,11 @@ abbrev pub bodies_left : List ℕ → ℕ → ℕ → ℕ → List Invocation �
 bodies_left prog k m from all next = bodies_up_to prog k m (keys_from from (keys m all)) all all next
 
 -- the invocations in the slots from `base` on, before `upto`
-abbrev pub calls_in : List ℕ → ℕ → ℕ → List Invocation
+abbrev pub calls_in : List Slot → ℕ → ℕ → List Invocation
 calls_in ws base upto = held_in ws base (upto - base)
 
 -- the later calls to the pair of slot d
-abbrev pub later_calls : List ℕ → ℕ → ℕ → List Invocation
+abbrev pub later_calls : List Slot → ℕ → ℕ → List Invocation
 later_calls ws upto d = calls_to (slot_list_length ws d) (slot_procedure ws d) (calls_in ws (d + 1) upto)
 
 -- the bodies of length m with keys from `from` on, and all shorter ones, are those of precedence below `last`
@@ -100,18 +101,18 @@ pub record Before (behind first n : ℕ) : Type 0 where
   pub wires : behind ≤ wire_count
 
 -- one for each walker. The list of a statement or a call is of the emission's qubits
-pub data Whole (prog : List ℕ) (k : ℕ) (st : Emit) (room ws : List ℕ) (r : Emit) (room₁ ws₁ : List ℕ)
+pub data Whole (prog : List ℕ) (k : ℕ) (st : Emit) (room : List ℕ) (ws : List Slot) (r : Emit) (room₁ : List ℕ) (ws₁ : List Slot)
     (i depth : ℕ) (l : List ℕ) (cs : Controls) : Type 0 where
   walks_whole : (Ready prog st ws → Within st.qubits l →
       Follows (whole (chains_in prog k) (statement_at prog depth i) l cs st.next) st room ws r room₁ ws₁) →
       Whole prog k st room ws r room₁ ws₁ i depth l cs
 
-pub data Call (prog : List ℕ) (k : ℕ) (st : Emit) (room ws : List ℕ) (r : Emit) (room₁ ws₁ : List ℕ)
+pub data Call (prog : List ℕ) (k : ℕ) (st : Emit) (room : List ℕ) (ws : List Slot) (r : Emit) (room₁ : List ℕ) (ws₁ : List Slot)
     (f : ℕ) (l : List ℕ) (cs : Controls) : Type 0 where
   walks_call : (Ready prog st ws → Within st.qubits l → Follows (start_chain (chains_in prog k) f l cs st.next) st room ws r room₁ ws₁) →
       Call prog k st room ws r room₁ ws₁ f l cs
 
-pub data Left (prog : List ℕ) (k : ℕ) (st : Emit) (room ws : List ℕ) (r : Emit) (room₁ ws₁ : List ℕ)
+pub data Left (prog : List ℕ) (k : ℕ) (st : Emit) (room : List ℕ) (ws : List Slot) (r : Emit) (room₁ : List ℕ) (ws₁ : List Slot)
     (i depth : ℕ) (l : List ℕ) (cs : Controls) : Type 0 where
   walks_left : ((f : ℕ) → KnownIn prog f depth i → Ready prog st ws → Within st.qubits l →
       Opens (left (chains_in prog k) (recursive (program_at prog) f) (statement_at prog depth i) l cs st.next)
@@ -119,7 +120,7 @@ pub data Left (prog : List ℕ) (k : ℕ) (st : Emit) (room ws : List ℕ) (r : 
       Left prog k st room ws r room₁ ws₁ i depth l cs
 
 -- the recursive calls of the right part have the ancillas before `behind`, from `first` on, which is given
-pub data Right (prog : List ℕ) (k : ℕ) (st : Emit) (room ws : List ℕ) (r : Emit) (room₁ ws₁ : List ℕ)
+pub data Right (prog : List ℕ) (k : ℕ) (st : Emit) (room : List ℕ) (ws : List Slot) (r : Emit) (room₁ : List ℕ) (ws₁ : List Slot)
     (i depth : ℕ) (l : List ℕ) (cs : Controls) (behind given : ℕ) : Type 0 where
   walks_right : ((f : ℕ) → KnownIn prog f depth i → Ready prog st ws → Within st.qubits l → (first : ℕ) →
       (st.status ≡ 0 → Before behind first (length (invocations (recursive (program_at prog) f) (statement_at prog depth i) l first))) →
@@ -127,26 +128,26 @@ pub data Right (prog : List ℕ) (k : ℕ) (st : Emit) (room ws : List ℕ) (r :
       st room ws r room₁ ws₁ × (r.status ≡ 0 → given ≡ first)) →
       Right prog k st room ws r room₁ ws₁ i depth l cs behind given
 
-pub data BodyLeft (prog : List ℕ) (k : ℕ) (st : Emit) (room ws : List ℕ) (r : Emit) (room₁ ws₁ : List ℕ)
+pub data BodyLeft (prog : List ℕ) (k : ℕ) (st : Emit) (room : List ℕ) (ws : List Slot) (r : Emit) (room₁ : List ℕ) (ws₁ : List Slot)
     (d : ℕ) : Type 0 where
   walks_body_left : (Ready prog st ws → d ≤ most_wires →
       Opens (left_of prog k (slot_of ws d) st.next) (body_invocations (program_at prog) (chains_in prog k) (slot_of ws d) st.next)
       st room ws r room₁ ws₁) →
       BodyLeft prog k st room ws r room₁ ws₁ d
 
-pub data BodyRight (prog : List ℕ) (k : ℕ) (st : Emit) (room ws : List ℕ) (r : Emit) (room₁ ws₁ : List ℕ)
+pub data BodyRight (prog : List ℕ) (k : ℕ) (st : Emit) (room : List ℕ) (ws : List Slot) (r : Emit) (room₁ : List ℕ) (ws₁ : List Slot)
     (d behind : ℕ) : Type 0 where
   walks_body_right : (Ready prog st ws → d ≤ most_wires → (first : ℕ) →
       (st.status ≡ 0 → Before behind first (length (body_invocations (program_at prog) (chains_in prog k) (slot_of ws d) first))) →
       Follows (right_of prog k (slot_of ws d) first st.next) st room ws r room₁ ws₁) →
       BodyRight prog k st room ws r room₁ ws₁ d behind
 
-pub data Bodies (prog : List ℕ) (k : ℕ) (st : Emit) (room ws : List ℕ) (r : Emit) (room₁ ws₁ : List ℕ) (base last : ℕ) : Type 0 where
+pub data Bodies (prog : List ℕ) (k : ℕ) (st : Emit) (room : List ℕ) (ws : List Slot) (r : Emit) (room₁ : List ℕ) (ws₁ : List Slot) (base last : ℕ) : Type 0 where
   walks_bodies : (Ready prog st ws → base ≤ st.next → (m from : ℕ) → Precedes last m from →
       Follows (bodies_left prog k m from (calls_in ws base st.next) st.next).events st room ws r room₁ ws₁) →
       Bodies prog k st room ws r room₁ ws₁ base last
 
-pub data Rest (prog : List ℕ) (k : ℕ) (st : Emit) (room ws : List ℕ) (r : Emit) (room₁ ws₁ : List ℕ) (base last d : ℕ) : Type 0 where
+pub data Rest (prog : List ℕ) (k : ℕ) (st : Emit) (room : List ℕ) (ws : List Slot) (r : Emit) (room₁ : List ℕ) (ws₁ : List Slot) (base last d : ℕ) : Type 0 where
   walks_rest : (Ready prog st ws → base ≤ d → (m from : ℕ) → Precedes last m from → (first : ℕ) → d < first → first ≤ st.next →
       (st.status ≡ 0 → Before st.next first (length (body_invocations (program_at prog) (chains_in prog k) (slot_of ws d) first))) →
       Follows
@@ -154,7 +155,7 @@ pub data Rest (prog : List ℕ) (k : ℕ) (st : Emit) (room ws : List ℕ) (r : 
       inner.events ++ right_of prog k (slot_of ws d) first inner.next) st room ws r room₁ ws₁) →
       Rest prog k st room ws r room₁ ws₁ base last d
 
-pub data Inner (prog : List ℕ) (k : ℕ) (st : Emit) (room ws : List ℕ) (r : Emit) (room₁ ws₁ : List ℕ) (base last d : ℕ) : Type 0 where
+pub data Inner (prog : List ℕ) (k : ℕ) (st : Emit) (room : List ℕ) (ws : List Slot) (r : Emit) (room₁ : List ℕ) (ws₁ : List Slot) (base last d : ℕ) : Type 0 where
   walks_inner : (Ready prog st ws → base ≤ d → d < st.next → (m from : ℕ) → Precedes last m from →
       Follows
       (let news = body_invocations (program_at prog) (chains_in prog k) (slot_of ws d) st.next in
@@ -163,7 +164,7 @@ pub data Inner (prog : List ℕ) (k : ℕ) (st : Emit) (room ws : List ℕ) (r :
       st room ws r room₁ ws₁) →
       Inner prog k st room ws r room₁ ws₁ base last d
 
-pub data Body (prog : List ℕ) (k : ℕ) (st : Emit) (room ws : List ℕ) (r : Emit) (room₁ ws₁ : List ℕ) (base last d : ℕ) : Type 0 where
+pub data Body (prog : List ℕ) (k : ℕ) (st : Emit) (room : List ℕ) (ws : List Slot) (r : Emit) (room₁ : List ℕ) (ws₁ : List Slot) (base last d : ℕ) : Type 0 where
   walks_body : (Ready prog st ws → base ≤ d → d < st.next → (m from : ℕ) → Precedes last m from →
       Follows
       (let news = body_invocations (program_at prog) (chains_in prog k) (slot_of ws d) st.next in
@@ -173,7 +174,7 @@ pub data Body (prog : List ℕ) (k : ℕ) (st : Emit) (room ws : List ℕ) (r : 
       Body prog k st room ws r room₁ ws₁ base last d
 
 -- main emitted, from its start
-pub data Emits (prog : List ℕ) (n : ℕ) (room ws : List ℕ) (r : Emit) (room₁ ws₁ : List ℕ) : Type 0 where
-  walks_main : (Checked prog → n ≤ most_qubits → slots_length ≤ length ws → Tallied n ws →
+pub data Emits (prog : List ℕ) (n : ℕ) (room : List ℕ) (ws : List Slot) (r : Emit) (room₁ : List ℕ) (ws₁ : List Slot) : Type 0 where
+  walks_main : (Checked prog → n ≤ most_qubits → wire_count ≤ length ws → Tallied n ws →
       (progress r room₁ ≡ scan (emission (program_at prog) n) (progress (begun n) room)) × (length ws₁ ≡ length ws)) →
       Emits prog n room ws r room₁ ws₁

@@ -12,8 +12,8 @@ ghost use Rattle.emit.specs.WalkPromises.{body_depth, Whole, Call, Left, Right, 
 use controls::{Site, free_site, under, with_control};
 use decoded::{Program, Step, is_wide, procedures, root, step_at};
 use events::{
-    Slots, State, above_length, begin, emit_entries, emit_entries_back, emit_flip, finish,
-    flip_again, invoke, load, next, precedence, procedure, seek, status, wire,
+    Slots, State, above_length, begin, emit_entries, emit_flip, finish, flip_again, invoke, seek,
+    slot_in, wire,
 };
 use limits::{LIST_WORD, MOST_DEPTH};
 use sets::{QubitSet, size};
@@ -45,7 +45,7 @@ fn emit_whole(
     ensures { Whole program.now k (emit_in state.old) room.old slots.old
         (emit_in state.new) room.new slots.new i depth (list_from site.now) (controls_from site.now) }
 {
-    if status(state) != 0 {
+    if state.refusal.is_some() {
         return;
     }
     if depth == 0 {
@@ -120,14 +120,14 @@ fn emit_call(
     ensures { Call program.now k (emit_in state.old) room.old slots.old
         (emit_in state.new) room.new slots.new f (members_of list) (controls_from site.now) }
 {
-    if status(state) != 0 {
+    if state.refusal.is_some() {
         return;
     }
     let m = size(list);
     if m == 0 {
         return;
     }
-    let base = next(state);
+    let base = state.next;
     invoke(f, list, site, room, slots, state);
     if k == 0 {
         finish(base, site, room, state);
@@ -143,7 +143,7 @@ fn emit_bodies(
     program: &Program,
     k: u8,
     base: u16,
-    last: u64,
+    last: u32,
     room: &mut [u8],
     slots: &mut Slots,
     state: &mut State,
@@ -151,22 +151,12 @@ fn emit_bodies(
     ensures { Bodies program.now k (emit_in state.old) room.old slots.old
         (emit_in state.new) room.new slots.new base last }
 {
-    if status(state) != 0 {
+    if state.refusal.is_some() {
         return;
     }
-    let upto = next(state);
-    let d = seek(slots, base, last, upto);
-    if d < upto {
-        emit_body(
-            program,
-            k,
-            base,
-            precedence(slots, d),
-            d,
-            room,
-            slots,
-            state,
-        );
+    if let Some(d) = seek(slots, base, last, state.next) {
+        let precedence = slot_in(slots, d).precedence;
+        emit_body(program, k, base, precedence, d, room, slots, state);
     }
 }
 
@@ -176,7 +166,7 @@ fn emit_body(
     program: &Program,
     k: u8,
     base: u16,
-    last: u64,
+    last: u32,
     d: u16,
     room: &mut [u8],
     slots: &mut Slots,
@@ -185,13 +175,13 @@ fn emit_body(
     ensures { Body program.now k (emit_in state.old) room.old slots.old
         (emit_in state.new) room.new slots.new base last d }
 {
-    let upto = next(state);
+    let upto = state.next;
     if upto <= d {
         return;
     }
-    emit_entries(slots, d, d + 1, upto, room, state);
+    emit_entries(slots, d, d + 1, upto, false, room, state);
     emit_inner(program, k, base, last, d, room, slots, state);
-    emit_entries_back(slots, d, d + 1, upto, room, state);
+    emit_entries(slots, d, d + 1, upto, true, room, state);
 }
 
 // Its left part, then the rest.
@@ -200,7 +190,7 @@ fn emit_inner(
     program: &Program,
     k: u8,
     base: u16,
-    last: u64,
+    last: u32,
     d: u16,
     room: &mut [u8],
     slots: &mut Slots,
@@ -219,7 +209,7 @@ fn emit_rest(
     program: &Program,
     k: u8,
     base: u16,
-    last: u64,
+    last: u32,
     d: u16,
     room: &mut [u8],
     slots: &mut Slots,
@@ -228,7 +218,7 @@ fn emit_rest(
     ensures { Rest program.now k (emit_in state.old) room.old slots.old
         (emit_in state.new) room.new slots.new base last d }
 {
-    let behind = next(state);
+    let behind = state.next;
     emit_bodies(program, k, base, last, room, slots, state);
     emit_body_right(program, k, d, behind, room, slots, state);
 }
@@ -246,8 +236,9 @@ fn emit_body_left(
     ensures { BodyLeft program.now k (emit_in state.old) room.old slots.old
         (emit_in state.new) room.new slots.new d }
 {
-    let f = procedure(slots, d);
-    let site = under(wire(d), load(slots, d));
+    let slot = slot_in(slots, d);
+    let f = slot.procedure();
+    let site = under(wire(d), slot.list);
     emit_left(
         program,
         k,
@@ -274,8 +265,9 @@ fn emit_body_right(
     ensures { BodyRight program.now k (emit_in state.old) room.old slots.old
         (emit_in state.new) room.new slots.new d behind }
 {
-    let f = procedure(slots, d);
-    let site = under(wire(d), load(slots, d));
+    let slot = slot_in(slots, d);
+    let f = slot.procedure();
+    let site = under(wire(d), slot.list);
     emit_right(
         program,
         k,
@@ -304,7 +296,7 @@ fn emit_left(
     ensures { Left program.now k (emit_in state.old) room.old slots.old
         (emit_in state.new) room.new slots.new i depth (list_from site.now) (controls_from site.now) }
 {
-    if status(state) != 0 {
+    if state.refusal.is_some() {
         return;
     }
     if depth == 0 {
@@ -382,14 +374,15 @@ fn emit_right(
     ensures { Right program.now k (emit_in state.old) room.old slots.old
         (emit_in state.new) room.new slots.new i depth (list_from site.now) (controls_from site.now) behind result }
 {
-    if status(state) != 0 {
+    if state.refusal.is_some() {
         return behind;
     }
     if depth == 0 {
         return behind;
     }
     // without a recursive call all of it went left
-    if !is_wide(program, i) {
+    let narrow = !is_wide(program, i);
+    if narrow {
         return behind;
     }
     let found = step_at(program, i);

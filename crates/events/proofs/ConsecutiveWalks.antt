@@ -6,12 +6,12 @@ use Prim.Native.Nat.{ℕ, zero, suc, ◌+◌, ◌-◌, ◌*◌, ◌/◌, ◌%◌
 use native.Mathlib.Nat.{le_refl}
 use native.Mathlib.Omega.{arith}
 use borrow.Author.Tests.{eqb-true, le-ltb, ne_eqb}
-use lib.ListN.{length, get_or, set, length-set}
+use lib.ListN.{length, length-set}
 use lib.Seq.{sets, get_or-set_same, get_or-set_other}
 use lib.Dec.{eqb}
 use mir.Syntax.{w8}
 use mir.Val.{Fits}
-use Rattle.limits.specs.Sizes.{slot_length, slots_length}
+use Rattle.limits.specs.Sizes.{wire_count}
 use Rattle.model.specs.Limits.{most_wires, most_circuit}
 use Rattle.model.specs.Emission.{Event, takes, places, frees, invocation}
 use Rattle.model.specs.Circuit.{encode}
@@ -19,8 +19,8 @@ use Rattle.model.specs.Answers.{usable}
 use Rattle.model.proofs.BooleanLaws.{by_bool, by_lt, by_eq}
 use Rattle.agreement.proofs.AncillaStack.{OnlyGates}
 use Rattle.sets.specs.Sets.{members_of}
-use Rattle.sets.proofs.Members.{members_length}
 use Rattle.lookup.specs.Plans.{Within}
+use Rattle.events.specs.declared.Slot.{Slot}
 use Rattle.events.specs.Scan.{
   Emit,
   Progress,
@@ -28,13 +28,13 @@ use Rattle.events.specs.Scan.{
   emit_of,
   placed,
   scan,
-  slot_at,
+  slot_in,
   slot_list,
   slot_of,
   Tallied,
   held_in,
 }
-use Rattle.events.specs.Slots.{filled}
+use Rattle.events.specs.Slots.{called, filled}
 use Rattle.events.specs.FollowedEvents.{Follows}
 use Rattle.events.proofs.ScanOfEvents.{scan_append, scan_stopped, scan_places, scan_no_gate, scan_many, scan_next, scan_qubits, next_after}
 use Rattle.events.proofs.GatesAndSlots.{gate_stopped}
@@ -55,7 +55,7 @@ gates_next (places g ∷ es) st room x = by_bool (eqb st.status 0)
 gates_next (frees a ∷ es) st room x = absurd x
 
 -- nothing happens
-pub follows_none : (st : Emit) (room slots : List ℕ) → Follows [] st room slots st room slots
+pub follows_none : (st : Emit) (room : List ℕ) (slots : List Slot) → Follows [] st room slots st room slots
 follows_none st room slots = record {
   scanned = scan_nothing (progress st room);
   long = refl;
@@ -66,7 +66,7 @@ follows_none st room slots = record {
 }
 
 -- a refusal absorbs what follows
-pub follows_stopped : (es : List Event) (st : Emit) (room slots : List ℕ) → (st.status ≡ 0 → ⊥) → Follows es st room slots st room slots
+pub follows_stopped : (es : List Event) (st : Emit) (room : List ℕ) (slots : List Slot) → (st.status ≡ 0 → ⊥) → Follows es st room slots st room slots
 follows_stopped es st room slots f = record {
   scanned = gate_stopped es st room f;
   long = refl;
@@ -77,13 +77,13 @@ follows_stopped es st room slots f = record {
 }
 
 -- gates in the room
-pub follows_gates : (es : List Event) (st : Emit) (room slots : List ℕ) (r : Emit) (room₁ : List ℕ) → OnlyGates es →
+pub follows_gates : (es : List Event) (st : Emit) (room : List ℕ) (slots : List Slot) (r : Emit) (room₁ : List ℕ) → OnlyGates es →
     progress r room₁ ≡ scan es (progress st room) → Follows es st room slots r room₁ slots
 follows_gates es st room slots r room₁ x e =
     let n : r.next ≡ st.next = ap (λ (s : Progress). (emit_of s).next) e ∙ gates_next es st room x in
     record { scanned = e; long = refl; rises = omega arith; low = λ h. omega arith; kept = λ i h. refl; tallied = λ T. T }
 
-module _ {st : Emit} {room slots : List ℕ} {a : Emit} {room₁ slots₁ : List ℕ} where
+module _ {st : Emit} {room : List ℕ} {slots : List Slot} {a : Emit} {room₁ : List ℕ} {slots₁ : List Slot} where
   -- the next wire behind events that are not refused
   pub follows_next : {es : List Event} → Follows es st room slots a room₁ slots₁ → a.status ≡ 0 → a.next ≡ next_after st.next es
   follows_next {es = es} F ok =
@@ -110,7 +110,7 @@ module _ {st : Emit} {room slots : List ℕ} {a : Emit} {room₁ slots₁ : List
   pub follows_as : {es es₁ : List Event} → es ≡ es₁ → Follows es st room slots a room₁ slots₁ → Follows es₁ st room slots a room₁ slots₁
   follows_as e F = subst (λ (v : List Event). Follows v st room slots a room₁ slots₁) e F
 
-  module _ {b : Emit} {room₂ slots₂ : List ℕ} where
+  module _ {b : Emit} {room₂ : List ℕ} {slots₂ : List Slot} where
     -- one after the other
     pub follows_append : {xs ys : List Event} → Follows xs st room slots a room₁ slots₁ → Follows ys a room₁ slots₁ b room₂ slots₂ →
         Follows (xs ++ ys) st room slots b room₂ slots₂
@@ -124,17 +124,17 @@ module _ {st : Emit} {room slots : List ℕ} {a : Emit} {room₁ slots₁ : List
     }
 
 -- slots below a wire that nothing changes
-module _ (slots slots₁ : List ℕ) (top : ℕ) (same : (i : ℕ) → i < slot_at top → get_or slots₁ i 0 ≡ get_or slots i 0) where
+module _ (slots slots₁ : List Slot) (top : ℕ) (same : (a : ℕ) → a < top → slot_in slots₁ a ≡ slot_in slots a) where
   pub slot_kept : (a : ℕ) → a < top → slot_of slots₁ a ≡ slot_of slots a
   unfolding slot_of
-  slot_kept a h = rw (same (slot_length * a) (omega arith), same (slot_length * a + 1) (omega arith))
+  slot_kept a h = rw (same a h)
 
   pub held_kept : (a n : ℕ) → a + n ≤ top → held_in slots₁ a n ≡ held_in slots a n
   unfolding held_in
   held_kept a zero h = refl
   held_kept a (suc n) h = rw (slot_kept a (omega arith), held_kept (a + 1) n (omega arith))
 
-pub held_append : (slots : List ℕ) (a m n : ℕ) → held_in slots a (m + n) ≡ held_in slots a m ++ held_in slots (a + m) n
+pub held_append : (slots : List Slot) (a m n : ℕ) → held_in slots a (m + n) ≡ held_in slots a m ++ held_in slots (a + m) n
 unfolding held_in
 held_append slots a zero n = let e : 0 + n ≡ n = omega arith in let z : a + 0 ≡ a = omega arith in rw (e, z)
 held_append slots a (suc m) n =
@@ -142,37 +142,35 @@ held_append slots a (suc m) n =
     let z : a + suc m ≡ a + 1 + m = omega arith in
     rw (e, z) (ap (λ l. slot_of slots a ∷ l) (held_append slots (a + 1) m n))
 
+-- past the slots
+abbrev no_call : Slot
+no_call = record { precedence = 0; list = 0 }
+
 -- a slot that was filled, and all before it
-module _ (slots : List ℕ) (a f w : ℕ) where
-  abbrev word : ℕ
-  word = 256 * length (members_of w) + (255 - f)
-
+module _ (slots : List Slot) (a f w : ℕ) where
   pub filled_length_lem : length (filled slots a f w) ≡ length slots
-  filled_length_lem = length-set (set slots (slot_at a) word) (slot_at a + 1) w ∙ length-set slots (slot_at a) word
+  filled_length_lem = length-set slots a (called f w)
 
-  pub filled_before : (j : ℕ) → j < slot_at a → get_or (filled slots a f w) j 0 ≡ get_or slots j 0
-  filled_before j h = get_or-set_other (set slots (slot_at a) word) (slot_at a + 1) j w 0 (omega arith) ∙ get_or-set_other slots (slot_at a) j word 0 (omega arith)
+  pub filled_before : (j : ℕ) → j < a → slot_in (filled slots a f w) j ≡ slot_in slots j
+  filled_before j h = get_or-set_other slots a j (called f w) no_call (omega arith)
 
-  module _ (space : slots_length ≤ length slots) (low : a ≤ most_wires) (byte : Fits w8 f) where
-    filled_word : get_or (filled slots a f w) (slot_at a) 0 ≡ word
-    filled_word = get_or-set_other (set slots (slot_at a) word) (slot_at a + 1) (slot_at a) w 0 (omega arith) ∙ get_or-set_same slots (slot_at a) word 0 (omega arith)
-
-    filled_list : slot_list (filled slots a f w) a ≡ members_of w
-    filled_list = ap members_of (get_or-set_same (set slots (slot_at a) word) (slot_at a + 1) w 0 (omega (arith, length-set slots (slot_at a) word)))
+  module _ (space : wire_count ≤ length slots) (low : a ≤ most_wires) (byte : Fits w8 f) where
+    filled_here : slot_in (filled slots a f w) a ≡ called f w
+    filled_here = get_or-set_same slots a (called f w) no_call (omega arith)
 
     pub filled_is : slot_of (filled slots a f w) a ≡ invocation f (members_of w) a
     unfolding slot_of
-    filled_is = let e : 255 - word % 256 ≡ f = omega (arith, byte.fits) in rw (filled_word, e, filled_list, le-ltb most_wires a low)
+    filled_is = let e : 255 - (256 * length (members_of w) + (255 - f)) % 256 ≡ f = omega (arith, byte.fits) in rw (filled_here, e, le-ltb most_wires a low)
 
     pub filled_tallied : (n : ℕ) → Within n (members_of w) → Tallied n slots → Tallied n (filled slots a f w)
     filled_tallied n d T = record {
       lengths = λ b. by_eq b a
-          (λ e. let n : word / 256 % 256 ≡ length (members_of w) = omega (arith, byte.fits, members_length w) in rw (e, filled_word, filled_list, n))
-          (λ ne. rw (other (slot_at b) (omega arith) (omega arith), other (slot_at b + 1) (omega arith) (omega arith)) (T.lengths b));
+          (λ e. let n : (256 * length (members_of w) + (255 - f)) / 256 ≡ length (members_of w) = omega (arith, byte.fits) in rw (e, filled_here, n))
+          (λ ne. rw (other b ne) (T.lengths b));
       within = λ b. by_eq b a
-          (λ e. subst (Within n) (sym (ap (slot_list (filled slots a f w)) e ∙ filled_list)) d)
-          (λ ne. subst (Within n) (sym (ap members_of (other (slot_at b + 1) (omega arith) (omega arith)))) (T.within b));
+          (λ e. subst (Within n) (sym (ap (slot_list (filled slots a f w)) e ∙ ap (λ (v : Slot). members_of v.list) filled_here)) d)
+          (λ ne. subst (Within n) (sym (ap (λ (v : Slot). members_of v.list) (other b ne))) (T.within b));
     }
       where
-        other : (j : ℕ) → j ≢ slot_at a → j ≢ slot_at a + 1 → get_or (filled slots a f w) j 0 ≡ get_or slots j 0
-        other j x y = get_or-set_other (set slots (slot_at a) word) (slot_at a + 1) j w 0 y ∙ get_or-set_other slots (slot_at a) j word 0 x
+        other : (j : ℕ) → j ≢ a → slot_in (filled slots a f w) j ≡ slot_in slots j
+        other j x = get_or-set_other slots a j (called f w) no_call x

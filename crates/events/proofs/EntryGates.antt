@@ -12,14 +12,15 @@ use lib.ListN.{length, get_or, drop, drop_of_length-le}
 use lib.Dec.{eqb}
 use Rattle.model.specs.Gates.{flip, swap_of}
 use Rattle.model.specs.Emission.{Event, places, under, swaps, entry_gates, all_entry_gates, is_of, calls_to}
-use Rattle.model.proofs.BooleanLaws.{by_bool, same_test}
+use Rattle.model.proofs.BooleanLaws.{by_bool, by_lt, same_test}
 use Rattle.agreement.proofs.KeysOfALength.{is_of_lem, of_is, calls_here, calls_past}
 use Rattle.controls.specs.ControlWords.{controls_from, At}
 use Rattle.sets.specs.Sets.{members_of}
 use Rattle.lookup.specs.declared.Plan.{Plan}
 use Rattle.lookup.specs.Plans.{pairs_of, swaps_along, Within, PlansSwaps, same_swaps, entries_touched}
 use Rattle.lookup.proofs.PlannedSwaps.{pairs_most, pair_at}
-use Rattle.events.specs.Scan.{Emit, Progress, progress, emit_of, scan, slot_at, slot_list_length, slot_procedure, slot_list, wire_of, slot_of, Tallied, held_in}
+use Rattle.events.specs.declared.Slot.{Slot}
+use Rattle.events.specs.Scan.{Emit, Progress, progress, emit_of, scan, slot_in, slot_list_length, slot_procedure, slot_list, wire_of, slot_of, Tallied, held_in}
 use Rattle.events.specs.Slots.{
   precedence_in,
   turned,
@@ -39,7 +40,7 @@ pub scan_nothing : (x : Progress) → x ≡ scan [] x
 unfolding scan
 scan_nothing x = refl
 
-pub use_enters : {slots : List ℕ} {es : List Event} {x y : Progress} → Enters slots es x y → Tallied (emit_of x).qubits slots → y ≡ scan es x
+pub use_enters : {slots : List Slot} {es : List Event} {x y : Progress} → Enters slots es x y → Tallied (emit_of x).qubits slots → y ≡ scan es x
 use_enters (scans_entries p) = p
 
 -- one gate, then others; others reversed, then the gate
@@ -62,11 +63,10 @@ swaps_along_lem e r i (suc n) h =
     rw (pair_at r i (omega arith)) (ap (◌∷◌ (places (swap_of (under e) (get_or r.from i 0) (get_or r.to i 0))))
     (ap (λ (k : ℕ). swaps_in e r.from r.to k n) (add-one i) ∙ swaps_along_lem e r (suc i) n (omega arith)))
 
--- `emit_forth` so far: the swaps from i on make of it what all of them make
+-- `emit_swaps` so far, in order: the swaps from i on make of it what all of them make; reversed: the swaps from i on are placed
 pub data Forth (e : ℕ) (from to : List ℕ) (n : ℕ) (x y : Progress) (i : ℕ) : Type 0 where
   still : scan (swaps_in e from to i (n - i)) y ≡ scan (swaps_in e from to 0 n) x → Forth e from to n x y i
 
--- `emit_back` so far: the swaps from i on are placed, in reverse
 pub data Back (e : ℕ) (from to : List ℕ) (n : ℕ) (x y : Progress) (i : ℕ) : Type 0 where
   behind : y ≡ scan (reverse (swaps_in e from to i (n - i))) x → Back e from to n x y i
 
@@ -85,21 +85,25 @@ module _ (e : ℕ) (from to : List ℕ) (n : ℕ) (x : Progress) where
   pub back_starts : Back e from to n x x n
   back_starts = behind (rw (no_swap n (le_refl n)) (scan_nothing x))
 
-  module _ (y z : Progress) (i : ℕ) (put : z ≡ scan (places (swap_of (under e) (get_or from i 0) (get_or to i 0)) ∷ []) y) (low : i < n) where
-    pub forth_next : Forth e from to n x y i → Forth e from to n x z (i + 1)
-    forth_next (still p) = still (rw put
-        (sym (scan_append (places (swap_of (under e) (get_or from i 0) (get_or to i 0)) ∷ []) (swaps_in e from to (i + 1) (n - (i + 1))) y)
-        ∙ sym (ap (λ es. scan es y) (one_swap i low)) ∙ p))
+  pub forth_next : (y z : Progress) (i : ℕ) → z ≡ scan (places (swap_of (under e) (get_or from i 0) (get_or to i 0)) ∷ []) y → i < n →
+      Forth e from to n x y i → Forth e from to n x z (i + 1)
+  forth_next y z i put low (still p) = still (rw put
+      (sym (scan_append (places (swap_of (under e) (get_or from i 0) (get_or to i 0)) ∷ []) (swaps_in e from to (i + 1) (n - (i + 1))) y)
+      ∙ sym (ap (λ es. scan es y) (one_swap i low)) ∙ p))
 
-    pub back_next : Back e from to n x y (i + 1) → Back e from to n x z i
-    back_next (behind p) = behind (rw (one_swap i low)
-        (scan_last (places (swap_of (under e) (get_or from i 0) (get_or to i 0))) (swaps_in e from to (i + 1) (n - (i + 1))) x y z p put))
+  pub back_next : (y z : Progress) (i : ℕ) → z ≡ scan (places (swap_of (under e) (get_or from (i - 1) 0) (get_or to (i - 1) 0)) ∷ []) y →
+      0 < i → i ≤ n → Back e from to n x y i → Back e from to n x z (i - 1)
+  back_next y z i put some low (behind p) =
+      let same : i - 1 + 1 ≡ i = omega arith in
+      behind (rw (one_swap (i - 1) (omega arith), same)
+      (scan_last (places (swap_of (under e) (get_or from (i - 1) 0) (get_or to (i - 1) 0))) (swaps_in e from to i (n - i)) x y z p put))
 
-  pub forth_ends : (y : Progress) (i : ℕ) → n ≤ i → Forth e from to n x y i → y ≡ scan (swaps_in e from to 0 n) x
-  forth_ends y i h (still p) = scan_nothing y ∙ (rw (no_swap i h) at p)
+  module _ (y : Progress) (i : ℕ) (reversed : Bool) where
+    pub forth_ends : reversed ≡ false → n ≤ i → Forth e from to n x y i → y ≡ scan (turned reversed (swaps_in e from to 0 n)) x
+    forth_ends t h (still p) = rw t (scan_nothing y ∙ (rw (no_swap i h) at p))
 
-  pub back_ends : (y : Progress) (i : ℕ) → i ≤ 0 → Back e from to n x y i → y ≡ scan (reverse (swaps_in e from to 0 n)) x
-  back_ends y i h (behind p) = let z : i ≡ 0 = omega arith in let s : n - 0 ≡ n = omega arith in rw (z, s) at p
+    pub back_ends : reversed ≡ true → i ≤ 0 → Back e from to n x y i → y ≡ scan (turned reversed (swaps_in e from to 0 n)) x
+    back_ends t h (behind p) = let z : i ≡ 0 = omega arith in let s : n - 0 ≡ n = omega arith in rw t (rw (z, s) at p)
 
 pub ruleset following = (rules, forth_starts, forth_next, forth_ends, back_starts, back_next, back_ends)
 
@@ -114,28 +118,31 @@ one_turned : (g : Event) (reversed : Bool) (x y : Progress) → y ≡ scan (g �
 one_turned g true x y p = p
 one_turned g false x y p = p
 
-pub gates_same : (slots : List ℕ) (d e : ℕ) (reversed : Bool) (x y : Progress) (f l u v : ℕ) (site none : List ℕ) →
-    members_of f ≡ slot_list slots d → members_of l ≡ slot_list slots e → u ≡ wire_of e → At site none (under u) → v ≡ wire_of d → f ≡ l →
+list_is : (slots : List Slot) (a : ℕ) (s : Slot) → s ≡ slot_in slots a → slot_list slots a ≡ members_of s.list
+list_is slots a s e = ap (λ (v : Slot). members_of v.list) (sym e)
+
+pub gates_same : (slots : List Slot) (d e : ℕ) (reversed : Bool) (x y : Progress) (f l : Slot) (u v : ℕ) (site none : List ℕ) →
+    f ≡ slot_in slots d → l ≡ slot_in slots e → u ≡ wire_of e → At site none (under u) → v ≡ wire_of d → f.list ≡ l.list →
     y ≡ scan (places (flip (controls_from site) v) ∷ []) x → Enters slots (turned reversed (entry_gates (slot_of slots d) (slot_of slots e))) x y
 unfolding entry_gates slot_of
 gates_same slots d e reversed x y f l u v site none is_f is_l is_u is_site is_v same p =
-    let lists : slot_list slots e ≡ slot_list slots d = sym is_l ∙ ap members_of (sym same) ∙ is_f in
+    let lists : slot_list slots e ≡ slot_list slots d = list_is slots e l is_l ∙ ap members_of (sym same) ∙ sym (list_is slots d f is_f) in
     scans_entries (λ T. rw (lists, swaps_same (wire_of e) (slot_list slots d))
     (one_turned (places (flip (under (wire_of e)) (wire_of d))) reversed x y (rw (is_site.controls, is_u, is_v) at p)))
 
 planned_are : (n : ℕ) (F L : List ℕ) (r : Plan) (e : ℕ) → PlansSwaps n F L r → Within n F → Within n L → swaps_along e (pairs_of r) ≡ swaps e F L
 planned_are n F L r e (same_swaps s) df dl = s df dl e
 
-module _ (slots : List ℕ) (d e : ℕ) (reversed : Bool) (st : Emit) (room F L : List ℕ) (r : Plan) (q u v : ℕ) (site none : List ℕ) (n : ℕ)
-    (is_n : n ≡ length (pairs_of r)) (is_f : F ≡ slot_list slots d) (is_l : L ≡ slot_list slots e) (is_q : q ≡ st.qubits) (P : PlansSwaps q F L r)
-    (is_u : u ≡ wire_of e) (is_site : At site none (under u)) (is_v : v ≡ wire_of d) where
+module _ (slots : List Slot) (d e : ℕ) (reversed : Bool) (st : Emit) (room : List ℕ) (f l : Slot) (r : Plan) (u v : ℕ) (site none : List ℕ) (n : ℕ)
+    (is_n : n ≡ length (pairs_of r)) (is_f : f ≡ slot_in slots d) (is_l : l ≡ slot_in slots e)
+    (P : PlansSwaps st.qubits (members_of f.list) (members_of l.list) r) (is_u : u ≡ wire_of e) (is_site : At site none (under u)) (is_v : v ≡ wire_of d) where
   -- the swaps of the plan are the definition's, between lists of the emission's qubits
   planned_swaps : Tallied st.qubits slots → swaps_in u r.from r.to 0 n ≡ swaps (wire_of e) (slot_list slots d) (slot_list slots e)
   planned_swaps T =
       swaps_along_lem u r 0 n (zero-add n ∙ is_n)
-      ∙ planned_are st.qubits (slot_list slots d) (slot_list slots e) r u (rw (is_q, is_f, is_l) at P) (T.within d) (T.within e) ∙ rw is_u
+      ∙ planned_are st.qubits (slot_list slots d) (slot_list slots e) r u (rw (is_f, is_l) at P) (T.within d) (T.within e) ∙ rw is_u
 
-  pub gates_reversed : (y z : Progress) → reversed ≡ true → y ≡ scan (reverse (swaps_in u r.from r.to 0 n)) (progress st room) →
+  pub gates_reversed : (y z : Progress) → reversed ≡ true → y ≡ scan (turned true (swaps_in u r.from r.to 0 n)) (progress st room) →
       z ≡ scan (places (flip (controls_from site) v) ∷ []) y →
       Enters slots (turned reversed (entry_gates (slot_of slots d) (slot_of slots e))) (progress st room) z
   unfolding entry_gates slot_of
@@ -144,7 +151,7 @@ module _ (slots : List ℕ) (d e : ℕ) (reversed : Bool) (st : Emit) (room F L 
       (rw (planned_swaps T) at p) (rw (is_site.controls, is_u, is_v) at q)))
 
   pub gates_forth : (y z : Progress) → reversed ≡ false → y ≡ scan (places (flip (controls_from site) v) ∷ []) (progress st room) →
-      z ≡ scan (swaps_in u r.from r.to 0 n) y →
+      z ≡ scan (turned false (swaps_in u r.from r.to 0 n)) y →
       Enters slots (turned reversed (entry_gates (slot_of slots d) (slot_of slots e))) (progress st room) z
   unfolding entry_gates slot_of
   gates_forth y z b p q = scans_entries (λ T.
@@ -152,28 +159,28 @@ module _ (slots : List ℕ) (d e : ℕ) (reversed : Bool) (st : Emit) (room F L 
       (rw (is_site.controls, is_u, is_v) at p) (rw (planned_swaps T) at q)))
 
 -- the entries of the lookup that they read and write
-module _ (n : ℕ) (F L : List ℕ) (f l : ℕ) (is_f : members_of f ≡ F) (is_l : members_of l ≡ L) where
-  pub touched_none : f ≡ l → EntryTouched n F L 0
-  touched_none same = no_plan (sym is_f ∙ ap members_of same ∙ is_l) refl
+module _ (n : ℕ) (slots : List Slot) (d e : ℕ) (f l : Slot) (is_f : f ≡ slot_in slots d) (is_l : l ≡ slot_in slots e) where
+  pub touched_none : f.list ≡ l.list → EntryTouched n (slot_list slots d) (slot_list slots e) 0
+  touched_none same = no_plan (list_is slots d f is_f ∙ ap members_of same ∙ sym (list_is slots e l is_l)) refl
 
-  module _ (q : ℕ) (r : Plan) (is_q : q ≡ n) where
-    pub touched_plan : PlansSwaps q (members_of f) (members_of l) r →
-        r.touched ≡ entries_touched q (members_of f) (members_of l) (length (pairs_of r)) → EntryTouched n F L r.touched
-    touched_plan P c = by_plan r (rw (is_q, is_f, is_l) at P) (rw (is_q, is_f, is_l) at c)
+  module _ (r : Plan) where
+    pub touched_plan : PlansSwaps n (members_of f.list) (members_of l.list) r →
+        r.touched ≡ entries_touched n (members_of f.list) (members_of l.list) (length (pairs_of r)) → EntryTouched n (slot_list slots d) (slot_list slots e) r.touched
+    touched_plan P c = by_plan r (rw (is_f, is_l) at P) (rw (is_f, is_l) at c)
 
-    pub touched_few : r.touched ≤ 4 * q + 8 * length (members_of l) → r.touched ≤ 4 * n + 8 * length L
-    touched_few h = rw (is_q, is_l) at h
+    pub touched_few : r.touched ≤ 4 * n + 8 * length (members_of l.list) → r.touched ≤ 4 * n + 8 * length (slot_list slots e)
+    touched_few h = rw is_l at h
 
 -- the ways out of `emit_entry`
-module _ (slots : List ℕ) (d e : ℕ) (reversed : Bool) (x : Progress) (pe pd : ℕ) (is_pe : pe ≡ precedence_in slots e) (is_pd : pd ≡ precedence_in slots d) where
-  pub entry_other : (pe ≡ pd → ⊥) → Enters slots (turned reversed (entry_at slots d e)) x x
+module _ (slots : List Slot) (d e : ℕ) (reversed : Bool) (x : Progress) (se sd : Slot) (is_e : se ≡ slot_in slots e) (is_d : sd ≡ slot_in slots d) where
+  pub entry_other : (se.precedence ≡ sd.precedence → ⊥) → Enters slots (turned reversed (entry_at slots d e)) x x
   unfolding entry_at
-  entry_other h = scans_entries (λ T. rw (← is_pe, ← is_pd, ne_eqb pe pd h) (nothing_turned reversed x))
+  entry_other h = scans_entries (λ T. rw (ne_eqb (precedence_in slots e) (precedence_in slots d) (rw (is_e, is_d) at h)) (nothing_turned reversed x))
 
-  pub entry_same : (y : Progress) → pe ≡ pd → Enters slots (turned reversed (entry_gates (slot_of slots d) (slot_of slots e))) x y →
+  pub entry_same : (y : Progress) → se.precedence ≡ sd.precedence → Enters slots (turned reversed (entry_gates (slot_of slots d) (slot_of slots e))) x y →
       Enters slots (turned reversed (entry_at slots d e)) x y
   unfolding entry_at
-  entry_same y h (scans_entries p) = scans_entries (λ T. rw (← is_pe, ← is_pd, eq-eqb pe pd h) (p T))
+  entry_same y h (scans_entries p) = scans_entries (λ T. rw (eq-eqb (precedence_in slots e) (precedence_in slots d) (rw (is_e, is_d) at h)) (p T))
 
 pub ruleset gating = (
   rules,
@@ -188,18 +195,19 @@ pub ruleset gating = (
   entry_same,
 )
 
--- `emit_entries` so far: the gates from slot a on make of it what all of them make; `emit_entries_back`: those from slot a on are placed, in reverse
-pub data Entering (slots : List ℕ) (d e upto : ℕ) (x y : Progress) (a : ℕ) : Type 0 where
+-- `emit_entries` so far, in order: the gates from slot a on make of it what all of them make; reversed: those from slot a on are placed
+pub data Entering (slots : List Slot) (d e upto : ℕ) (x y : Progress) (a : ℕ) : Type 0 where
   still : (Tallied (emit_of x).qubits slots → scan (entries_to slots d a (upto - a)) y ≡ scan (entries_to slots d e (upto - e)) x) → Entering slots d e upto x y a
 
-pub data Leaving (slots : List ℕ) (d upto : ℕ) (x y : Progress) (a : ℕ) : Type 0 where
-  behind : (Tallied (emit_of x).qubits slots → y ≡ scan (reverse (entries_to slots d a (upto - a))) x) → Leaving slots d upto x y a
+pub data Leaving (slots : List Slot) (d e upto : ℕ) (x y : Progress) (a : ℕ) : Type 0 where
+  behind : (e ≤ upto → e ≤ a) → (upto ≤ e → upto ≤ a) → (Tallied (emit_of x).qubits slots → y ≡ scan (reverse (entries_to slots d a (upto - a))) x) →
+      Leaving slots d e upto x y a
 
 -- so far the qubits are as many as they were
 qubits_stay : (es fs : List Event) (x y : Progress) → scan es y ≡ scan fs x → (emit_of y).qubits ≡ (emit_of x).qubits
 qubits_stay es fs x y e = sym (scan_qubits es y) ∙ ap (λ (s : Progress). (emit_of s).qubits) e ∙ scan_qubits fs x
 
-module _ (slots : List ℕ) (d e upto : ℕ) (x : Progress) where
+module _ (slots : List Slot) (d e upto : ℕ) (x : Progress) where
   no_entries : (a : ℕ) → upto ≤ a → entries_to slots d a (upto - a) ≡ []
   unfolding entries_to
   no_entries a h = rw (spent upto a h)
@@ -219,46 +227,47 @@ module _ (slots : List ℕ) (d e upto : ℕ) (x : Progress) where
       rw (put (rw same T))
       (sym (scan_append (entry_at slots d a) (entries_to slots d (a + 1) (upto - (a + 1))) y) ∙ sym (ap (λ es. scan es y) (one_entry a h)) ∙ q))
 
-  pub entering_ends : (y : Progress) (a : ℕ) → upto ≤ a → Entering slots d e upto x y a → Enters slots (entries_to slots d e (upto - e)) x y
-  entering_ends y a h (still p) = scans_entries (λ T. scan_nothing y ∙ sym (ap (λ es. scan es y) (no_entries a h)) ∙ p T)
+  pub leaving_starts : Leaving slots d e upto x x upto
+  leaving_starts = behind (λ h. h) (λ h. le_refl upto) (λ T. scan_nothing x ∙ sym (ap (λ es. scan (reverse es) x) (no_entries upto (le_refl upto))))
 
-  pub leaving_none : upto ≤ e → Enters slots (reverse (entries_to slots d e (upto - e))) x x
-  leaving_none h = scans_entries (λ T. scan_nothing x ∙ sym (ap (λ es. scan (reverse es) x) (no_entries e h)))
-
-  pub leaving_starts : Leaving slots d upto x x upto
-  leaving_starts = behind (λ T. scan_nothing x ∙ sym (ap (λ es. scan (reverse es) x) (no_entries upto (le_refl upto))))
-
-  pub leaving_next : (y z : Progress) (a : ℕ) → a < upto → Enters slots (turned true (entry_at slots d a)) y z → Leaving slots d upto x y (a + 1) →
-      Leaving slots d upto x z a
-  leaving_next y z a h (scans_entries put) (behind p) = behind (λ T.
-      let E = entry_at slots d a in
-      let R = entries_to slots d (a + 1) (upto - (a + 1)) in
+  pub leaving_next : (y z : Progress) (a : ℕ) → e < a → a ≤ upto → Enters slots (turned true (entry_at slots d (a - 1))) y z → Leaving slots d e upto x y a →
+      Leaving slots d e upto x z (a - 1)
+  leaving_next y z a some h (scans_entries put) (behind f g p) = behind (λ k. omega arith) (λ k. omega arith) (λ T.
+      let E = entry_at slots d (a - 1) in
+      let R = entries_to slots d a (upto - a) in
+      let back : a - 1 + 1 ≡ a = omega arith in
       let q = p T in
       let same = ap (λ (s : Progress). (emit_of s).qubits) q ∙ scan_qubits (reverse R) x in
-      rw (one_entry a h, reverse-append E R, scan_append (reverse R) (reverse E) x, ← q) (put (rw same T)))
+      rw (one_entry (a - 1) (omega arith), back, reverse-append E R, scan_append (reverse R) (reverse E) x, ← q) (put (rw same T)))
 
-  pub leaving_ends : (y : Progress) (a : ℕ) → a ≤ e → e ≤ a → Leaving slots d upto x y a → Enters slots (reverse (entries_to slots d e (upto - e))) x y
-  leaving_ends y a h l (behind p) = let z : a ≡ e = omega arith in scans_entries (λ T. rw z at (p T))
+  module _ (y : Progress) (a : ℕ) (reversed : Bool) where
+    pub entering_ends : reversed ≡ false → upto ≤ a → Entering slots d e upto x y a → Enters slots (turned reversed (entries_to slots d e (upto - e))) x y
+    entering_ends t h (still p) = scans_entries (λ T. rw t (scan_nothing y ∙ sym (ap (λ es. scan es y) (no_entries a h)) ∙ p T))
 
-pub ruleset entering = (rules, entering_starts, entering_next, entering_ends, leaving_none, leaving_starts, leaving_next, leaving_ends)
+    pub leaving_ends : reversed ≡ true → a ≤ e → Leaving slots d e upto x y a → Enters slots (turned reversed (entries_to slots d e (upto - e))) x y
+    leaving_ends t h (behind f g p) = scans_entries (λ T. rw t (by_lt e upto
+        (λ lt. let z : a ≡ e = omega (arith, f) in rw z at (p T))
+        (λ le. p T ∙ ap (λ es. scan (reverse es) x) (no_entries a (g le) ∙ sym (no_entries e le)))))
+
+pub ruleset entering = (rules, entering_starts, entering_next, entering_ends, leaving_starts, leaving_next, leaving_ends)
 
 -- where each slot has the length of its list, they are the entry gates of the calls to its pair
-module _ (slots : List ℕ) {n : ℕ} (T : Tallied n slots) (d : ℕ) where
+module _ (slots : List Slot) {n : ℕ} (T : Tallied n slots) (d : ℕ) where
   -- two slots of one number are of one pair
   pair_is : (e : ℕ) → is_of (slot_list_length slots d) (slot_procedure slots d) (slot_of slots e) ≡ eqb (precedence_in slots e) (precedence_in slots d)
   unfolding slot_of
   pair_is e = same_test (is_of (slot_list_length slots d) (slot_procedure slots d) (slot_of slots e)) (eqb (precedence_in slots e) (precedence_in slots d))
       (λ h.
       let t = is_of_lem (slot_list_length slots d) (slot_procedure slots d) (slot_of slots e) h in
-      eq-eqb (precedence_in slots e) (precedence_in slots d) (one_number (get_or slots (slot_at e) 0) (get_or slots (slot_at d) 0) (T.lengths e ∙ t.0) t.1))
+      eq-eqb (precedence_in slots e) (precedence_in slots d) (one_number (precedence_in slots e) (precedence_in slots d) (T.lengths e ∙ t.0) t.1))
       (λ h.
-      let t = two_numbers (get_or slots (slot_at e) 0) (get_or slots (slot_at d) 0) (eqb-true (precedence_in slots e) (precedence_in slots d) h) in
+      let t = two_numbers (precedence_in slots e) (precedence_in slots d) (eqb-true (precedence_in slots e) (precedence_in slots d) h) in
       of_is (slot_list_length slots d) (slot_procedure slots d) (slot_of slots e) (sym (T.lengths e) ∙ t.0) t.1)
     where
-      one_number : (v w : ℕ) → v / 256 % 256 ≡ w / 256 % 256 → 255 - v % 256 ≡ 255 - w % 256 → v % 65536 ≡ w % 65536
+      one_number : (v w : ℕ) → v / 256 ≡ w / 256 → 255 - v % 256 ≡ 255 - w % 256 → v ≡ w
       one_number v w h i = omega arith
 
-      two_numbers : (v w : ℕ) → v % 65536 ≡ w % 65536 → (v / 256 % 256 ≡ w / 256 % 256) × (255 - v % 256 ≡ 255 - w % 256)
+      two_numbers : (v w : ℕ) → v ≡ w → (v / 256 ≡ w / 256) × (255 - v % 256 ≡ 255 - w % 256)
       two_numbers v w h = (omega arith, omega arith)
 
   pub entries_are : (e k : ℕ) →

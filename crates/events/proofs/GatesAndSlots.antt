@@ -1,19 +1,41 @@
 -- The ways out of the functions that walk over no statement: gates placed, slots filled and read, the next length found.
-use mathlib.Core.Path.{◌≡◌, refl, sym, ap, ◌∙◌}
-use mathlib.Core.Bool.{Bool, true, false}
+use mathlib.Core.Path.{◌≡◌, refl, sym, ◌∙◌}
+use mathlib.Core.Bool.{Bool, true, false, not}
 use mathlib.Core.List.{List, [], ◌∷◌}
-use Prim.Native.Nat.{ℕ, suc, ◌+◌, ◌-◌, ◌*◌, ◌%◌, ◌^◌, ◌≤◌, ◌<◌, max}
+use Prim.Native.Nat.{ℕ, suc, ◌+◌, ◌-◌, ◌*◌, ◌≤◌, ◌<◌, max}
 use native.Mathlib.Numerals.{add-one}
 use native.Mathlib.Omega.{arith}
-use mir.Syntax.{w8, w16, w64}
+use mir.Syntax.{w64}
 use mir.Val.{Fits}
 use borrow.Author.Rules.{rules}
 use borrow.Author.Tests.{lt-ltb, le-ltb, le-leb, lt-leb, eq-eqb, ne_eqb, leb-true}
 use lib.ListN.{length, get_or, set, drop, drop_of_length-le}
 use lib.Seq.{sets, drop-cons}
 use lib.Dec.{leb}
-use Rattle.limits.specs.Sizes.{slot_length}
-use Rattle.model.specs.Limits.{most_wires, most_circuit, many_wires, no_room, header_length}
+use Rattle.std.specs.Prelude.{Option, Some, None, is_some}
+use Rattle.limits.specs.declared.Refusal.{Refusal}
+use Rattle.limits.specs.declared.Refusal.TheVariants.{
+  TableStops,
+  WrongEdition,
+  ManyProcedures,
+  WrongKind,
+  WrongMap,
+  WrongField,
+  TooDeep,
+  BytesLeft,
+  WrongQubits,
+  NoRemoval,
+  TooWide,
+  AccessFault,
+  HighBit,
+  NotWellFormed,
+  ShortWorkspace,
+  ManyWires,
+  NoRoom,
+  ShortTableRoom,
+}
+use Rattle.limits.specs.Refusals.{number_of}
+use Rattle.model.specs.Limits.{most_wires, most_circuit, many_wires, no_room}
 use Rattle.model.specs.Gates.{Gate, flip, swap_of}
 use Rattle.model.specs.Emission.{Event, places, under}
 use Rattle.model.specs.Circuit.{encode, control_bytes}
@@ -23,12 +45,11 @@ use Rattle.circuit.proofs.GateBytes.{sets_past}
 use Rattle.controls.specs.ControlWords.{controls_of, high_in, controls_from}
 use Rattle.controls.proofs.ControlBytes.{flip_long, swap_long}
 use Rattle.sets.specs.Sets.{members_of}
-use Rattle.lookup.proofs.CountedEntries.{touching}
-use Rattle.events.specs.Scan.{Emit, emit_in, progress, stopped, with_gate, after_event, scan, begun, slot_list}
+use Rattle.events.specs.declared.State.{State}
+use Rattle.events.specs.declared.Slot.{Slot}
+use Rattle.events.specs.Scan.{Emit, refusal_number, emit_in, progress, stopped, placed, with_gate, after_event, scan}
 use Rattle.events.specs.Slots.{filled, ancilla_taken, returned}
 use Rattle.events.proofs.ScanOfEvents.{scan_stopped}
-
-pub ruleset reading = (rules, lt-ltb, le-ltb)
 
 -- the ways out of `in_room`
 module _ (room used n most : ℕ) (is : most ≡ usable room) where
@@ -42,129 +63,155 @@ module _ (room used n most : ℕ) (is : most ≡ usable room) where
 
 pub ruleset rooms = (rules, room_short, room_left)
 
--- the ways out of `stop` and `with_gate`
-module _ (words : List ℕ) where
-  pub stop_is : (k : ℕ) → Fits w8 k →
-      emit_in (k ∷ get_or words 1 0 ∷ get_or words 2 0 ∷ get_or words 3 0 ∷ get_or words 4 0 ∷ get_or words 5 0 ∷ []) ≡ stopped (emit_in words) k
-  stop_is k byte = let same : k % 2 ^ 8 ≡ k = omega (arith, byte.fits) in rw same
+-- what refuses has a number, and nothing else is 0
+refused_number : (why : Refusal) → number_of why ≡ 0 → ⊥
+refused_number TableStops e = omega arith
+refused_number WrongEdition e = omega arith
+refused_number ManyProcedures e = omega arith
+refused_number WrongKind e = omega arith
+refused_number WrongMap e = omega arith
+refused_number WrongField e = omega arith
+refused_number TooDeep e = omega arith
+refused_number BytesLeft e = omega arith
+refused_number WrongQubits e = omega arith
+refused_number NoRemoval e = omega arith
+refused_number TooWide e = omega arith
+refused_number AccessFault e = omega arith
+refused_number HighBit e = omega arith
+refused_number NotWellFormed e = omega arith
+refused_number ShortWorkspace e = omega arith
+refused_number ManyWires e = omega arith
+refused_number NoRoom e = omega arith
+refused_number ShortTableRoom e = omega arith
 
-  module _ (room n g : ℕ) (is_g : g ≡ (emit_in words).gates) where
-    pub gate_many : (r : Emit) → most_circuit ≤ g → r ≡ stopped (emit_in words) no_room → r ≡ with_gate room (emit_in words) n
+pub some_refused : (o : Option Refusal) → is_some o ≡ true → refusal_number o ≡ 0 → ⊥
+some_refused None h e = cc
+some_refused (Some why) h e = refused_number why e
+
+pub none_refused : (o : Option Refusal) → is_some o ≡ false → refusal_number o ≡ 0
+none_refused None h = refl
+none_refused (Some why) h = cc
+
+-- the ways out of `with_gate`
+module _ (room n : ℕ) (s : State) where
+  pub gate_many : most_circuit ≤ s.gates → stopped (emit_in s) no_room ≡ with_gate room (emit_in s) n
+  unfolding with_gate
+  gate_many h = rw (le-ltb s.gates most_circuit h) (by_bool (leb (s.used + n) (usable room)) (λ t. rw t) (λ t. rw t))
+
+  module _ (b : Bool) (fits : b ≡ leb (s.used + n) (usable room)) where
+    pub sum_fits : b ≡ true → Fits w64 (s.used + n)
+    sum_fits e = let h = leb-true (s.used + n) (usable room) (sym fits ∙ e) in record { fits = omega arith }
+
+    pub gate_past : b ≡ false → stopped (emit_in s) no_room ≡ with_gate room (emit_in s) n
     unfolding with_gate
-    gate_many r h e = let k : most_circuit ≤ (emit_in words).gates = omega arith in
-        rw (e, le-ltb (emit_in words).gates most_circuit k) (by_bool (leb ((emit_in words).used + n) (usable room)) (λ t. rw t) (λ t. rw t))
+    gate_past t = rw (← fits, t)
 
-    module _ (u : ℕ) (is_u : u ≡ (emit_in words).used) (b : Bool) (fits : b ≡ leb (u + n) (usable room)) where
-      pub sum_fits : b ≡ true → Fits w64 (u + n)
-      sum_fits e = let h = leb-true (u + n) (usable room) (sym fits ∙ e) in record { fits = omega arith }
+    pub gate_fits : b ≡ true → s.gates < most_circuit → placed (emit_in s) n ≡ with_gate room (emit_in s) n
+    unfolding with_gate
+    gate_fits t h = rw (← fits, t, lt-ltb s.gates most_circuit h)
 
-      pub gate_past : (r : Emit) → b ≡ false → r ≡ stopped (emit_in words) no_room → r ≡ with_gate room (emit_in words) n
-      unfolding with_gate
-      gate_past r t e = rw (e, ← is_u, ← fits, t)
-
-      pub gate_fits : b ≡ true → g < most_circuit →
-          emit_in (0 ∷ (u + n) ∷ (g + 1) ∷ get_or words 3 0 ∷ get_or words 4 0 ∷ get_or words 5 0 ∷ []) ≡ with_gate room (emit_in words) n
-      unfolding with_gate
-      gate_fits t h =
-          let few : (emit_in words).gates < most_circuit = omega arith in
-          let same : (g + 1) % 2 ^ 32 ≡ (emit_in words).gates + 1 = omega arith in
-          rw (← is_u, ← fits, t, lt-ltb (emit_in words).gates most_circuit few, same)
-
-pub ruleset growing = (rules, stop_is, gate_many, sum_fits, gate_past, gate_fits)
+pub ruleset growing = (rules, gate_many, sum_fits, gate_past, gate_fits)
 
 -- the ways out of `emit_flip` and `emit_swap`: a gate by its bytes
 pub gate_stopped : (es : List Event) (st : Emit) (room : List ℕ) → (st.status ≡ 0 → ⊥) → progress st room ≡ scan es (progress st room)
 gate_stopped es st room f = sym (scan_stopped es st room (ne_eqb st.status 0 f))
 
-pub gate_before : (es : List Event) (st : Emit) (room : List ℕ) (s : ℕ) → s ≡ st.status → (s ≡ 0 → ⊥) → progress st room ≡ scan es (progress st room)
-gate_before es st room s is f = gate_stopped es st room (λ e. f (is ∙ e))
+pub gate_before : (es : List Event) (s : State) (room : List ℕ) → is_some s.refusal ≡ true →
+    progress (emit_in s) room ≡ scan es (progress (emit_in s) room)
+gate_before es s room h = gate_stopped es (emit_in s) room (some_refused s.refusal h)
 
-module _ (g : Gate) (st : Emit) (room : List ℕ) (s : ℕ) (is_s : s ≡ st.status) (ok : s ≡ 0) (n : ℕ) (is : n ≡ length (encode g)) (r : Emit)
-    (next : r ≡ with_gate (length room) st n) (s₁ : ℕ) (is_s₁ : s₁ ≡ r.status) where
-  gate_put : (u : ℕ) (after : List ℕ) → u ≡ st.used → s₁ ≡ 0 → after ≡ sets room u (encode g) → progress r after ≡ scan (places g ∷ []) (progress st room)
+module _ (g : Gate) (s : State) (room : List ℕ) (ok : is_some s.refusal ≡ false) (n : ℕ) (is : n ≡ length (encode g)) (r : State)
+    (next : emit_in r ≡ with_gate (length room) (emit_in s) n) where
+  gate_put : (after : List ℕ) → is_some r.refusal ≡ false → after ≡ sets room s.used (encode g) →
+      progress (emit_in r) after ≡ scan (places g ∷ []) (progress (emit_in s) room)
   unfolding scan after_event
-  gate_put u after is_u e q = rw (eq-eqb st.status 0 (sym is_s ∙ ok), ← is, ← next, eq-eqb r.status 0 (sym is_s₁ ∙ e), q, is_u)
+  gate_put after e q = rw (eq-eqb (emit_in s).status 0 (none_refused s.refusal ok), ← is, ← next, eq-eqb (emit_in r).status 0 (none_refused r.refusal e), q)
 
-  gate_refused : (s₁ ≡ 0 → ⊥) → progress r room ≡ scan (places g ∷ []) (progress st room)
+  gate_refused : is_some r.refusal ≡ true → progress (emit_in r) room ≡ scan (places g ∷ []) (progress (emit_in s) room)
   unfolding scan after_event
-  gate_refused e = rw (eq-eqb st.status 0 (sym is_s ∙ ok), ← is, ← next, ne_eqb r.status 0 (λ z. e (is_s₁ ∙ z)))
+  gate_refused e = rw (eq-eqb (emit_in s).status 0 (none_refused s.refusal ok), ← is, ← next, ne_eqb (emit_in r).status 0 (some_refused r.refusal e))
 
 -- a NOT, under the controls of a site
-module _ (site : List ℕ) (high : ℕ) (is_high : high ≡ high_in site) (t : ℕ) (st : Emit) (room : List ℕ) (s : ℕ) (is_s : s ≡ st.status) (ok : s ≡ 0)
-    (n : ℕ) (is : n ≡ 2 + length (control_bytes (controls_of (get_or site 0 0) high (get_or site 1 0)))) (r : Emit) (next : r ≡ with_gate (length room) st n)
-    (s₁ : ℕ) (is_s₁ : s₁ ≡ r.status) where
+module _ (site : List ℕ) (high : ℕ) (is_high : high ≡ high_in site) (t : ℕ) (s : State) (room : List ℕ) (ok : is_some s.refusal ≡ false)
+    (n : ℕ) (is : n ≡ 2 + length (control_bytes (controls_of (get_or site 0 0) high (get_or site 1 0)))) (r : State)
+    (next : emit_in r ≡ with_gate (length room) (emit_in s) n) where
   long : n ≡ length (encode (flip (controls_from site) t))
   long = (rw is_high at is) ∙ sym (flip_long (controls_from site) t)
 
-  pub flip_placed : (u : ℕ) (after : List ℕ) → u ≡ st.used → s₁ ≡ 0 →
-      after ≡ sets room u (encode (flip (controls_of (get_or site 0 0) high (get_or site 1 0)) t)) →
-      progress r after ≡ scan (places (flip (controls_from site) t) ∷ []) (progress st room)
-  flip_placed u after is_u e q = gate_put (flip (controls_from site) t) st room s is_s ok n long r next s₁ is_s₁ u after is_u e (rw is_high at q)
+  pub flip_placed : (after : List ℕ) → is_some r.refusal ≡ false →
+      after ≡ sets room s.used (encode (flip (controls_of (get_or site 0 0) high (get_or site 1 0)) t)) →
+      progress (emit_in r) after ≡ scan (places (flip (controls_from site) t) ∷ []) (progress (emit_in s) room)
+  flip_placed after e q = gate_put (flip (controls_from site) t) s room ok n long r next after e (rw is_high at q)
 
-  pub flip_refused : (s₁ ≡ 0 → ⊥) → progress r room ≡ scan (places (flip (controls_from site) t) ∷ []) (progress st room)
-  flip_refused = gate_refused (flip (controls_from site) t) st room s is_s ok n long r next s₁ is_s₁
+  pub flip_refused : is_some r.refusal ≡ true → progress (emit_in r) room ≡ scan (places (flip (controls_from site) t) ∷ []) (progress (emit_in s) room)
+  flip_refused = gate_refused (flip (controls_from site) t) s room ok n long r next
 
 -- a swap under one ancilla
-module _ (e u v : ℕ) (st : Emit) (room : List ℕ) (s : ℕ) (is_s : s ≡ st.status) (ok : s ≡ 0) (n : ℕ)
-    (is : n ≡ length (encode (swap_of (under e) 0 0))) (r : Emit) (next : r ≡ with_gate (length room) st n) (s₁ : ℕ) (is_s₁ : s₁ ≡ r.status) where
-  pub swap_placed : (w : ℕ) (after : List ℕ) → w ≡ st.used → s₁ ≡ 0 → after ≡ sets room w (encode (swap_of (under e) u v)) →
-      progress r after ≡ scan (places (swap_of (under e) u v) ∷ []) (progress st room)
-  swap_placed = gate_put (swap_of (under e) u v) st room s is_s ok n (is ∙ sym (swap_long e u v)) r next s₁ is_s₁
+module _ (e u v : ℕ) (s : State) (room : List ℕ) (ok : is_some s.refusal ≡ false) (n : ℕ)
+    (is : n ≡ length (encode (swap_of (under e) 0 0))) (r : State) (next : emit_in r ≡ with_gate (length room) (emit_in s) n) where
+  pub swap_placed : (after : List ℕ) → is_some r.refusal ≡ false → after ≡ sets room s.used (encode (swap_of (under e) u v)) →
+      progress (emit_in r) after ≡ scan (places (swap_of (under e) u v) ∷ []) (progress (emit_in s) room)
+  swap_placed = gate_put (swap_of (under e) u v) s room ok n (is ∙ sym (swap_long e u v)) r next
 
-  pub swap_refused : (s₁ ≡ 0 → ⊥) → progress r room ≡ scan (places (swap_of (under e) u v) ∷ []) (progress st room)
-  swap_refused = gate_refused (swap_of (under e) u v) st room s is_s ok n (is ∙ sym (swap_long e u v)) r next s₁ is_s₁
+  pub swap_refused : is_some r.refusal ≡ true → progress (emit_in r) room ≡ scan (places (swap_of (under e) u v) ∷ []) (progress (emit_in s) room)
+  swap_refused = gate_refused (swap_of (under e) u v) s room ok n (is ∙ sym (swap_long e u v)) r next
 
-pub ruleset placing = (rules, gate_before, flip_placed, flip_refused, swap_placed, swap_refused)
+-- what both tests say
+pub none_none : (b : Bool) (o : Option Refusal) → is_some o ≡ not b → b ≡ true → is_some o ≡ false
+none_none b o e t = rw t at e
+
+pub none_some : (b : Bool) (o : Option Refusal) → is_some o ≡ not b → b ≡ false → is_some o ≡ true
+none_some b o e t = rw t at e
+
+pub ruleset placing = (rules, gate_before, flip_placed, flip_refused, swap_placed, swap_refused, none_none, none_some)
 
 -- the ways out of `give_back`
-module _ (a : ℕ) (words : List ℕ) (s : ℕ) (is : s ≡ (emit_in words).status) where
-  pub back_stopped : (s ≡ 0 → ⊥) → emit_in words ≡ returned a (emit_in words)
+module _ (a : ℕ) (s : State) where
+  pub back_stopped : is_some s.refusal ≡ true → emit_in s ≡ returned a (emit_in s)
   unfolding returned
-  back_stopped f = rw (ne_eqb (emit_in words).status 0 (λ e. f (is ∙ e)))
+  back_stopped h = rw (ne_eqb (emit_in s).status 0 (some_refused s.refusal h))
 
-  pub back_given : Fits w16 a → s ≡ 0 →
-      emit_in (0 ∷ get_or words 1 0 ∷ get_or words 2 0 ∷ a ∷ get_or words 4 0 ∷ get_or words 5 0 ∷ []) ≡ returned a (emit_in words)
+  pub back_given : is_some s.refusal ≡ false → emit_in (record s { next = a }) ≡ returned a (emit_in s)
   unfolding returned
-  back_given two e = let same : a % 2 ^ 16 ≡ a = omega (arith, two.fits) in rw (eq-eqb (emit_in words).status 0 (sym is ∙ e), same)
+  back_given h = let e = none_refused s.refusal h in rw (eq-eqb (emit_in s).status 0 e, e)
 
 -- the ways out of `take`
-module _ (f l : ℕ) (words slots : List ℕ) (s : ℕ) (is : s ≡ (emit_in words).status) where
-  pub take_stopped : (s ≡ 0 → ⊥) → progress (emit_in words) slots ≡ ancilla_taken f l (emit_in words) slots
-  unfolding ancilla_taken
-  take_stopped h = rw (ne_eqb (emit_in words).status 0 (λ e. h (is ∙ e)))
-
-  module _ (ok : s ≡ 0) (n : ℕ) (is_n : n ≡ (emit_in words).next) where
-    pub take_past : (r : Emit) → most_wires < n → r ≡ stopped (emit_in words) many_wires → progress r slots ≡ ancilla_taken f l (emit_in words) slots
+module _ (f l : ℕ) (s : State) (slots : List Slot) where
+  module _ (h : is_some s.refusal ≡ true) where
+    pub stopped_state : emit_in s ≡ (ancilla_taken f l (emit_in s) slots).0
     unfolding ancilla_taken
-    take_past r h q = rw (q, eq-eqb (emit_in words).status 0 (sym is ∙ ok), ← is_n, lt-ltb most_wires n h)
+    stopped_state = rw (ne_eqb (emit_in s).status 0 (some_refused s.refusal h))
 
-    pub take_one : (after : List ℕ) (t h : ℕ) → n ≤ most_wires → after ≡ filled slots n f l → t ≡ (emit_in words).highest → h ≡ max t n →
-        progress (emit_in (0 ∷ get_or words 1 0 ∷ get_or words 2 0 ∷ (n + 1) ∷ h ∷ get_or words 5 0 ∷ [])) after ≡ ancilla_taken f l (emit_in words) slots
+    pub stopped_slots : slots ≡ (ancilla_taken f l (emit_in s) slots).1
     unfolding ancilla_taken
-    take_one after t h le p is-t q =
-        let up : (n + 1) % 2 ^ 16 ≡ n + 1 = omega arith in
-        let high : h % 2 ^ 16 ≡ max (emit_in words).highest n = omega arith in
-        rw (p, up, high, eq-eqb (emit_in words).status 0 (sym is ∙ ok), ← is_n, le-ltb most_wires n le)
+    stopped_slots = rw (ne_eqb (emit_in s).status 0 (some_refused s.refusal h))
 
--- an emission that begins
-pub begins : (n : ℕ) → Fits w8 n → emit_in (0 ∷ header_length ∷ 0 ∷ (n + 1) ∷ n ∷ n ∷ []) ≡ begun n
-begins n byte =
-    let up : (n + 1) % 2 ^ 16 ≡ n + 1 = omega (arith, byte.fits) in
-    let low : n % 2 ^ 16 ≡ n = omega (arith, byte.fits) in
-    let few : n % 2 ^ 8 ≡ n = omega (arith, byte.fits) in
-    rw (up, low, few)
+  module _ (ok : is_some s.refusal ≡ false) where
+    module _ (past : most_wires < s.next) where
+      pub past_state : stopped (emit_in s) many_wires ≡ (ancilla_taken f l (emit_in s) slots).0
+      unfolding ancilla_taken
+      past_state = rw (eq-eqb (emit_in s).status 0 (none_refused s.refusal ok), lt-ltb most_wires s.next past)
 
-pub ruleset takings = (rules, back_stopped, back_given, take_stopped, take_past, take_one, begins)
+      pub past_slots : slots ≡ (ancilla_taken f l (emit_in s) slots).1
+      unfolding ancilla_taken
+      past_slots = rw (eq-eqb (emit_in s).status 0 (none_refused s.refusal ok), lt-ltb most_wires s.next past)
 
--- the ways out of `load` and `fill_slot`
-pub list_is : (slots : List ℕ) (a w : ℕ) → w ≡ get_or slots (slot_length * a + 1) 0 → members_of w ≡ slot_list slots a
-list_is slots a w e = ap members_of e
+    module _ (low : s.next ≤ most_wires) where
+      pub taken_state : (h : ℕ) → h ≡ max s.highest s.next →
+          emit_in (record s { next = s.next + 1; highest = h }) ≡ (ancilla_taken f l (emit_in s) slots).0
+      unfolding ancilla_taken
+      taken_state h q = let e = none_refused s.refusal ok in rw (q, eq-eqb (emit_in s).status 0 e, le-ltb most_wires s.next low, e)
 
-pub slot_filled : (slots : List ℕ) (a f w n : ℕ) (middle end : List ℕ) → n ≡ length (members_of w) → middle ≡ set slots (slot_length * a) (256 * n + (255 - f)) →
-    end ≡ set middle (slot_length * a + 1) w → end ≡ filled slots a f w
-slot_filled slots a f w n middle end is m e = rw (e, m, is)
+      pub taken_slots : (after : List Slot) → after ≡ filled slots s.next f l → after ≡ (ancilla_taken f l (emit_in s) slots).1
+      unfolding ancilla_taken
+      taken_slots after p = let e = none_refused s.refusal ok in rw (p, eq-eqb (emit_in s).status 0 e, le-ltb most_wires s.next low)
 
-pub ruleset words = (touching, list_is, slot_filled)
+pub ruleset takings = (rules, back_stopped, back_given, stopped_state, stopped_slots, past_state, past_slots, taken_state, taken_slots)
+
+-- the ways out of `fill_slot`
+pub slot_filled : (slots : List Slot) (a f w n : ℕ) → n ≡ length (members_of w) →
+    set slots a (record { precedence = 256 * n + (255 - f); list = w }) ≡ filled slots a f w
+slot_filled slots a f w n is = rw is
 
 -- bytes that are stored one by one, so far: what is still to be stored makes of the slice what all of it makes
 pub data Storing (room₀ : List ℕ) (at : ℕ) (l room : List ℕ) (place i : ℕ) : Type 0 where

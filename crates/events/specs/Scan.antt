@@ -1,7 +1,8 @@
 -- An emission as the code keeps it: what each event does to the state of the walk and to the room, and the slots of the ancillas.
-use Rattle.std.specs.Prelude.{ℕ, zero, suc, ◌+◌, ◌-◌, ◌*◌, ◌/◌, ◌%◌, ◌^◌, max, ◌≡◌, cond, List, [], ◌∷◌, length, get_or, eqb, ltb, leb}
+use Rattle.std.specs.Prelude.{ℕ, zero, suc, ◌+◌, ◌-◌, ◌/◌, ◌%◌, max, ◌≡◌, cond, List, [], ◌∷◌, length, get_or, eqb, ltb, leb, Option, Some, None}
 use Rattle.std.proofs.lemmas.List.Edits.{sets}
-use Rattle.limits.specs.Sizes.{slot_length, status_word, used_word, gates_word, next_word, highest_word, qubits_word}
+use Rattle.limits.specs.declared.Refusal.{Refusal}
+use Rattle.limits.specs.Refusals.{number_of}
 use Rattle.model.specs.Limits.{most_wires, most_circuit, many_wires, no_room, header_length}
 use Rattle.model.specs.Syntax.{Program}
 use Rattle.model.specs.Emission.{Event, takes, places, frees, Invocation, invocation, emission, gates, peak}
@@ -9,6 +10,8 @@ use Rattle.model.specs.Circuit.{encode, encode_all}
 use Rattle.model.specs.Answers.{usable}
 use Rattle.sets.specs.Sets.{members_of}
 use Rattle.lookup.specs.Plans.{Within}
+use Rattle.events.specs.declared.State.{State}
+use Rattle.events.specs.declared.Slot.{Slot}
 
 -- where an emission is: 0 or the number that refuses it, bytes used, gates placed, the next wire, the highest wire taken, and the number of qubits
 pub record Emit : Type 0 where
@@ -19,15 +22,20 @@ pub record Emit : Type 0 where
   pub highest : ℕ
   pub qubits : ℕ
 
--- as the code keeps it, in words: of a word that holds less than 64 bits, the low ones
-abbrev pub emit_in : List ℕ → Emit
-emit_in words = record {
-  status = get_or words status_word 0 % 2 ^ 8;
-  used = get_or words used_word 0;
-  gates = get_or words gates_word 0 % 2 ^ 32;
-  next = get_or words next_word 0 % 2 ^ 16;
-  highest = get_or words highest_word 0 % 2 ^ 16;
-  qubits = get_or words qubits_word 0 % 2 ^ 8;
+-- the number of what refuses, 0 for nothing
+abbrev pub refusal_number : Option Refusal → ℕ
+refusal_number None = 0
+refusal_number (Some why) = number_of why
+
+-- as the code keeps it
+abbrev pub emit_in : State → Emit
+emit_in s = record {
+  status = refusal_number s.refusal;
+  used = s.used;
+  gates = s.gates;
+  next = s.next;
+  highest = s.highest;
+  qubits = s.qubits;
 }
 
 -- what is seen of an emission: where it is, and the room
@@ -85,21 +93,22 @@ emission_end P n = record {
   qubits = n;
 }
 
--- an ancilla's slot holds the invocation that took it: a word for the length of its list and the procedure, counted down from 255, and the set of the list
-abbrev pub slot_at : ℕ → ℕ
-slot_at a = slot_length * a
+-- an ancilla's slot holds the invocation that took it: a number for the length of its list and the procedure, counted down from 255, and the set of the list. Past
+-- the slots there is none.
+abbrev pub slot_in : List Slot → ℕ → Slot
+slot_in slots a = get_or slots a (record { precedence = 0; list = 0 })
 
-abbrev pub slot_procedure : List ℕ → ℕ → ℕ
-slot_procedure slots a = 255 - get_or slots (slot_at a) 0 % 256
+abbrev pub slot_procedure : List Slot → ℕ → ℕ
+slot_procedure slots a = 255 - (slot_in slots a).precedence % 256
 
-abbrev pub slot_list : List ℕ → ℕ → List ℕ
-slot_list slots a = members_of (get_or slots (slot_at a + 1) 0)
+abbrev pub slot_list : List Slot → ℕ → List ℕ
+slot_list slots a = members_of (slot_in slots a).list
 
-abbrev pub slot_list_length : List ℕ → ℕ → ℕ
-slot_list_length slots a = get_or slots (slot_at a) 0 / 256 % 256
+abbrev pub slot_list_length : List Slot → ℕ → ℕ
+slot_list_length slots a = (slot_in slots a).precedence / 256
 
 -- each slot has the length of its list, a list of the emission's qubits 1 to n
-pub record Tallied (n : ℕ) (slots : List ℕ) : Type 0 where
+pub record Tallied (n : ℕ) (slots : List Slot) : Type 0 where
   pub lengths : (a : ℕ) → slot_list_length slots a ≡ length (slot_list slots a)
   pub within : (a : ℕ) → Within n (slot_list slots a)
 
@@ -107,10 +116,10 @@ pub record Tallied (n : ℕ) (slots : List ℕ) : Type 0 where
 abbrev pub wire_of : ℕ → ℕ
 wire_of a = cond (ltb most_wires a) 0 a
 
-unfoldable pub slot_of : List ℕ → ℕ → Invocation
+unfoldable pub slot_of : List Slot → ℕ → Invocation
 slot_of slots a = invocation (slot_procedure slots a) (slot_list slots a) (wire_of a)
 
 -- the invocations in n slots, from ancilla a on
-unfoldable pub held_in : List ℕ → ℕ → ℕ → List Invocation
+unfoldable pub held_in : List Slot → ℕ → ℕ → List Invocation
 held_in slots a zero = []
 held_in slots a (suc n) = slot_of slots a ∷ held_in slots (a + 1) n

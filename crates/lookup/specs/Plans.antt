@@ -4,21 +4,13 @@ use Rattle.model.specs.Limits.{most_wires}
 use Rattle.model.specs.Lists.{member}
 use Rattle.model.specs.Gates.{swap_of, exchange}
 use Rattle.model.specs.Emission.{Event, places, under, swaps}
-use Rattle.lookup.specs.declared.Plan.{Plan}
-use Rattle.lookup.specs.Entries.{wire_at, qubit_at}
+use Rattle.lookup.specs.declared.Lookup.{Lookup}
+use Rattle.lookup.specs.declared.plan.Plan.{Plan}
+use Rattle.lookup.specs.Entries.{wire_at, qubit_at, Sized}
 
--- two lists side by side
-unfoldable pub pairs : List ℕ → List ℕ → List (ℕ × ℕ)
-pairs [] ys = []
-pairs (x ∷ xs) [] = []
-pairs (x ∷ xs) (y ∷ ys) = (x, y) ∷ pairs xs ys
-
--- the swaps planned so far: so many pairs of two arrays
-abbrev pub planned : List ℕ → List ℕ → ℕ → List (ℕ × ℕ)
-planned from to len = pairs (take len from) (take len to)
-
+-- the swaps of a plan
 abbrev pub pairs_of : Plan → List (ℕ × ℕ)
-pairs_of r = planned r.from r.to r.len
+pairs_of r = take r.len r.pairs
 
 -- pairs of wires swapped in order, under the ancilla e
 unfoldable pub swaps_along : ℕ → List (ℕ × ℕ) → List Event
@@ -47,11 +39,12 @@ pub record Inside (n : ℕ) (ps : List (ℕ × ℕ)) : Type 0 where
   pub wires : (q : ℕ) → q ≤ n → holder ps q ≤ n
   pub qubits : (w : ℕ) → w ≤ n → held ps w ≤ n
 
--- "it names exactly the wire that holds each qubit", of n qubits, `ps` being the swaps so far; and for each wire the qubit that it holds
-pub record Names (n : ℕ) (l : List ℕ) (ps : List (ℕ × ℕ)) : Type 0 where
+-- "it names exactly the wire that holds each qubit", of n qubits, `ps` being the swaps so far; and for each wire the qubit that it holds. It has an entry for each
+pub record Names (n : ℕ) (l : Lookup) (ps : List (ℕ × ℕ)) : Type 0 where
   pub wires : (q : ℕ) → q ≤ n → wire_at l q ≡ holder ps q
   pub qubits : (w : ℕ) → w ≤ n → qubit_at l w ≡ held ps w
   pub inside : Inside n ps
+  pub sized : Sized l
 
 -- "unless equal": the pair of one k, or none
 abbrev pub pair_of : ℕ → ℕ → List (ℕ × ℕ)
@@ -60,7 +53,7 @@ pair_of from to = cond (eqb from to) [] ((from, to) ∷ [])
 -- "Build that lookup before the loop and update it at each swap: before each k it names exactly the wire that holds each qubit." One k, of qubit q and wire
 -- `to`: where the lookup l names the wires after the swaps ps, the wire that holds q is swapped with `to`, unless equal, and afterwards the lookup names the
 -- wires after all swaps until then
-pub data PlansSwap (q to : ℕ) (l : List ℕ) (ps : List (ℕ × ℕ)) (l₁ : List ℕ) (ps₁ : List (ℕ × ℕ)) : Type 0 where
+pub data PlansSwap (q to : ℕ) (l : Lookup) (ps : List (ℕ × ℕ)) (l₁ : Lookup) (ps₁ : List (ℕ × ℕ)) : Type 0 where
   names_again : ((n : ℕ) → n ≤ most_wires → q ≤ n → to ≤ n → Names n l ps → (ps₁ ≡ ps ++ pair_of (holder ps q) to) × Names n l₁ ps₁) →
       PlansSwap q to l ps l₁ ps₁
 

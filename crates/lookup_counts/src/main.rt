@@ -9,7 +9,7 @@ use std::io;
 
 fn print_plan(rt: &impl Print, first: QubitSet, later: QubitSet, m: u8) -> io::Result<()> {
     let plan = plan_swaps(MOST_QUBITS, first, later);
-    let (swaps, touched) = (plan.len, plan.touched);
+    let (swaps, touched) = (plan.pairs().len(), plan.touched);
     let bound = 4 * MOST_QUBITS as u64 + 8 * m as u64;
     println!(rt; "{m} {swaps} {touched} {bound}")
 }

@@ -1,7 +1,7 @@
 -- Positions of a list carried to its members: in a list of neighbours by one shift, in others member by member, while the row of positions is shifted down.
 use mathlib.Core.Path.{◌≡◌, refl, sym, ap, ◌∙◌}
 use mathlib.Core.Bool.{true, false}
-use mathlib.Core.List.{List, [], ◌∷◌, ◌++◌, map, map-id, append_assoc, append-nil}
+use mathlib.Core.List.{List, [], ◌∷◌, ◌++◌, map, map-id, append_assoc, append-nil, cons≢nil, head-eq_of_cons-eq, tail-eq_of_cons-eq}
 use Prim.Native.Nat.{ℕ, zero, suc, ◌-◌, ◌*◌, ◌/◌, ◌%◌, ◌^◌, ◌≤◌, ◌<◌, min}
 use native.Mathlib.Nat.{
   min-le_right,
@@ -47,6 +47,7 @@ use Rattle.sets.proofs.Members.{
   from_state,
 }
 use Rattle.sets.proofs.Positions.{entry_qubits}
+use Rattle.sets.proofs.Readings.{empty_word}
 
 -- the entries of a list whose positions are in a row, the lowest bit of which is the first position
 unfoldable pub deposit : ℕ → List ℕ → List ℕ
@@ -160,11 +161,8 @@ carry_empty row w e = rw (e, members_empty) (sym (deposit_nil row) ∙ deposit_e
 
 module _ (w : ℕ) (f : Fits w64 w) (some : w ≡ 0 → ⊥) where
   -- how many places are below the lowest member
-  pub carry_inside : count_trailing_zeros 64 w < 64
+  carry_inside : count_trailing_zeros 64 w < 64
   carry_inside = lowest_below 64 w (omega arith) f.fits
-
-  pub carry_fits : Fits w64 (count_trailing_zeros 64 w)
-  carry_fits = let h = carry_inside in record { fits = omega arith }
 
 -- in a list of neighbours
 module _ (row w n v : ℕ) (f : Fits w64 w) (full : members_of v ≡ qubits (min n 64)) where
@@ -179,14 +177,14 @@ module _ (row w n v : ℕ) (f : Fits w64 w) (full : members_of v ≡ qubits (min
       ∙ shifted_run 64 row (bit_and row run) w f.fits (and_le_r row run) (carry_full row run n v low full same ∙ sym (deposit_entries row (members_of run)))
       ∙ deposit_entries row (members_of w)
 
--- what the loop keeps: what was found, and what the rest of the row finds in the rest of the list, is what the whole row finds in the whole list;
+-- with the rest of the list as a word: what was found, and what the rest of the row finds in the rest, is what the whole row finds in the whole list;
 -- all that was found is below the rest
 pub record Carries (row list found rest left : ℕ) : Type 0 where
   pub so : members_of found ++ deposit left (members_of rest) ≡ deposit row (members_of list)
   pub under : (rest ≡ 0 → ⊥) → found < 2 ^ count_trailing_zeros 64 rest
   pub bound : rest < 2 ^ 64
 
-pub carry_start : (row list : ℕ) → Fits w64 list → Carries row list 0 list row
+carry_start : (row list : ℕ) → Fits w64 list → Carries row list 0 list row
 carry_start row list f = record { so = rw members_empty; under = λ some. pow_pos (count_trailing_zeros 64 list); bound = f.fits }
 
 -- a member above all that was found
@@ -231,10 +229,10 @@ module _ (row list found rest left : ℕ) (c : Carries row list found rest left)
   done : deposit left (members_of rest) ≡ [] → members_of found ≡ entries_at row (members_of list)
   done e = sym (append-nil (members_of found)) ∙ ap (λ (l : List ℕ). members_of found ++ l) (sym e) ∙ c.so ∙ deposit_entries row (members_of list)
 
-  pub carry_none : rest ≡ 0 → members_of found ≡ entries_at row (members_of list)
+  carry_none : rest ≡ 0 → members_of found ≡ entries_at row (members_of list)
   carry_none e = done (rw (e, members_empty) (deposit_nil left))
 
-  pub carry_end : left ≡ 0 → members_of found ≡ entries_at row (members_of list)
+  carry_end : left ≡ 0 → members_of found ≡ entries_at row (members_of list)
   carry_end e = done (rw e (deposit_zero (members_of rest)))
 
   module _ (some : rest ≡ 0 → ⊥) where
@@ -265,9 +263,43 @@ module _ (row list found rest left : ℕ) (c : Carries row list found rest left)
       bound = bound_less rest some c.bound;
     }
 
-    pub carry_more : Carries row list (bit_or found ((bit_and left 1 * 2 ^ count_trailing_zeros 64 rest) % 2 ^ 64)) (bit_and rest (rest - 1)) (left / 2)
+    carry_more : Carries row list (bit_or found ((bit_and left 1 * 2 ^ count_trailing_zeros 64 rest) % 2 ^ 64)) (bit_and rest (rest - 1)) (left / 2)
     carry_more = by_parity left
         (λ o. rw (bit_odd left place o below) (carry_odd o))
         (λ e. rw (bit_even left place e, or_zero_r found) (carry_even e))
 
-pub ruleset carrying = (rules, carry_empty, carry_inside, carry_fits, carry_run, carry_start, carry_none, carry_end, carry_more)
+-- what the loop keeps: the same of the members that the iterator has left, which are those of a word
+pub record CarriesOn (row list found : ℕ) (rest : List ℕ) (left : ℕ) : Type 0 where
+  pub word : ℕ
+  pub members : rest ≡ members_of word
+  pub carries : Carries row list found word left
+
+pub carry_from_all : (row list : ℕ) (l : List ℕ) → Fits w64 list → l ≡ members_of list → CarriesOn row list 0 l row
+carry_from_all row list l f e = record { word = list; members = e; carries = carry_start row list f }
+
+module _ (row list found : ℕ) (rest : List ℕ) (left : ℕ) (c : CarriesOn row list found rest left) where
+  pub carry_all : rest ≡ [] → members_of found ≡ entries_at row (members_of list)
+  carry_all e = carry_none row list found c.word left c.carries (empty_word c.word c.carries.bound (sym c.members ∙ e))
+
+  pub carry_rest : left ≡ 0 → members_of found ≡ entries_at row (members_of list)
+  carry_rest e = carry_end row list found c.word left c.carries e
+
+  module _ (q : ℕ) (others : List ℕ) (split : rest ≡ q ∷ others) where
+    some : c.word ≡ 0 → ⊥
+    some e = cons≢nil (sym split ∙ c.members ∙ ap members_of e ∙ members_empty)
+
+    lists : q ∷ others ≡ suc (count_trailing_zeros 64 c.word) ∷ members_of (cleared c.word)
+    lists = sym split ∙ c.members ∙ first c.word some c.carries.bound
+
+    lowest_is : q ≡ suc (count_trailing_zeros 64 c.word)
+    lowest_is = head-eq_of_cons-eq lists
+
+    pub carry_place : (1 ≤ q) × (q - 1 < 64)
+    carry_place = let h = carry_inside c.word (record { fits = c.carries.bound }) some in let e = lowest_is in (omega arith, omega arith)
+
+    pub carry_next : CarriesOn row list (bit_or found ((bit_and left 1 * 2 ^ (q - 1)) % 2 ^ 64)) others (left / 2)
+    carry_next =
+        let at : q - 1 ≡ count_trailing_zeros 64 c.word = let e = lowest_is in omega arith in
+        record { word = cleared c.word; members = tail-eq_of_cons-eq lists; carries = rw at (carry_more row list found c.word left c.carries some) }
+
+pub ruleset carrying = (rules, carry_empty, carry_run)

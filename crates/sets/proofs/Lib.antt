@@ -5,3 +5,4 @@ pub mod Ways
 pub mod Positions
 pub mod Carrying
 pub mod Readings
+mod MemberSteps

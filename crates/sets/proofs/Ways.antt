@@ -7,17 +7,16 @@ use native.Mathlib.Numerals.{add-one}
 use native.Mathlib.Omega.{arith}
 use borrow.Author.Rules.{rules}
 use lib.Bits.{bit_xor}
-use lib.Pow.{pow_pos}
-use lib.Count.{ones, ones-le, count_trailing_zeros, count_leading_zeros, leading_le, leading_of_zero}
+use lib.Count.{ones, count_trailing_zeros, count_leading_zeros, leading_of_zero}
 use lib.ListN.{length, take, drop, length-append}
 use lib.Seq.{get_or-append_seam, take-append_seam, take-nil}
-use mir.Syntax.{w8, w64}
+use mir.Syntax.{w64}
 use mir.Val.{Fits}
 use Rattle.model.specs.Lists.{qubits, entry}
 use Rattle.model.proofs.BooleanLaws.{by_eq}
 use Rattle.model.proofs.WordBits.{shifted}
 use Rattle.sets.specs.Sets.{members_of}
-use Rattle.sets.proofs.BitLaws.{cleared, lowest_below, leading_below}
+use Rattle.sets.proofs.BitLaws.{cleared, leading_below}
 use Rattle.sets.proofs.Members.{members_empty, members_full, size_ones, members_lowest, members_highest}
 
 -- a list that ends in x
@@ -37,17 +36,11 @@ one k = (1 * 2 ^ k) % 2 ^ 64
 
 -- how many members
 module _ (w : ℕ) (f : Fits w64 w) where
-  pub size_fits : Fits w8 (ones w)
-  size_fits = let h : ones w ≤ 64 = ones-le 64 w f.fits in record { fits = omega arith }
-
   pub size_is : ones w ≡ length (members_of w)
   size_is = size_ones w f.fits
 
 -- qubits 1 to n
 module _ (n : ℕ) where
-  pub full_some : n < 64 → 1 ≤ one n
-  full_some h = rw (shifted 64 n h) (pow_pos n)
-
   pub full_below : n < 64 → members_of (one n - 1) ≡ qubits (min n 64)
   full_below h =
       let e : min n 64 ≡ n = min-eq_left (omega arith) in
@@ -73,17 +66,8 @@ module _ (w : ℕ) (f : Fits w64 w) where
     positive : 0 < w
     positive = omega arith
 
-    trailing : count_trailing_zeros 64 w < 64
-    trailing = lowest_below 64 w positive f.fits
-
     first : members_of w ≡ suc (count_trailing_zeros 64 w) ∷ members_of (cleared w)
     first = members_lowest w some f.fits
-
-    pub next_fits : Fits w8 (count_trailing_zeros 64 w)
-    next_fits = let h = trailing in record { fits = omega arith }
-
-    pub next_fits_more : Fits w8 (count_trailing_zeros 64 w + 1)
-    next_fits_more = let h = trailing in record { fits = omega arith }
 
     pub next_is : count_trailing_zeros 64 w + 1 ≡ entry (members_of w) 1
     next_is = rw first (add-one (count_trailing_zeros 64 w))
@@ -92,7 +76,7 @@ module _ (w : ℕ) (f : Fits w64 w) where
     lowest_gone = rw first
 
     -- the highest member
-    pub leading_small : count_leading_zeros 64 w ≤ 63
+    leading_small : count_leading_zeros 64 w ≤ 63
     leading_small = let h = leading_below w positive f.fits in omega arith
 
     abbrev top : ℕ
@@ -104,32 +88,10 @@ module _ (w : ℕ) (f : Fits w64 w) where
     pub highest_gone : members_of (bit_xor w (one (63 - count_leading_zeros 64 w))) ≡ take (length (members_of w) - 1) (members_of w)
     highest_gone = rw (shifted 64 top (omega arith)) (without_last (members_of w) (members_of (bit_xor w (2 ^ top))) (suc top) last)
 
-  pub last_fits : Fits w8 (count_leading_zeros 64 w)
-  last_fits = let h = leading_le 64 w in record { fits = omega arith }
-
   pub last_is : 64 - count_leading_zeros 64 w ≡ entry (members_of w) (length (members_of w))
   last_is = by_eq w 0
       (λ e. rw (e, members_empty, leading_of_zero 64))
       (λ ne. let e : 64 - count_leading_zeros 64 w ≡ suc (top ne) = let h = leading_small ne in omega arith in
       e ∙ sym (at_last (members_of w) (members_of (bit_xor w (2 ^ top ne))) (suc (top ne)) (last ne)))
 
-pub ruleset basics = (
-  rules,
-  size_fits,
-  size_is,
-  full_some,
-  full_below,
-  full_all,
-  next_none,
-  lowest_none,
-  highest_none,
-  next_fits,
-  next_fits_more,
-  next_is,
-  lowest_gone,
-  leading_small,
-  highest_gone,
-  last_fits,
-  leading_le,
-  last_is,
-)
+pub ruleset basics = (rules, size_is, full_below, full_all, next_none, next_is, highest_none, highest_gone, last_is)

@@ -1,6 +1,6 @@
 -- Sets of qubits 1 to 64 as words: qubit q is in the set where the word has bit q − 1.
-use Rattle.std.specs.Prelude.{ℕ, Bool, true, false, cond, List, [], ◌∷◌, map, ltb, length, ℤ}
-use Rattle.model.specs.Lists.{qubits, position, entry}
+use Rattle.std.specs.Prelude.{ℕ, Bool, true, false, List, [], ◌∷◌, map, length}
+use Rattle.model.specs.Lists.{qubits, entry}
 use Rattle.model.specs.Meaning.{state_of}
 
 -- the numbers of a list that pass a test
@@ -15,10 +15,6 @@ members_within n word = filter (state_of word) (qubits n)
 -- the members of a set, ascending
 abbrev pub members_of : ℕ → List ℕ
 members_of word = members_within 64 word
-
--- a position in a list of this size: 0 for one "at or below zero, or past the end"
-unfoldable pub within : ℕ → ℤ → ℕ
-within size z = cond (ltb size (position z)) 0 (position z)
 
 -- the entries of a list at the positions that are in a set
 abbrev pub entries_at : ℕ → List ℕ → List ℕ

@@ -1,9 +1,12 @@
 // Sets of qubits 1 to 64 as words: qubit q is in the set where bit q - 1 stands.
 #![tactic(auto)]
 
-ghost use Rattle.std.specs.Prelude.{◌≡◌, min, ◌-◌, length, take, drop};
+ghost use Rattle.std.specs.Prelude.{◌≡◌, min, ◌+◌, ◌-◌, length, take, drop};
 ghost use Rattle.model.specs.Lists.{qubits, entry, remove, position};
-ghost use Rattle.sets.specs.Sets.{members_of, within, entries_at};
+ghost use Rattle.sets.specs.Sets.{members_of, entries_at};
+ghost use Rattle.std.specs.Iterator.{YieldsFirst, YieldsLast, item_count};
+
+use std::marker::Model;
 
 // A set of qubits, by its word.
 pub type QubitSet = u64;
@@ -12,28 +15,25 @@ pub type QubitSet = u64;
 pub fn size(set: QubitSet) -> u8
     ensures { result ≡ length (members_of set) }
 {
-    u64::count_ones(set) as u8
+    set.count_ones() as u8
 }
 
 // Qubits 1 to n.
 pub fn full(n: u8) -> QubitSet
     ensures { members_of result ≡ qubits (min n 64) }
 {
-    if n < 64 {
-        (1u64 << n) - 1
-    } else {
-        0xffff_ffff_ffff_ffff
-    }
+    if n < 64 { (1u64 << n) - 1 } else { u64::MAX }
 }
 
-// The lowest member, 0 where there is none.
+// Each end has its own two functions: a form for both ends would take the end and switch on it in every line.
+// The lowest member, 0 where there is none: `entry` of the definitions, on which all crates stand, gives 0, which is no qubit, and no Option.
 pub fn next_member(set: QubitSet) -> u8
     ensures { result ≡ entry (members_of set) 1 }
 {
     if set == 0 {
         return 0;
     }
-    u64::trailing_zeros(set) as u8 + 1
+    set.trailing_zeros() as u8 + 1
 }
 
 // The set without its lowest member.
@@ -50,7 +50,7 @@ pub fn without_lowest(set: QubitSet) -> QubitSet
 pub fn last_member(set: QubitSet) -> u8
     ensures { result ≡ entry (members_of set) (length (members_of set)) }
 {
-    64 - u64::leading_zeros(set) as u8
+    64 - set.leading_zeros() as u8
 }
 
 // The set without its highest member.
@@ -60,49 +60,73 @@ pub fn without_highest(set: QubitSet) -> QubitSet
     if set == 0 {
         return 0;
     }
-    set ^ (1u64 << (63 - u64::leading_zeros(set)))
+    set ^ (1u64 << (63 - set.leading_zeros()))
 }
 
-// A position in a list of this size, counted from 1; 0 for one at or below zero, or past the end.
-fn within(size: u8, k: i32) -> u8
-    ensures { result ≡ within size k }
+// The members of a set that are still to come, from its lowest on or from its highest down.
+#[derive(Drop)]
+pub struct Qubits {
+    rest: QubitSet,
+}
+
+impl Model for Qubits {
+    ghost use Rattle.std.specs.Prelude.{ℕ, List};
+    ghost use Rattle.sets.specs.Sets.{members_of};
+
+    ghost Value = { List ℕ };
+
+    ghost view = { λ a. members_of a.rest };
+}
+
+// The members of a set, lowest first.
+pub fn members_of(set: QubitSet) -> Qubits
+    ensures { result ≡ members_of set }
 {
-    if k < 1 {
-        return 0;
-    }
-    if k > size as i32 {
-        return 0;
-    }
-    k as u8
+    Qubits { rest: set }
 }
 
-// The member at position k, reached from the lowest.
-fn from_lowest(set: QubitSet, k: u8) -> u8
-    ensures { result ≡ entry (members_of set) k }
+impl Iterator for Qubits {
+    type Item = u8;
+
+    ghost next_gives = { YieldsFirst (λ s. s) };
+
+    ghost remaining = { item_count (λ s. s) };
+
+    fn next(&mut self) -> Option<u8> {
+        if self.rest == 0 {
+            return None;
+        }
+        let lowest = next_member(self.rest);
+        self.rest = without_lowest(self.rest);
+        Some(lowest)
+    }
+}
+
+impl DoubleEndedIterator for Qubits {
+    ghost next_back_gives = { YieldsLast (λ s. s) };
+
+    fn next_back(&mut self) -> Option<u8> {
+        if self.rest == 0 {
+            return None;
+        }
+        let highest = last_member(self.rest);
+        self.rest = without_highest(self.rest);
+        Some(highest)
+    }
+}
+
+// The member that so many others are below, reached from the lowest; 0 where there is none.
+fn from_lowest(set: QubitSet, below: u8) -> u8
+    ensures { result ≡ entry (members_of set) (below + 1) }
 {
-    if k == 0 {
-        return 0;
-    }
-    let mut rest = set;
-    let mut left = k;
-    while 1 < left {
-        rest = without_lowest(rest);
-        left -= 1;
-    }
-    next_member(rest)
+    members_of(set).nth(below as usize).unwrap_or(0)
 }
 
-// The member that so many others are above, reached from the highest.
+// The member that so many others are above, reached from the highest; 0 where there is none.
 fn from_highest(set: QubitSet, above: u8) -> u8
     ensures { result ≡ entry (members_of set) (length (members_of set) - above) }
 {
-    let mut rest = set;
-    let mut left = above;
-    while 0 < left {
-        rest = without_highest(rest);
-        left -= 1;
-    }
-    last_member(rest)
+    members_of(set).nth_back(above as usize).unwrap_or(0)
 }
 
 // The member at a position, 0 where there is none. The first four are reached from the lowest, and the set is not counted. Of the others, in qubits 1 to n
@@ -110,20 +134,22 @@ fn from_highest(set: QubitSet, above: u8) -> u8
 pub fn entry(set: QubitSet, k: i32) -> u8
     ensures { result ≡ entry (members_of set) (position k) }
 {
-    if k < 1 {
+    let Ok(k @ 1..) = u8::try_from(k) else {
         return 0;
-    }
+    };
     if k < 5 {
-        return from_lowest(set, k as u8);
+        return from_lowest(set, k - 1);
     }
     let n = size(set);
-    let i = within(n, k);
-    if set == full(n) {
-        return i;
+    if n < k {
+        return 0;
     }
-    let above = n - i;
-    if i <= above {
-        from_lowest(set, i)
+    if set == full(n) {
+        return k;
+    }
+    let above = n - k;
+    if k <= above {
+        from_lowest(set, k - 1)
     } else {
         from_highest(set, above)
     }
@@ -145,14 +171,12 @@ fn deposited(row: u64, list: QubitSet) -> QubitSet
     ensures { members_of result ≡ entries_at row (members_of list) }
 {
     let mut found = 0;
-    let mut rest = list;
     let mut left = row;
-    while left != 0 {
-        if rest == 0 {
-            return found;
+    for q in members_of(list) {
+        if left == 0 {
+            break;
         }
-        found |= (left & 1) << u64::trailing_zeros(rest);
-        rest &= rest - 1;
+        found |= (left & 1) << (q - 1);
         left >>= 1;
     }
     found
@@ -165,7 +189,7 @@ pub fn carried(row: u64, list: QubitSet) -> QubitSet
     if list == 0 {
         return 0;
     }
-    let below = u64::trailing_zeros(list);
+    let below = list.trailing_zeros();
     let run = list >> below;
     if run == full(size(list)) {
         return (row & run) << below;

@@ -1,0 +1,6 @@
+-- `qubit_on` meets its contract.
+use Rattle.lookup.proofs.CountedEntries.{touching}
+use Rattle.lookup.proofs.Lookup.qubit_on.Goals as goal
+
+pub returns-clause-after : goal.returns-clause-after
+returns-clause-after c = search touching

@@ -1,0 +1,9 @@
+-- `plan_swaps`: what is promised of one k holds from the first to the last.
+use Rattle.sets.specs.Sets.{members_of}
+use Rattle.std.specs.Iterator.Adapters.{zip_first, zip_second}
+use Rattle.lookup.specs.Plans.{pairs_of}
+use Rattle.lookup.proofs.PlannedSwaps.{Planning}
+use Rattle.lookup.proofs.plan_swaps.Given as goal
+
+abbrev pub invariant-loop-q : goal.invariant-loop-q
+invariant-loop-q l = Planning l.fn.n (members_of l.fn.first) (members_of l.fn.later) l.lookup (pairs_of l.plan) (zip_second l.q-iterator) (zip_first l.q-iterator)

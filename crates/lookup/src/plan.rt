@@ -1,0 +1,47 @@
+// The swaps of an entry, as they are planned.
+
+ghost use Rattle.std.specs.Prelude.{◌≡◌, ◌≤◌, ◌<◌, ◌++◌, [], ◌∷◌, length};
+ghost use Rattle.limits.specs.Sizes.{set_length};
+
+use limits::SET_LENGTH;
+
+// The swaps of an entry as pairs of wires, in order: the wire that holds the qubit, and the one that it goes to. `touched` is how many entries of the lookup
+// were read and written for them.
+#[derive(Clone, Copy)]
+pub struct Plan {
+    pairs: [(u8, u8); SET_LENGTH],
+    len: u8,
+    pub touched: u16,
+    ghost fits: { len ≤ set_length },
+}
+
+impl Plan {
+    ghost use Rattle.lookup.specs.Plans.{pairs_of};
+
+    // No swap yet.
+    pub(crate) fn new() -> Self
+        ensures { pairs_of result ≡ [] }
+    {
+        Plan {
+            pairs: [(0, 0); SET_LENGTH],
+            len: 0,
+            touched: 0,
+        }
+    }
+
+    // The pairs, in order.
+    pub fn pairs(&self) -> &[(u8, u8)]
+        ensures { result.now ≡ pairs_of self.now }
+    {
+        &self.pairs[..self.len as usize]
+    }
+
+    // A pair more, behind the others.
+    pub(crate) fn push(&mut self, from: u8, to: u8)
+        requires { length (pairs_of self.old) < set_length }
+        ensures { pairs_of self.new ≡ pairs_of self.old ++ ((from, to) ∷ []) }
+    {
+        self.pairs[self.len as usize] = (from, to);
+        self.len += 1;
+    }
+}

@@ -1,0 +1,13 @@
+-- `next` gives the lowest member, and leaves the others.
+use Rattle.std.proofs.Common.{rules}
+use Rattle.sets.proofs.MemberSteps.{none_left, first_left}
+use Rattle.sets.proofs.QubitsIterator.next.Goals as goal
+
+pub returns-then-self-eq0-clause-steps : goal.returns-then-self-eq0-clause-steps
+returns-then-self-eq0-clause-steps c = search (rules, none_left)
+
+pub returns-clause-steps : goal.returns-clause-steps
+returns-clause-steps c = search (rules, first_left)
+
+pub returns-clause-goes : goal.returns-clause-goes
+returns-clause-goes c = search (rules, first_left)
