@@ -50,6 +50,7 @@ use Rattle.agreement.proofs.AncillaStack.{only_reverse, entries_only, bodies_sta
 use Rattle.decoded.specs.DecodedTable.{procedure_count, root_of, statement_at, program_at}
 use Rattle.reach.proofs.MatrixOfAProgram.{count_at, body_at_lem}
 use Rattle.decoded.proofs.StatementAtARecord.{spent_skip}
+use Rattle.controls.specs.declared.Site.{Site}
 use Rattle.controls.specs.ControlWords.{controls_from, list_from, At}
 use Rattle.widths.specs.KeptWidths.{WidthsKnown}
 use Rattle.sets.specs.Sets.{members_of}
@@ -363,13 +364,13 @@ module _ (prog : List ℕ) (f i depth : ℕ) (at : i ≡ root_of prog f) (deep :
   body_known known nz = by_lt p f (λ lt. absurd (nz (body_none lt))) (λ le. rw (body_all le, at) (known f le))
 
 -- the list of a slot is of the emission's qubits
-slot_within : {prog : List ℕ} {st : Emit} (ws : List Slot) (d : ℕ) (s : Slot) (site : List ℕ) → s ≡ slot_in ws d → list_from site ≡ members_of s.list →
+slot_within : {prog : List ℕ} {st : Emit} (ws : List Slot) (d : ℕ) (s : Slot) (site : Site) → s ≡ slot_in ws d → list_from site ≡ members_of s.list →
     Ready prog st ws → Within st.qubits (list_from site)
 slot_within {st = st} ws d s site is here R =
     subst (Within st.qubits) (sym (here ∙ ap (λ (v : Slot). members_of v.list) is)) (R.tallied.within d)
 
 -- the ways out of `emit_body_left` and `emit_body_right`
-module _ {prog : List ℕ} {k : ℕ} {st : Emit} {room : List ℕ} {ws : List Slot} {d : ℕ} {r : Emit} {room₁ : List ℕ} {ws₁ : List Slot} {s : Slot} {f i depth w : ℕ} {site : List ℕ}
+module _ {prog : List ℕ} {k : ℕ} {st : Emit} {room : List ℕ} {ws : List Slot} {d : ℕ} {r : Emit} {room₁ : List ℕ} {ws₁ : List Slot} {s : Slot} {f i depth w : ℕ} {site : Site}
     (is : s ≡ slot_in ws d) (is_f : f ≡ 255 - s.precedence % 256) (is_w : w ≡ wire_of d) (here : At site (members_of s.list) (under w)) (at : i ≡ root_of prog f)
     (deep : depth ≡ body_depth (procedure_count prog) f) where
   pub body_left_walk : Left prog k st room ws r room₁ ws₁ i depth (list_from site) (controls_from site) → BodyLeft prog k st room ws r room₁ ws₁ d

@@ -13,6 +13,7 @@ use Rattle.model.specs.Emission.{whole, emission}
 use Rattle.model.proofs.ListLaws.{qubits_data}
 use Rattle.decoded.specs.DecodedTable.{procedure_count, root_of, statement_at, program_at}
 use Rattle.reach.proofs.MatrixOfAProgram.{count_at}
+use Rattle.controls.specs.declared.Site.{Site}
 use Rattle.controls.specs.ControlWords.{controls_from, list_from, At}
 use Rattle.lookup.specs.Plans.{Within}
 use Rattle.events.specs.declared.Slot.{Slot}
@@ -34,7 +35,7 @@ emission_is prog n k root l cs h e a q c =
 main_within : (n : ℕ) (l : List ℕ) → n ≤ most_qubits → l ≡ qubits (min n most_qubits) → Within n l
 main_within n l h e = let all : min n most_qubits ≡ n = omega arith in subst (Within n) (sym (e ∙ ap qubits all)) (qubits_data n)
 
-pub main_walk : {prog : List ℕ} {n : ℕ} {st : Emit} {room : List ℕ} {ws : List Slot} {r : Emit} {room₁ : List ℕ} {ws₁ : List Slot} {k root : ℕ} {l site : List ℕ} →
+pub main_walk : {prog : List ℕ} {n : ℕ} {st : Emit} {room : List ℕ} {ws : List Slot} {r : Emit} {room₁ : List ℕ} {ws₁ : List Slot} {k root : ℕ} {l : List ℕ} {site : Site} →
     st ≡ begun n → k ≡ procedure_count prog → root ≡ root_of prog 0 → l ≡ qubits (min n most_qubits) → At site l no_controls →
     Whole prog k st room ws r room₁ ws₁ root most_depth (list_from site) (controls_from site) → Emits prog n room ws r room₁ ws₁
 main_walk {prog = prog} {n = n} {room = room} {ws = ws} {k = k} {root = root} {l = l} b e a q c W =

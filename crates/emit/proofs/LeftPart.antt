@@ -28,6 +28,7 @@ use Rattle.agreement.proofs.EmissionClauses.{
   invocations_recursive,
   invocations_other,
 }
+use Rattle.controls.specs.declared.Site.{Site}
 use Rattle.controls.specs.ControlWords.{with_qubit, controls_from, list_from, At}
 use Rattle.controls.proofs.ControlSets.{qubit_asked}
 use Rattle.decoded.specs.DecodedTable.{width_in, removals_in, test_at, statement_at, program_at}
@@ -234,7 +235,7 @@ module _ {prog : List ℕ} {k : ℕ} {st : Emit} {room : List ℕ} {ws : List Sl
               opens_by (rw q (sym (left_thin (chains_in prog k) rec l cs st.next X Y thin))) (rw q (sym (invocations_thin rec l st.next X Y thin)))
               (whole_then_left prog k f l cs X Y R F (use_left f B (λ d. both.1) (ready_then R F) (within_then l F within))))
 
-          pub left_branches : {at q x y : ℕ} {s₁ s₂ : List ℕ} → found ≡ step.Branches at x y → q ≡ touched_by prog at l → q ≤ set_length →
+          pub left_branches : {at q x y : ℕ} {s₁ s₂ : Site} → found ≡ step.Branches at x y → q ≡ touched_by prog at l → q ≤ set_length →
               At s₁ l (with_qubit q false cs) → Left prog k st room ws r room₁ ws₁ x (depth - 1) (list_from s₁) (controls_from s₁) →
               At s₂ l (with_qubit q true cs) → Left prog k r room₁ ws₁ b room₂ ws₂ y (depth - 1) (list_from s₂) (controls_from s₂) →
               Left prog k st room ws b room₂ ws₂ i depth l cs

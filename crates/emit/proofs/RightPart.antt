@@ -33,6 +33,7 @@ use Rattle.agreement.proofs.EmissionClauses.{
   invocations_other,
   thin_width,
 }
+use Rattle.controls.specs.declared.Site.{Site}
 use Rattle.controls.specs.ControlWords.{with_qubit, controls_from, list_from, At}
 use Rattle.controls.proofs.ControlSets.{qubit_asked}
 use Rattle.decoded.specs.DecodedTable.{width_in, removals_in, test_at, statement_at, program_at}
@@ -272,7 +273,7 @@ module _ {prog : List ℕ} {k : ℕ} {st : Emit} {room : List ℕ} {ws : List Sl
                 λ ok. F.1 (was_ok G ok),
               ))
 
-          pub right_branches : {at q x y last : ℕ} {s₁ s₂ : List ℕ} → found ≡ step.Branches at x y → q ≡ touched_by prog at l → q ≤ set_length →
+          pub right_branches : {at q x y last : ℕ} {s₁ s₂ : Site} → found ≡ step.Branches at x y → q ≡ touched_by prog at l → q ≤ set_length →
               At s₁ l (with_qubit q true cs) → Right prog k st room ws r room₁ ws₁ y (depth - 1) (list_from s₁) (controls_from s₁) behind given →
               At s₂ l (with_qubit q false cs) → Right prog k r room₁ ws₁ b room₂ ws₂ x (depth - 1) (list_from s₂) (controls_from s₂) given last →
               Right prog k st room ws b room₂ ws₂ i depth l cs behind last

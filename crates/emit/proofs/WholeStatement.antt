@@ -13,6 +13,7 @@ use Rattle.model.specs.Gates.{Controls, with_control, flip}
 use Rattle.model.specs.Emission.{places, Chains, start_chain, whole, invocations, left, right}
 use Rattle.agreement.proofs.AncillaStack.{StackedChains, whole_stacked, left_stacked, right_stacked, chains_stacked}
 use Rattle.agreement.proofs.EmissionClauses.{whole_yes, whole_no}
+use Rattle.controls.specs.declared.Site.{Site}
 use Rattle.controls.specs.ControlWords.{with_qubit, controls_from, list_from, At}
 use Rattle.controls.proofs.ControlSets.{qubit_asked}
 use Rattle.decoded.specs.DecodedTable.{removals_in, test_at, statement_at, program_at}
@@ -145,7 +146,7 @@ module _ {prog : List ℕ} {k : ℕ} {st : Emit} {room : List ℕ} {ws : List Sl
               (two_parts prog k l (statement_at prog (depth - 1) x) (statement_at prog (depth - 1) y) cs cs R F
               (use_whole B (ready_then R F) (within_then l F within))))
 
-          pub whole_branches : {at q x y : ℕ} {s₁ s₂ : List ℕ} → found ≡ step.Branches at x y → q ≡ touched_by prog at l → q ≤ set_length →
+          pub whole_branches : {at q x y : ℕ} {s₁ s₂ : Site} → found ≡ step.Branches at x y → q ≡ touched_by prog at l → q ≤ set_length →
               At s₁ l (with_qubit q false cs) → Whole prog k st room ws r room₁ ws₁ x (depth - 1) (list_from s₁) (controls_from s₁) →
               At s₂ l (with_qubit q true cs) → Whole prog k r room₁ ws₁ b room₂ ws₂ y (depth - 1) (list_from s₂) (controls_from s₂) →
               Whole prog k st room ws b room₂ ws₂ i depth l cs

@@ -9,13 +9,13 @@ ghost use Rattle.decoded.specs.DecodedTable.{procedure_count};
 ghost use Rattle.events.specs.Scan.{emit_in};
 ghost use Rattle.emit.specs.WalkPromises.{body_depth, Whole, Call, Left, Right, BodyLeft, BodyRight, Bodies, Rest, Inner, Body, Emits};
 
-use controls::{Site, free_site, under, with_control};
+use controls::Site;
 use decoded::{Program, Step, is_wide, procedures, root, step_at};
 use events::{
     Slots, State, above_length, begin, emit_entries, emit_flip, finish, flip_again, invoke, seek,
     slot_in, wire,
 };
-use limits::{LIST_WORD, MOST_DEPTH};
+use limits::MOST_DEPTH;
 use sets::{QubitSet, size};
 use step::{all, chosen, remaining, touched};
 
@@ -53,23 +53,23 @@ fn emit_whole(
     }
     let found = step_at(program, i);
     match found {
-        Step::Touches(at) => emit_flip(site, touched(program, at, site[LIST_WORD]), room, state),
+        Step::Touches(at) => emit_flip(site, touched(program, at, site.list), room, state),
         Step::Sequence(a, b) => {
             emit_whole(program, k, a, depth - 1, site, room, slots, state);
             emit_whole(program, k, b, depth - 1, site, room, slots, state);
         }
         Step::Chooses(c, a, b) => {
-            let part = chosen(program, c, a, b, site[LIST_WORD], depth - 1);
+            let part = chosen(program, c, a, b, site.list, depth - 1);
             emit_whole(program, k, part, depth - 1, site, room, slots, state);
         }
         Step::Branches(at, a, b) => {
-            let q = touched(program, at, site[LIST_WORD]);
+            let q = touched(program, at, site.list);
             emit_whole(
                 program,
                 k,
                 a,
                 depth - 1,
-                &with_control(site, q, false),
+                &site.with_control(q, false),
                 room,
                 slots,
                 state,
@@ -79,7 +79,7 @@ fn emit_whole(
                 k,
                 b,
                 depth - 1,
-                &with_control(site, q, true),
+                &site.with_control(q, true),
                 room,
                 slots,
                 state,
@@ -89,7 +89,7 @@ fn emit_whole(
             program,
             k,
             f,
-            remaining(program, at, site[LIST_WORD]),
+            remaining(program, at, site.list),
             site,
             room,
             slots,
@@ -238,7 +238,7 @@ fn emit_body_left(
 {
     let slot = slot_in(slots, d);
     let f = slot.procedure();
-    let site = under(wire(d), slot.list);
+    let site = Site::under(wire(d), slot.list);
     emit_left(
         program,
         k,
@@ -267,7 +267,7 @@ fn emit_body_right(
 {
     let slot = slot_in(slots, d);
     let f = slot.procedure();
-    let site = under(wire(d), slot.list);
+    let site = Site::under(wire(d), slot.list);
     emit_right(
         program,
         k,
@@ -304,7 +304,7 @@ fn emit_left(
     }
     let found = step_at(program, i);
     match found {
-        Step::Touches(at) => emit_flip(site, touched(program, at, site[LIST_WORD]), room, state),
+        Step::Touches(at) => emit_flip(site, touched(program, at, site.list), room, state),
         Step::Sequence(a, b) => {
             if is_wide(program, a) {
                 emit_left(program, k, a, depth - 1, site, room, slots, state);
@@ -314,17 +314,17 @@ fn emit_left(
             emit_left(program, k, b, depth - 1, site, room, slots, state);
         }
         Step::Chooses(c, a, b) => {
-            let part = chosen(program, c, a, b, site[LIST_WORD], depth - 1);
+            let part = chosen(program, c, a, b, site.list, depth - 1);
             emit_left(program, k, part, depth - 1, site, room, slots, state);
         }
         Step::Branches(at, a, b) => {
-            let q = touched(program, at, site[LIST_WORD]);
+            let q = touched(program, at, site.list);
             emit_left(
                 program,
                 k,
                 a,
                 depth - 1,
-                &with_control(site, q, false),
+                &site.with_control(q, false),
                 room,
                 slots,
                 state,
@@ -334,14 +334,14 @@ fn emit_left(
                 k,
                 b,
                 depth - 1,
-                &with_control(site, q, true),
+                &site.with_control(q, true),
                 room,
                 slots,
                 state,
             );
         }
         Step::Calls(g, at) => {
-            let rest = remaining(program, at, site[LIST_WORD]);
+            let rest = remaining(program, at, site.list);
             if is_wide(program, i) {
                 invoke(g, rest, site, room, slots, state);
                 return;
@@ -396,7 +396,7 @@ fn emit_right(
             emit_right(program, k, b, depth - 1, site, behind, room, slots, state)
         }
         Step::Chooses(c, a, b) => {
-            let part = chosen(program, c, a, b, site[LIST_WORD], depth - 1);
+            let part = chosen(program, c, a, b, site.list, depth - 1);
             emit_right(
                 program,
                 k,
@@ -410,13 +410,13 @@ fn emit_right(
             )
         }
         Step::Branches(at, a, b) => {
-            let q = touched(program, at, site[LIST_WORD]);
+            let q = touched(program, at, site.list);
             let second = emit_right(
                 program,
                 k,
                 b,
                 depth - 1,
-                &with_control(site, q, true),
+                &site.with_control(q, true),
                 behind,
                 room,
                 slots,
@@ -427,7 +427,7 @@ fn emit_right(
                 k,
                 a,
                 depth - 1,
-                &with_control(site, q, false),
+                &site.with_control(q, false),
                 second,
                 room,
                 slots,
@@ -435,7 +435,7 @@ fn emit_right(
             )
         }
         Step::Calls(_, at) => flip_again(
-            remaining(program, at, site[LIST_WORD]),
+            remaining(program, at, site.list),
             site,
             behind,
             room,
@@ -463,7 +463,7 @@ pub fn emit_main(program: &Program, n: u8, room: &mut [u8], slots: &mut Slots) -
         procedures(program),
         root(program, 0),
         MOST_DEPTH,
-        &free_site(all(n)),
+        &Site::free(all(n)),
         room,
         slots,
         &mut state,

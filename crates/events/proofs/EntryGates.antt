@@ -1,7 +1,7 @@
 -- The ways out of the functions that emit entry gates, in order or reversed.
 use mathlib.Core.Path.{◌≡◌, refl, sym, ap, ◌∙◌}
 use mathlib.Core.Bool.{Bool, true, false}
-use mathlib.Core.List.{List, [], ◌∷◌, ◌++◌, reverse, reverse-cons, reverse-append}
+use mathlib.Core.List.{List, [], ◌∷◌, ◌++◌, reverse, reverse-cons, reverse-append, append_assoc, append-nil}
 use Prim.Native.Nat.{ℕ, zero, suc, ◌+◌, ◌-◌, ◌*◌, ◌/◌, ◌%◌, ◌≤◌, ◌<◌}
 use native.Mathlib.Numerals.{add-one}
 use native.Mathlib.Nat.{le_refl, zero-add}
@@ -9,16 +9,17 @@ use native.Mathlib.Omega.{arith}
 use borrow.Author.Rules.{rules}
 use borrow.Author.Tests.{eq-eqb, ne_eqb, eqb-true}
 use lib.ListN.{length, get_or, drop, drop_of_length-le}
+use lib.Seq.{drop-cons}
 use lib.Dec.{eqb}
 use Rattle.model.specs.Gates.{flip, swap_of}
 use Rattle.model.specs.Emission.{Event, places, under, swaps, entry_gates, all_entry_gates, is_of, calls_to}
 use Rattle.model.proofs.BooleanLaws.{by_bool, by_lt, same_test}
 use Rattle.agreement.proofs.KeysOfALength.{is_of_lem, of_is, calls_here, calls_past}
+use Rattle.controls.specs.declared.Site.{Site}
 use Rattle.controls.specs.ControlWords.{controls_from, At}
 use Rattle.sets.specs.Sets.{members_of}
-use Rattle.lookup.specs.declared.Plan.{Plan}
+use Rattle.lookup.specs.declared.plan.Plan.{Plan}
 use Rattle.lookup.specs.Plans.{pairs_of, swaps_along, Within, PlansSwaps, same_swaps, entries_touched}
-use Rattle.lookup.proofs.PlannedSwaps.{pairs_most, pair_at}
 use Rattle.events.specs.declared.Slot.{Slot}
 use Rattle.events.specs.Scan.{Emit, Progress, progress, emit_of, scan, slot_in, slot_list_length, slot_procedure, slot_list, wire_of, slot_of, Tallied, held_in}
 use Rattle.events.specs.Slots.{
@@ -31,7 +32,6 @@ use Rattle.events.specs.Slots.{
   by_plan,
   entry_at,
   entries_to,
-  swaps_in,
 }
 use Rattle.events.proofs.ScanOfEvents.{scan_append, scan_qubits}
 use Rattle.events.proofs.GatesAndSlots.{further, spent}
@@ -55,55 +55,48 @@ nothing_turned : (reversed : Bool) (x : Progress) → x ≡ scan (turned reverse
 nothing_turned true x = scan_nothing x
 nothing_turned false x = scan_nothing x
 
--- the swaps of two arrays from a place on: those of a plan, as many as it has
-swaps_along_lem : (e : ℕ) (r : Plan) (i n : ℕ) → i + n ≡ length (pairs_of r) → swaps_in e r.from r.to i n ≡ swaps_along e (drop i (pairs_of r))
-unfolding swaps_in swaps_along
-swaps_along_lem e r i zero h = let le : length (pairs_of r) ≤ i = omega arith in rw (drop_of_length-le (pairs_of r) le)
-swaps_along_lem e r i (suc n) h =
-    rw (pair_at r i (omega arith)) (ap (◌∷◌ (places (swap_of (under e) (get_or r.from i 0) (get_or r.to i 0))))
-    (ap (λ (k : ℕ). swaps_in e r.from r.to k n) (add-one i) ∙ swaps_along_lem e r (suc i) n (omega arith)))
+-- `emit_swaps` so far, in order: the swaps from i on make of it what all of them make; reversed: those behind what is left are placed
+pub data Forth (e : ℕ) (ps : List (ℕ × ℕ)) (x y : Progress) (i : ℕ) : Type 0 where
+  still : scan (swaps_along e (drop i ps)) y ≡ scan (swaps_along e ps) x → Forth e ps x y i
 
--- `emit_swaps` so far, in order: the swaps from i on make of it what all of them make; reversed: the swaps from i on are placed
-pub data Forth (e : ℕ) (from to : List ℕ) (n : ℕ) (x y : Progress) (i : ℕ) : Type 0 where
-  still : scan (swaps_in e from to i (n - i)) y ≡ scan (swaps_in e from to 0 n) x → Forth e from to n x y i
+pub data Back (e : ℕ) (ps : List (ℕ × ℕ)) (x y : Progress) (left : List (ℕ × ℕ)) : Type 0 where
+  behind : (qs : List (ℕ × ℕ)) → ps ≡ left ++ qs → y ≡ scan (reverse (swaps_along e qs)) x → Back e ps x y left
 
-pub data Back (e : ℕ) (from to : List ℕ) (n : ℕ) (x y : Progress) (i : ℕ) : Type 0 where
-  behind : y ≡ scan (reverse (swaps_in e from to i (n - i))) x → Back e from to n x y i
+module _ (e : ℕ) (ps : List (ℕ × ℕ)) (x : Progress) where
+  no_swap : swaps_along e [] ≡ []
+  unfolding swaps_along
+  no_swap = refl
 
-module _ (e : ℕ) (from to : List ℕ) (n : ℕ) (x : Progress) where
-  one_swap : (i : ℕ) → i < n → swaps_in e from to i (n - i) ≡ places (swap_of (under e) (get_or from i 0) (get_or to i 0)) ∷ swaps_in e from to (i + 1) (n - (i + 1))
-  unfolding swaps_in
-  one_swap i h = rw (further n i h)
+  one_swap : (p : ℕ × ℕ) (qs : List (ℕ × ℕ)) → swaps_along e (p ∷ qs) ≡ places (swap_of (under e) p.0 p.1) ∷ swaps_along e qs
+  unfolding swaps_along
+  one_swap p qs = refl
 
-  no_swap : (i : ℕ) → n ≤ i → swaps_in e from to i (n - i) ≡ []
-  unfolding swaps_in
-  no_swap i h = rw (spent n i h)
+  pub forth_starts : Forth e ps x x 0
+  forth_starts = still refl
 
-  pub forth_starts : Forth e from to n x x 0
-  forth_starts = let z : n - 0 ≡ n = omega arith in still (rw z)
+  pub back_starts : (left : List (ℕ × ℕ)) → left ≡ ps → Back e ps x x left
+  back_starts left is = behind [] (sym is ∙ sym (append-nil left)) (rw no_swap (scan_nothing x))
 
-  pub back_starts : Back e from to n x x n
-  back_starts = behind (rw (no_swap n (le_refl n)) (scan_nothing x))
+  pub forth_next : (y z : Progress) (i : ℕ) → z ≡ scan (places (swap_of (under e) (get_or ps i (0, 0)).0 (get_or ps i (0, 0)).1) ∷ []) y → i < length ps →
+      Forth e ps x y i → Forth e ps x z (i + 1)
+  forth_next y z i put low (still q) =
+      let p = get_or ps i (0, 0) in
+      still (rw (put, add-one i)
+      (sym (scan_append (places (swap_of (under e) p.0 p.1) ∷ []) (swaps_along e (drop (suc i) ps)) y)
+      ∙ ap (λ es. scan es y) (sym (one_swap p (drop (suc i) ps)) ∙ ap (swaps_along e) (sym (drop-cons ps i (0, 0) low))) ∙ q))
 
-  pub forth_next : (y z : Progress) (i : ℕ) → z ≡ scan (places (swap_of (under e) (get_or from i 0) (get_or to i 0)) ∷ []) y → i < n →
-      Forth e from to n x y i → Forth e from to n x z (i + 1)
-  forth_next y z i put low (still p) = still (rw put
-      (sym (scan_append (places (swap_of (under e) (get_or from i 0) (get_or to i 0)) ∷ []) (swaps_in e from to (i + 1) (n - (i + 1))) y)
-      ∙ sym (ap (λ es. scan es y) (one_swap i low)) ∙ p))
+  pub back_next : (y z : Progress) (left rest : List (ℕ × ℕ)) (p : ℕ × ℕ) → z ≡ scan (places (swap_of (under e) p.0 p.1) ∷ []) y → left ≡ rest ++ (p ∷ []) →
+      Back e ps x y left → Back e ps x z rest
+  back_next y z left rest p put is (behind qs all q) = behind (p ∷ qs) (all ∙ rw is (append_assoc rest (p ∷ []) qs))
+      (rw (one_swap p qs) (scan_last (places (swap_of (under e) p.0 p.1)) (swaps_along e qs) x y z q put))
 
-  pub back_next : (y z : Progress) (i : ℕ) → z ≡ scan (places (swap_of (under e) (get_or from (i - 1) 0) (get_or to (i - 1) 0)) ∷ []) y →
-      0 < i → i ≤ n → Back e from to n x y i → Back e from to n x z (i - 1)
-  back_next y z i put some low (behind p) =
-      let same : i - 1 + 1 ≡ i = omega arith in
-      behind (rw (one_swap (i - 1) (omega arith), same)
-      (scan_last (places (swap_of (under e) (get_or from (i - 1) 0) (get_or to (i - 1) 0))) (swaps_in e from to i (n - i)) x y z p put))
+  module _ (y : Progress) (reversed : Bool) where
+    pub forth_ends : (i : ℕ) → reversed ≡ false → length ps ≤ i → Forth e ps x y i → y ≡ scan (turned reversed (swaps_along e ps)) x
+    forth_ends i t h (still q) = rw t (scan_nothing y ∙ ap (λ es. scan es y) (sym no_swap ∙ ap (swaps_along e) (sym (drop_of_length-le ps h))) ∙ q)
 
-  module _ (y : Progress) (i : ℕ) (reversed : Bool) where
-    pub forth_ends : reversed ≡ false → n ≤ i → Forth e from to n x y i → y ≡ scan (turned reversed (swaps_in e from to 0 n)) x
-    forth_ends t h (still p) = rw t (scan_nothing y ∙ (rw (no_swap i h) at p))
-
-    pub back_ends : reversed ≡ true → i ≤ 0 → Back e from to n x y i → y ≡ scan (turned reversed (swaps_in e from to 0 n)) x
-    back_ends t h (behind p) = let z : i ≡ 0 = omega arith in let s : n - 0 ≡ n = omega arith in rw t (rw (z, s) at p)
+    pub back_ends : (left : List (ℕ × ℕ)) → reversed ≡ true → length left ≡ 0 → Back e ps x y left → y ≡ scan (turned reversed (swaps_along e ps)) x
+    back_ends [] t none (behind qs all q) = rw (t, all) q
+    back_ends (p ∷ left) t none b = absurd (omega arith)
 
 pub ruleset following = (rules, forth_starts, forth_next, forth_ends, back_starts, back_next, back_ends)
 
@@ -121,7 +114,7 @@ one_turned g false x y p = p
 list_is : (slots : List Slot) (a : ℕ) (s : Slot) → s ≡ slot_in slots a → slot_list slots a ≡ members_of s.list
 list_is slots a s e = ap (λ (v : Slot). members_of v.list) (sym e)
 
-pub gates_same : (slots : List Slot) (d e : ℕ) (reversed : Bool) (x y : Progress) (f l : Slot) (u v : ℕ) (site none : List ℕ) →
+pub gates_same : (slots : List Slot) (d e : ℕ) (reversed : Bool) (x y : Progress) (f l : Slot) (u v : ℕ) (site : Site) (none : List ℕ) →
     f ≡ slot_in slots d → l ≡ slot_in slots e → u ≡ wire_of e → At site none (under u) → v ≡ wire_of d → f.list ≡ l.list →
     y ≡ scan (places (flip (controls_from site) v) ∷ []) x → Enters slots (turned reversed (entry_gates (slot_of slots d) (slot_of slots e))) x y
 unfolding entry_gates slot_of
@@ -133,16 +126,16 @@ gates_same slots d e reversed x y f l u v site none is_f is_l is_u is_site is_v 
 planned_are : (n : ℕ) (F L : List ℕ) (r : Plan) (e : ℕ) → PlansSwaps n F L r → Within n F → Within n L → swaps_along e (pairs_of r) ≡ swaps e F L
 planned_are n F L r e (same_swaps s) df dl = s df dl e
 
-module _ (slots : List Slot) (d e : ℕ) (reversed : Bool) (st : Emit) (room : List ℕ) (f l : Slot) (r : Plan) (u v : ℕ) (site none : List ℕ) (n : ℕ)
-    (is_n : n ≡ length (pairs_of r)) (is_f : f ≡ slot_in slots d) (is_l : l ≡ slot_in slots e)
+module _ (slots : List Slot) (d e : ℕ) (reversed : Bool) (st : Emit) (room : List ℕ) (f l : Slot) (r : Plan) (u v : ℕ) (site : Site) (none : List ℕ)
+    (ps : List (ℕ × ℕ)) (is_ps : ps ≡ pairs_of r) (is_f : f ≡ slot_in slots d) (is_l : l ≡ slot_in slots e)
     (P : PlansSwaps st.qubits (members_of f.list) (members_of l.list) r) (is_u : u ≡ wire_of e) (is_site : At site none (under u)) (is_v : v ≡ wire_of d) where
   -- the swaps of the plan are the definition's, between lists of the emission's qubits
-  planned_swaps : Tallied st.qubits slots → swaps_in u r.from r.to 0 n ≡ swaps (wire_of e) (slot_list slots d) (slot_list slots e)
+  planned_swaps : Tallied st.qubits slots → swaps_along u ps ≡ swaps (wire_of e) (slot_list slots d) (slot_list slots e)
   planned_swaps T =
-      swaps_along_lem u r 0 n (zero-add n ∙ is_n)
+      ap (swaps_along u) is_ps
       ∙ planned_are st.qubits (slot_list slots d) (slot_list slots e) r u (rw (is_f, is_l) at P) (T.within d) (T.within e) ∙ rw is_u
 
-  pub gates_reversed : (y z : Progress) → reversed ≡ true → y ≡ scan (turned true (swaps_in u r.from r.to 0 n)) (progress st room) →
+  pub gates_reversed : (y z : Progress) → reversed ≡ true → y ≡ scan (turned true (swaps_along u ps)) (progress st room) →
       z ≡ scan (places (flip (controls_from site) v) ∷ []) y →
       Enters slots (turned reversed (entry_gates (slot_of slots d) (slot_of slots e))) (progress st room) z
   unfolding entry_gates slot_of
@@ -151,7 +144,7 @@ module _ (slots : List Slot) (d e : ℕ) (reversed : Bool) (st : Emit) (room : L
       (rw (planned_swaps T) at p) (rw (is_site.controls, is_u, is_v) at q)))
 
   pub gates_forth : (y z : Progress) → reversed ≡ false → y ≡ scan (places (flip (controls_from site) v) ∷ []) (progress st room) →
-      z ≡ scan (turned false (swaps_in u r.from r.to 0 n)) y →
+      z ≡ scan (turned false (swaps_along u ps)) y →
       Enters slots (turned reversed (entry_gates (slot_of slots d) (slot_of slots e))) (progress st room) z
   unfolding entry_gates slot_of
   gates_forth y z b p q = scans_entries (λ T.
@@ -184,7 +177,6 @@ module _ (slots : List Slot) (d e : ℕ) (reversed : Bool) (x : Progress) (se sd
 
 pub ruleset gating = (
   rules,
-  pairs_most,
   gates_same,
   gates_reversed,
   gates_forth,

@@ -42,7 +42,8 @@ use Rattle.model.specs.Circuit.{encode, control_bytes}
 use Rattle.model.specs.Answers.{usable}
 use Rattle.model.proofs.BooleanLaws.{by_bool, by_lt}
 use Rattle.circuit.proofs.GateBytes.{sets_past}
-use Rattle.controls.specs.ControlWords.{controls_of, high_in, controls_from}
+use Rattle.controls.specs.declared.Site.{Site}
+use Rattle.controls.specs.ControlWords.{controls_from}
 use Rattle.controls.proofs.ControlBytes.{flip_long, swap_long}
 use Rattle.sets.specs.Sets.{members_of}
 use Rattle.events.specs.declared.State.{State}
@@ -132,19 +133,14 @@ module _ (g : Gate) (s : State) (room : List ℕ) (ok : is_some s.refusal ≡ fa
   gate_refused e = rw (eq-eqb (emit_in s).status 0 (none_refused s.refusal ok), ← is, ← next, ne_eqb (emit_in r).status 0 (some_refused r.refusal e))
 
 -- a NOT, under the controls of a site
-module _ (site : List ℕ) (high : ℕ) (is_high : high ≡ high_in site) (t : ℕ) (s : State) (room : List ℕ) (ok : is_some s.refusal ≡ false)
-    (n : ℕ) (is : n ≡ 2 + length (control_bytes (controls_of (get_or site 0 0) high (get_or site 1 0)))) (r : State)
-    (next : emit_in r ≡ with_gate (length room) (emit_in s) n) where
-  long : n ≡ length (encode (flip (controls_from site) t))
-  long = (rw is_high at is) ∙ sym (flip_long (controls_from site) t)
-
-  pub flip_placed : (after : List ℕ) → is_some r.refusal ≡ false →
-      after ≡ sets room s.used (encode (flip (controls_of (get_or site 0 0) high (get_or site 1 0)) t)) →
+module _ (site : Site) (t : ℕ) (s : State) (room : List ℕ) (ok : is_some s.refusal ≡ false) (n : ℕ)
+    (is : n ≡ 2 + length (control_bytes (controls_from site))) (r : State) (next : emit_in r ≡ with_gate (length room) (emit_in s) n) where
+  pub flip_placed : (after : List ℕ) → is_some r.refusal ≡ false → after ≡ sets room s.used (encode (flip (controls_from site) t)) →
       progress (emit_in r) after ≡ scan (places (flip (controls_from site) t) ∷ []) (progress (emit_in s) room)
-  flip_placed after e q = gate_put (flip (controls_from site) t) s room ok n long r next after e (rw is_high at q)
+  flip_placed = gate_put (flip (controls_from site) t) s room ok n (is ∙ sym (flip_long (controls_from site) t)) r next
 
   pub flip_refused : is_some r.refusal ≡ true → progress (emit_in r) room ≡ scan (places (flip (controls_from site) t) ∷ []) (progress (emit_in s) room)
-  flip_refused = gate_refused (flip (controls_from site) t) s room ok n long r next
+  flip_refused = gate_refused (flip (controls_from site) t) s room ok n (is ∙ sym (flip_long (controls_from site) t)) r next
 
 -- a swap under one ancilla
 module _ (e u v : ℕ) (s : State) (room : List ℕ) (ok : is_some s.refusal ≡ false) (n : ℕ)

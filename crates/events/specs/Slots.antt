@@ -2,9 +2,8 @@
 use Rattle.std.specs.Prelude.{ℕ, zero, suc, ◌+◌, ◌-◌, ◌*◌, ◌≤◌, ◌<◌, ◌≡◌, Bool, true, false, cond, List, [], ◌∷◌, ◌++◌, reverse, length, get_or, set, eqb, ltb}
 use Rattle.sets.specs.Sets.{members_of}
 use Rattle.model.specs.Limits.{most_wires, many_wires}
-use Rattle.model.specs.Gates.{swap_of}
-use Rattle.model.specs.Emission.{Event, places, under, entry_gates}
-use Rattle.lookup.specs.declared.Plan.{Plan}
+use Rattle.model.specs.Emission.{Event, entry_gates}
+use Rattle.lookup.specs.declared.plan.Plan.{Plan}
 use Rattle.lookup.specs.Plans.{pairs_of, PlansSwaps, entries_touched}
 use Rattle.events.specs.declared.Slot.{Slot}
 use Rattle.events.specs.Scan.{Emit, Progress, emit_of, stopped, taken, freed, scan, slot_in, slot_of, Tallied}
@@ -69,8 +68,3 @@ entry_at slots d e = cond (eqb (precedence_in slots e) (precedence_in slots d)) 
 unfoldable pub entries_to : List Slot → ℕ → ℕ → ℕ → List Event
 entries_to slots d e zero = []
 entries_to slots d e (suc n) = entry_at slots d e ++ entries_to slots d (e + 1) n
-
--- n swaps of the wires in two arrays, from place i on, under the ancilla e
-unfoldable pub swaps_in : ℕ → List ℕ → List ℕ → ℕ → ℕ → List Event
-swaps_in e from to i zero = []
-swaps_in e from to i (suc n) = places (swap_of (under e) (get_or from i 0) (get_or to i 0)) ∷ swaps_in e from to (i + 1) n

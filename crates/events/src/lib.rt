@@ -7,19 +7,16 @@ ghost use Rattle.model.specs.Gates.{flip, swap_of};
 ghost use Rattle.model.specs.Emission as model;
 ghost use Rattle.model.specs.Emission.{places, frees, invoked, entry_gates, returns};
 ghost use Rattle.model.specs.Answers.{usable};
-ghost use Rattle.limits.specs.Sizes.{set_length};
 ghost use Rattle.controls.specs.ControlWords.{controls_from};
 ghost use Rattle.sets.specs.Sets.{members_of};
 ghost use Rattle.events.specs.Scan.{emit_in, progress, with_gate, scan, begun, slot_in, slot_list, wire_of, slot_of};
-ghost use Rattle.events.specs.Slots.{filled, ancilla_taken, returned, NoneWaits, NextSlot, turned, Enters, EntryTouched, entry_at, entries_to, swaps_in};
+ghost use Rattle.events.specs.Slots.{filled, ancilla_taken, returned, NoneWaits, NextSlot, turned, Enters, EntryTouched, entry_at, entries_to};
+ghost use Rattle.lookup.specs.Plans.{swaps_along};
 ghost use Rattle.events.specs.FollowedEvents.{Invokes};
 
-use controls::{Site, flip_length, high_wire, put_flip, put_swap, swap_length, under};
-use limits::{
-    HEADER_LENGTH, LAST_WIRE, MOST_CIRCUIT, MOST_GATES, ONES_WORD, Refusal, SET_LENGTH, WIRE_COUNT,
-    ZEROS_WORD,
-};
-use lookup::{pair_count, plan_swaps};
+use controls::{Site, put_swap, swap_length};
+use limits::{HEADER_LENGTH, LAST_WIRE, MOST_CIRCUIT, MOST_GATES, Refusal, WIRE_COUNT};
+use lookup::plan_swaps;
 use sets::{QubitSet, size};
 
 // Where an emission is: what refuses it, bytes used, gates placed, the next wire, the highest wire taken, and the number of qubits.
@@ -102,13 +99,10 @@ pub fn emit_flip(site: &Site, target: u8, room: &mut [u8], state: &mut State)
     if state.refusal.is_some() {
         return;
     }
-    let ones = site[ONES_WORD];
-    let zeros = site[ZEROS_WORD];
-    let high = high_wire(site);
     let at = state.used;
-    with_gate(room.len(), state, flip_length(ones, high, zeros));
+    with_gate(room.len(), state, site.flip_length());
     if state.refusal.is_none() {
-        put_flip(room, at, ones, high, zeros, target);
+        site.put_flip(room, at, target);
     }
 }
 
@@ -217,28 +211,19 @@ pub fn seek(slots: &Slots, base: u16, last: u32, upto: u16) -> Option<u16>
     best
 }
 
-// The first swaps of a plan under an ancilla, in order or reversed: those of the wires in two arrays.
-fn emit_swaps(
-    e: u8,
-    from: &[u8; SET_LENGTH],
-    to: &[u8; SET_LENGTH],
-    count: u8,
-    reversed: bool,
-    room: &mut [u8],
-    state: &mut State,
-)
-    requires { count ≤ set_length }
+// Swaps of pairs of wires under an ancilla, in order or reversed.
+fn emit_swaps(e: u8, pairs: &[(u8, u8)], reversed: bool, room: &mut [u8], state: &mut State)
     ensures { progress (emit_in state.new) room.new ≡
-        scan (turned reversed (swaps_in e from.now to.now 0 count)) (progress (emit_in state.old) room.old) }
+        scan (turned reversed (swaps_along e pairs.now)) (progress (emit_in state.old) room.old) }
 {
     if reversed {
-        for i in (0..count).rev() {
-            emit_swap(e, from[i as usize], to[i as usize], room, state);
+        for &(first, second) in pairs.iter().rev() {
+            emit_swap(e, first, second, room, state);
         }
         return;
     }
-    for i in 0..count {
-        emit_swap(e, from[i as usize], to[i as usize], room, state);
+    for &(first, second) in pairs {
+        emit_swap(e, first, second, room, state);
     }
 }
 
@@ -260,7 +245,7 @@ fn emit_gates(
     let first = slot_in(slots, d).list;
     let later = slot_in(slots, e).list;
     let a = wire(e);
-    let site = under(a, 0);
+    let site = Site::under(a, 0);
     let target = wire(d);
     // a list that is the first one stays where it is
     let same_list = first == later;
@@ -269,16 +254,13 @@ fn emit_gates(
         return 0;
     }
     let plan = plan_swaps(state.qubits, first, later);
-    let count = pair_count(plan);
-    let from = plan.from;
-    let to = plan.to;
     if reversed {
-        emit_swaps(a, &from, &to, count, true, room, state);
+        emit_swaps(a, plan.pairs(), true, room, state);
         emit_flip(&site, target, room, state);
         return plan.touched;
     }
     emit_flip(&site, target, room, state);
-    emit_swaps(a, &from, &to, count, false, room, state);
+    emit_swaps(a, plan.pairs(), false, room, state);
     plan.touched
 }
 

@@ -7,7 +7,7 @@ returns-then-is_some c = search placing
 
 pub returns-then-is_none : goal.returns-then-is_none
 returns-then-is_none c =
-    flip_placed c.args.site.now _ c.high_wire-high.ensures c.args.target _ _ (search placing) _ c.flip_length.ensures _ c.with_gate.ensures _ (search placing) c.put_flip.ensures
+    flip_placed c.args.site.now _ _ _ (search placing) _ c.flip_length.ensures _ c.with_gate.ensures _ (search placing) c.put_flip.ensures
 
 pub returns-else-is_none : goal.returns-else-is_none
 returns-else-is_none c = search placing
