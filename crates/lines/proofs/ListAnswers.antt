@@ -2,7 +2,7 @@
 use mathlib.Core.Path.{◌≡◌, refl, sym, ap, ◌∙◌}
 use mathlib.Core.Bool.{Bool, true, false}
 use mathlib.Core.List.{List, ◌++◌}
-use Prim.Native.Nat.{ℕ, ◌/◌, ◌^◌, ◌≤◌, ◌<◌}
+use Prim.Native.Nat.{ℕ, ◌/◌, ◌≤◌}
 use native.Mathlib.Omega.{arith}
 use mir.Syntax.{w8}
 use mir.Val.{Fits}
@@ -17,9 +17,7 @@ use Rattle.model.specs.Listing.{listed, circuit_list}
 use Rattle.answers.specs.Structs.{answer_of, length_answer, header_of}
 use Rattle.answers.specs.declared.CircuitHeader.{CircuitHeader}
 use Rattle.circuit.proofs.CircuitReading.{read_gives}
-use Rattle.text.specs.AppendedBytes.{written, puts}
-use Rattle.text.proofs.AppendLaws.{puts_front, puts_count}
-use Rattle.lines.proofs.CircuitListingLength.{listed_within, listed_fits}
+use Rattle.lines.proofs.CircuitListingLength.{listed_within}
 
 -- the ways out of `fits`
 module _ (bs : List ℕ) (room : ℕ) where
@@ -30,15 +28,13 @@ module _ (bs : List ℕ) (room : ℕ) where
       let short = listed_within bs r.0 (λ i. (ok i).fits) r.1 in
       sym (le-leb (length (listed (circuit_read bs))) room (omega arith))
 
-  pub fits_measured : (text end : List ℕ) (last : ℕ) → written end last ≡ puts (listed (circuit_read bs)) text 0 →
-      leb last room ≡ leb (length (listed (circuit_read bs))) room
-  fits_measured text end last p =
-      let few = listed_fits bs in
-      ap (λ (k : ℕ). leb k room) (puts_count (listed (circuit_read bs)) text end last (omega arith) p)
-
-pub ruleset fitting = (rules, fits_surely, fits_measured)
+  pub fits_measured : (last : ℕ) → last ≡ length (listed (circuit_read bs)) → leb last room ≡ leb (length (listed (circuit_read bs))) room
+  fits_measured last e = ap (λ (k : ℕ). leb k room) e
 
 -- the ways out of `list_circuit`
+pub long_enough : (bs text : List ℕ) → true ≡ leb (length (listed (circuit_read bs))) (length text) → length (listed (circuit_read bs)) ≤ length text
+long_enough bs text e = leb-true (length (listed (circuit_read bs))) (length text) (sym e)
+
 module _ (bs text : List ℕ) (h : CircuitHeader) (is : h ≡ header_of (circuit_read bs)) where
   abbrev o : Outcome (List ℕ)
   o = circuit_list bs (length text)
@@ -81,22 +77,17 @@ module _ (bs text : List ℕ) (h : CircuitHeader) (is : h ≡ header_of (circuit
       short_text = rw (short)
 
     -- one that takes the whole listing
-    module _ (e : takes ≡ true) (end : List ℕ) (last : ℕ) (p : written end last ≡ puts (listed (circuit_read bs)) text 0) where
+    module _ (e : takes ≡ true) where
       long : o ≡ gives (listed (circuit_read bs))
       unfolding require
       long = given ∙ rw e
 
-      front : length text < 2 ^ 64 → (last ≡ length (listed (circuit_read bs))) × (end ≡ listed (circuit_read bs) ++ drop last text)
-      front few =
-          let room = leb-true (length (listed (circuit_read bs))) (length text) (sym t ∙ e) in
-          puts_front (listed (circuit_read bs)) text end last room (omega arith) p
-
-      pub long_answer : length text < 2 ^ 64 → record { number = 0; value = last } ≡ length_answer o
+      pub long_answer : (last : ℕ) → last ≡ length (listed (circuit_read bs)) → record { number = 0; value = last } ≡ length_answer o
       unfolding after answer_of
-      long_answer few = let size = (front few).0 in rw (long, size)
+      long_answer last size = rw (long, size)
 
-      pub long_text : length text < 2 ^ 64 → end ≡ room_after o text
+      pub long_text : (end : List ℕ) → end ≡ listed (circuit_read bs) ++ drop (length (listed (circuit_read bs))) text → end ≡ room_after o text
       unfolding room_after
-      long_text few = let size = (front few).0 in rw (long, ← size) (front few).1
+      long_text end front = rw (long, front)
 
-pub ruleset listing = (rules, not-true, not-false, bad_answer, bad_text, short_answer, short_text, long_answer, long_text)
+pub ruleset listing = (rules, not-true, not-false, bad_answer, bad_text, short_answer, short_text)

@@ -1,18 +1,9 @@
--- The rows of a listing as the code walks them: the controls of a gate, and the gates of a circuit.
-use Rattle.std.specs.Prelude.{ℕ, zero, suc, Bool, true, false, List, [], ◌∷◌, ◌++◌, ltb}
+-- The gates of a circuit as the code walks them.
+use Rattle.std.specs.Prelude.{ℕ, zero, suc, List, [], ◌++◌}
 use Rattle.model.specs.Reading.{Input, Parsed, parsed, refused}
-use Rattle.model.specs.Gates.{no_controls, Gate}
-use Rattle.model.specs.Listing.{action_text, gate_line}
-use Rattle.circuit.specs.GatesInBytes.{gate_with, gate_written}
-
--- how many wires come before the first that is not below w
-unfoldable pub lower : ℕ → List ℕ → ℕ
-lower w [] = 0
-lower w (z ∷ zeros) = elim (ltb z w) [ true ↦ suc (lower w zeros) | false ↦ 0 ]
-
--- the action of a NOT (false) or a swap (true); what it is under is none of it
-abbrev pub action_with : Bool → ℕ → ℕ → List ℕ
-action_with swaps target second = action_text (gate_with swaps no_controls target second)
+use Rattle.model.specs.Gates.{Gate}
+use Rattle.model.specs.Listing.{gate_line}
+use Rattle.circuit.specs.GatesInBytes.{gate_written}
 
 -- the line of gate k, if it is one, and what comes of the input behind it
 unfoldable pub line_then : ℕ → Parsed Gate → (Input → List ℕ) → List ℕ

@@ -3,10 +3,11 @@ use mathlib.Core.Path.{◌≡◌, refl, ap, ◌∙◌}
 use mathlib.Core.List.{List, [], ◌∷◌, ◌++◌}
 use Prim.Native.Nat.{ℕ, zero, suc, ◌+◌, ◌^◌, ◌≤◌, ◌<◌}
 use native.Mathlib.Nat.{add-zero, zero-add}
+use native.Mathlib.Numerals.{add-one}
 use native.Mathlib.Omega.{arith}
 use borrow.Author.Rules.{rules}
-use lib.ListN.{length, drop, set}
-use lib.Seq.{sets, sets-eq}
+use lib.ListN.{length, get_or, drop, set, drop_of_length-le}
+use lib.Seq.{sets, sets-eq, drop-cons}
 use Rattle.text.specs.declared.Writer.{Writer}
 use Rattle.text.specs.AppendedBytes.{last_place, place_after, next_place, nothing_put, put_one, puts}
 
@@ -33,14 +34,14 @@ set_past [] at b h = refl
 set_past (x ∷ text) zero b h = absurd (omega arith)
 set_past (x ∷ text) (suc at) b h = ap (λ (l : List ℕ). x ∷ l) (set_past text at b (omega arith))
 
--- the ways out of `put`: v is the writer w with the byte in its text, if the text reaches so far
-pub put_there : (b at : ℕ) (w v : Writer) → v ≡ moved w (set w.text.now w.at b) w.at → at ≡ next_place v.at → moved v v.text.now at ≡ puts (b ∷ []) w
+-- the ways out of `put`
+pub put_there : (b at : ℕ) (w : Writer) → at ≡ next_place w.at → moved w (set w.text.now w.at b) at ≡ puts (b ∷ []) w
 unfolding puts
-put_there b at w v is e = rw (e, is)
+put_there b at w e = rw e
 
-pub put_past : (b at : ℕ) (w v : Writer) → length w.text.now ≤ w.at → v ≡ w → at ≡ next_place v.at → moved v v.text.now at ≡ puts (b ∷ []) w
+pub put_past : (b at : ℕ) (w : Writer) → length w.text.now ≤ w.at → at ≡ next_place w.at → moved w w.text.now at ≡ puts (b ∷ []) w
 unfolding puts
-put_past b at w v h is e = rw (set_past w.text.now w.at b h, e, is)
+put_past b at w h e = rw (set_past w.text.now w.at b h, e)
 
 -- where the text has ended they are only counted
 pub puts_past : (bytes : List ℕ) (w : Writer) → length w.text.now ≤ w.at → w.at < 2 ^ 64 → puts bytes w ≡ moved w w.text.now (place_after w.at (length bytes))
@@ -63,6 +64,15 @@ pub put_next : (x : ℕ) (ys : List ℕ) (w₀ w₁ w₂ : Writer) → w₁ ≡ 
 put_next x ys w₀ w₁ w₂ p q = put_then (x ∷ []) ys w₀ w₁ w₂ p q
 
 pub ruleset putting = (rules, put_then, put_next)
+
+-- what the loop of `put_all` keeps
+module _ (bytes : List ℕ) (i : ℕ) (w whole : Writer) (inv : whole ≡ puts (drop i bytes) w) where
+  pub all_end : length bytes ≤ i → w ≡ whole
+  unfolding puts
+  all_end h = rw (inv, drop_of_length-le bytes h)
+
+  pub all_next : i < length bytes → (w₁ : Writer) → w₁ ≡ puts (get_or bytes i 0 ∷ []) w → whole ≡ puts (drop (i + 1) bytes) w₁
+  all_next h w₁ p = rw (inv, add-one, drop-cons bytes i 0) (put_after (get_or bytes i 0 ∷ []) (drop (suc i) bytes) w w₁ p)
 
 -- the text stays the same one
 same_text : (bytes : List ℕ) (w : Writer) → (puts bytes w).text.ghost_name ≡ w.text.ghost_name

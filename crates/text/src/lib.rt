@@ -37,13 +37,25 @@ impl<'a> Writer<'a> {
     }
 
     // One byte.
+    #[tactic(auto, using(crate::proofs::AppendLaws::put_there, crate::proofs::AppendLaws::put_past))]
     pub fn put(&mut self, byte: u8)
         ensures { self.new ≡ puts (byte ∷ []) self.old }
     {
         if self.at < self.text.len() {
             self.text[self.at] = byte;
+            self.at += 1;
+        } else {
+            self.at = self.at.saturating_add(1);
         }
-        self.at = self.at.saturating_add(1);
+    }
+
+    // These bytes, in their order.
+    pub fn put_all(&mut self, bytes: &[u8])
+        ensures { self.new ≡ puts bytes.now self.old }
+    {
+        for &byte in bytes {
+            self.put(byte);
+        }
     }
 
     // The last two digits of a number, the higher first.
