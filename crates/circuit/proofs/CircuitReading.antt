@@ -11,7 +11,7 @@ use lib.Seq.{take_all}
 use lib.Dec.{eqb, leb}
 use Rattle.std.proofs.Common.{w32}
 use Rattle.std.specs.Int.{from_le_bytes}
-use Rattle.model.specs.Limits.{not_well_formed, most_qubits, most_wires, circuit_edition, header_length, most_circuit}
+use Rattle.model.specs.Limits.{success, not_well_formed, most_qubits, most_wires, circuit_edition, header_length, most_circuit}
 use Rattle.model.specs.Reading.{Input, Parsed, parsed, refused, and_then, provided, byte_of}
 use Rattle.model.specs.Gates.{Gate}
 use Rattle.model.specs.Circuit.{Circuit, read_gate, read_gates, four_byte_number, whole_circuit, circuit_of, read_circuit}
@@ -147,33 +147,30 @@ read_counts most (suc n) i = each (read_gate most i) (λ j. read_counts most n j
 
 module _ (n ancillas : ℕ) where
   header_good : (count : ℕ) (p : Parsed (List Gate)) → Counts count p → fills p ≡ true →
-      header_of (well_formed (whole_circuit n ancillas p)) ≡ record { number = 0; qubits = n; ancillas = ancillas; gates = count }
+      header_of (well_formed (whole_circuit n ancillas p)) ≡ record { number = success; qubits = n; ancillas = ancillas; gates = count }
   unfolding and_then provided fills well_formed header_of
   header_good count (parsed gs o) h e = rw (e, h)
   header_good count (refused k) h e = absurd (false≢true e)
 
-  header_bad : (p : Parsed (List Gate)) → fills p ≡ false → header_of (well_formed (whole_circuit n ancillas p)) ≡ refused_header not_well_formed
-  unfolding and_then provided fills well_formed header_of
-  header_bad (parsed gs o) e = rw e
-  header_bad (refused k) e = refl
+  not_filled : (p : Parsed (List Gate)) → fills p ≡ false → refuses not_well_formed ≡ well_formed (whole_circuit n ancillas p)
+  unfolding and_then provided fills well_formed
+  not_filled (parsed gs o) e = rw e
+  not_filled (refused k) e = refl
 
--- the ways out of `read_circuit`
-pub circuit_none : (bs : List ℕ) → refuses not_well_formed ≡ circuit_read bs → (x : CircuitHeader) → x ≡ refused_header not_well_formed →
-    x ≡ header_of (circuit_read bs)
+-- the ways out of `read_whole`
+pub whole_none : (bs : List ℕ) → refuses not_well_formed ≡ circuit_read bs → refused_header not_well_formed ≡ header_of (circuit_read bs)
 unfolding header_of
-circuit_none bs is x q = rw (q, ← is)
+whole_none bs is = rw (← is)
 
 module _ (bs : List ℕ) (n ancillas wires count : ℕ) (l : List ℕ)
     (is : well_formed (whole_circuit n ancillas (read_gates wires count (input_of l))) ≡ circuit_read bs)
     (good : Bool) (good_is : good ≡ fills (read_gates wires count (input_of l))) where
-  pub circuit_gates : good ≡ false → (x : CircuitHeader) → x ≡ refused_header not_well_formed → x ≡ header_of (circuit_read bs)
-  circuit_gates g x q = rw (q, ← is) (sym (header_bad n ancillas (read_gates wires count (input_of l)) (sym good_is ∙ g)))
+  pub whole_bad : good ≡ false → refuses not_well_formed ≡ circuit_read bs
+  whole_bad g = not_filled n ancillas (read_gates wires count (input_of l)) (sym good_is ∙ g) ∙ is
 
-  pub circuit_whole : good ≡ true → record { number = 0; qubits = n; ancillas = ancillas; gates = count } ≡ header_of (circuit_read bs)
-  circuit_whole g = rw (← is) (sym (header_good n ancillas count (read_gates wires count (input_of l))
+  pub whole_good : good ≡ true → record { number = success; qubits = n; ancillas = ancillas; gates = count } ≡ header_of (circuit_read bs)
+  whole_good g = rw (← is) (sym (header_good n ancillas count (read_gates wires count (input_of l))
       (read_counts wires count (input_of l)) (sym good_is ∙ g)))
-
-pub ruleset circuits = (rules, not-true, not-false, circuit_none, circuit_gates, circuit_whole)
 
 -- number 0 says that there is a circuit
 pub read_gives : (bs : List ℕ) (h : CircuitHeader) → h ≡ header_of (circuit_read bs) → h.number ≡ 0 → (c : Circuit) × (circuit_read bs ≡ gives c)

@@ -7,7 +7,7 @@ ghost use Rattle.model.specs.Reading.{optional, stands};
 ghost use Rattle.model.specs.Answers.{circuit_read};
 ghost use Rattle.circuit.specs.GatesInBytes.{input_of, settled, fills, list_read, gate_in, gate_read, gate_written};
 ghost use Rattle.circuit.specs.GateChecks.{misfits, list_fits, set_of, any_in, placed, own_wires};
-ghost use Rattle.circuit.specs.Header.{counts_fit, circuit_after};
+ghost use Rattle.circuit.specs.Header.{counts_fit, circuit_after, header_given};
 ghost use Rattle.answers.specs.Structs.{header_of, refused_header};
 ghost use Rattle.model.specs.Limits.{not_well_formed};
 
@@ -59,15 +59,17 @@ fn misfits(low: u8, wire: u8, most: u8, u: u8, v: u8) -> bool
     (wire <= low) | (most < wire) | (u == wire) | (v == wire)
 }
 
-// Do the wires of a list ascend from 1 to `most`, without u and v? No test ends the loop: so many wires are tested at once.
+// Do the wires of a list ascend from 1 to `most`, without u and v? No test ends the loop: so many wires are tested at once. The wire before is read where it
+// stands: a loop that carries it along, or goes over pairs by `zip` or `windows`, takes more than one and a half times as long.
 fn list_fits(list: &[u8], most: u8, u: u8, v: u8) -> bool
     ensures { result ≡ list_fits 0 most u v list.now }
 {
-    let mut low = 0;
-    let mut bad = false;
-    for wire in list {
-        bad |= misfits(low, *wire, most, u, v);
-        low = *wire;
+    let Some((first, rest)) = list.split_first() else {
+        return true;
+    };
+    let mut bad = misfits(0, *first, most, u, v);
+    for (i, wire) in rest.iter().enumerate() {
+        bad |= misfits(list[i], *wire, most, u, v);
     }
     !bad
 }
@@ -109,6 +111,7 @@ fn placed(action: Action, most: u8) -> bool
 }
 
 // "Counts are at least 1, wires ascend, no wire occurs twice in a gate, a swap's target is its lower wire."
+#[tactic(auto, using(crate::proofs::GateCheckLaws::forms))]
 fn well_formed(gate: &Gate, most: u8) -> bool
     ensures { result ≡ gate_is_well_formed most (gate_in gate.now) }
 {
@@ -177,6 +180,7 @@ pub fn gate_at(input: &[u8]) -> Option<(Gate<'_>, &[u8])>
 }
 
 // One gate over wires 1 to `most`, if it is well formed, and the input behind it.
+#[tactic(auto, using(crate::proofs::GateReading::judged))]
 pub fn read_gate(input: &[u8], most: u8) -> Option<(Gate<'_>, &[u8])>
     ensures { gate_read result ≡ settled (read_gate most (input_of input.now)) }
 {
@@ -188,6 +192,7 @@ pub fn read_gate(input: &[u8], most: u8) -> Option<(Gate<'_>, &[u8])>
 }
 
 // Do `count` gates fill the input?
+#[tactic(auto, using(crate::proofs::GateReading::filled))]
 fn gates_fill(input: &[u8], most: u8, count: u32) -> bool
     ensures { result ≡ fills (read_gates most count (input_of input.now)) }
 {
@@ -211,6 +216,7 @@ fn counts_fit(qubits: u8, ancillas: u8) -> bool
 // A circuit's header, and the gates' bytes behind it: edition byte 1, n of 1 to 32, at most 255 wires, in at most 65,536 bytes. The gates are not looked at.
 // Of a circuit that is well formed the promise gives its n, ancillas and gate count. Of one that is not it gives neither answer: `None`, or a header behind
 // which no reading of gates gives a circuit. Either way whoever reads on from the answer ends as the definition does, in 14.
+#[tactic(auto, using(crate::proofs::CircuitReading::headers))]
 pub fn read_header(bytes: &[u8]) -> Option<(Header, &[u8])>
     ensures { circuit_after result ≡ circuit_read bytes.now }
 {
@@ -247,20 +253,29 @@ pub fn refused() -> CircuitHeader
     }
 }
 
+// The header of a circuit that is well formed, and its gates' bytes.
+pub fn read_whole(bytes: &[u8]) -> Option<(Header, &[u8])>
+    ensures circuit { circuit_after result ≡ circuit_read bytes.now }
+    ensures header { header_given result ≡ header_of (circuit_read bytes.now) }
+{
+    let (header, gates) = read_header(bytes)?;
+    if !gates_fill(gates, header.wires, header.gates) {
+        return None;
+    }
+    Some((header, gates))
+}
+
 // The circuit reader: n, ancillas and gate count of a circuit that is well formed.
 pub fn read_circuit(bytes: &[u8]) -> CircuitHeader
     ensures { result ≡ header_of (circuit_read bytes.now) }
 {
-    let Some((header, gates)) = read_header(bytes) else {
-        return refused();
-    };
-    if !gates_fill(gates, header.wires, header.gates) {
-        return refused();
-    }
-    CircuitHeader {
-        number: 0,
-        qubits: header.qubits as u32,
-        ancillas: header.ancillas as u32,
-        gates: header.gates,
+    match read_whole(bytes) {
+        Some((header, _)) => CircuitHeader {
+            number: 0,
+            qubits: header.qubits as u32,
+            ancillas: header.ancillas as u32,
+            gates: header.gates,
+        },
+        None => refused(),
     }
 }

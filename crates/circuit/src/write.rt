@@ -28,6 +28,7 @@ pub fn put(room: &mut [u8], at: usize, byte: u8)
 }
 
 // Some bytes from a place on, as far as the room reaches.
+#[tactic(auto, using(crate::proofs::GateBytes::stores))]
 pub fn put_all(room: &mut [u8], at: usize, bytes: &[u8])
     ensures { room.new ≡ sets room.old at bytes.now }
 {
