@@ -16,8 +16,7 @@ use Rattle.limits.specs.declared.Refusal.TheVariants.{WrongQubits, NoRemoval, To
 use Rattle.limits.specs.Refusals.{number_of}
 use Rattle.answers.proofs.PassedOn.{passed_on}
 use Rattle.decoded.specs.DecodedTable.{procedure_count, program_at}
-use Rattle.table.specs.ReadTable.{BodiesPlaced, BodiesNumbered}
-use Rattle.verdict.specs.ReadHere.{PlacedHere}
+use Rattle.table.specs.ReadTable.{outcome_read, BodiesPlaced, BodiesNumbered, PlacedRead}
 use Rattle.reach.specs.CallsInATable.{reach_at, any_lacks_in}
 use Rattle.widths.specs.KeptWidths.{any_wide_in, WidthsKnown, Judged, judged}
 use Rattle.widths.proofs.PlacedBodies.{same_placed}
@@ -77,12 +76,14 @@ out_of_range bs n (inl e) = few_qubits bs n e
 out_of_range bs n (inr h) = many_qubits bs n h.1
 
 -- the table was refused, or read and checked
-module _ (bs g : List ℕ) (n : ℕ) (z : n ≡ 0 → ⊥) (h : n ≤ most_qubits) (r : Result (Unit {0}) Refusal) (s : checked_outcome r g ≡ outcome (read_table bs)) where
+module _ (bs g : List ℕ) (n : ℕ) (z : n ≡ 0 → ⊥) (h : n ≤ most_qubits) (r : Result (Unit {0}) Refusal) (s : outcome_read r g ≡ outcome (read_table bs)) where
   pub check_refused : (why : Refusal) → r ≡ Err why → accepted bs n ≡ refuses (number_of why)
+  unfolding outcome_read
   check_refused why e = sym (refused_table bs n (number_of why) z h (rw e at s))
 
   module _ (read : r ≡ Ok tt) (q : Result (Unit {0}) Refusal) (k : List ℕ) (decides : q ≡ refusal_at g k n) (left : LeavesProgram q g k) where
     decided : checked_outcome q k ≡ accepted bs n
+    unfolding outcome_read
     decided = rw decides (go left)
       where
         go : LeavesProgram q g k → checked_outcome (refusal_at g k n) k ≡ accepted bs n
@@ -105,11 +106,11 @@ unfolding KnownChecked
 refused_unknown (Ok a) g e is = absurd (cc)
 refused_unknown (Err why) g e is = absurd (cc)
 
-module _ (bs g : List ℕ) (r : Result (Unit {0}) Refusal) (s : checked_outcome r g ≡ outcome (read_table bs)) (placed : PlacedHere r bs g) (read : r ≡ Ok tt)
+module _ (bs g : List ℕ) (r : Result (Unit {0}) Refusal) (s : outcome_read r g ≡ outcome (read_table bs)) (placed : PlacedRead r bs g) (read : r ≡ Ok tt)
     (q : Result (Unit {0}) Refusal) (h : List ℕ) (left : LeavesProgram q g h) (passes : q ≡ Ok tt) (a : ℕ) where
   read_both : BodiesPlaced bs g × BodiesNumbered g
-  unfolding PlacedHere
-  read_both = placed (rw read)
+  unfolding PlacedRead
+  read_both = rw read at placed
 
   pub read_placed : PlacedChecked (Ok a) bs h
   unfolding PlacedChecked
@@ -119,7 +120,7 @@ module _ (bs g : List ℕ) (r : Result (Unit {0}) Refusal) (s : checked_outcome 
       go (leaves o) = same_placed g h o.unseen bs read_both.0
 
   pub read_known : KnownChecked (Ok a) h
-  unfolding KnownChecked
+  unfolding KnownChecked outcome_read
   read_known _ = go left
     where
       go : LeavesProgram q g h → WidthsKnown h

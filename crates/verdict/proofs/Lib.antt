@@ -1,3 +1,2 @@
 pub mod RefusalOrder
 pub mod AcceptanceAndRefusal
-pub mod ReadLaws

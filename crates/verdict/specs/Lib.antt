@@ -1,2 +1,1 @@
 pub mod VerdictAnswers
-pub mod ReadHere

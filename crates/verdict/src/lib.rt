@@ -1,11 +1,8 @@
 // The verdict on a table: accepted, or the one refusal that document 01's order fixes. Everything here works in local memory.
 #![tactic(auto)]
 
-ghost use Rattle.std.specs.Prelude.{◌≡◌, ◌≤◌, IfOk};
-ghost use Rattle.model.specs.Reading.{read_table};
-ghost use Rattle.limits.specs.Refusals.{number_of};
-ghost use Rattle.verdict.specs.ReadHere.{PlacedHere};
-ghost use Rattle.model.specs.Answers.{accepted, number, outcome};
+ghost use Rattle.std.specs.Prelude.{◌≡◌, IfOk};
+ghost use Rattle.model.specs.Answers.{accepted, number};
 ghost use Rattle.model.specs.Answers as model;
 ghost use Rattle.answers.specs.Structs.{outcome_of};
 ghost use Rattle.verdict.specs.VerdictAnswers.{refusal_at, LeavesProgram, checked_outcome, PlacedChecked, KnownChecked};
@@ -14,7 +11,7 @@ use decoded::{PROGRAM_LENGTH, Program};
 use faults::faults;
 use limits::{BODY_COUNT, LEAST_WORKSPACE, MOST_N, Refusal};
 use reach::{any_lacks_removal, fill_reach};
-use table::{Table, read_table};
+use table::read_table;
 use widths::any_too_wide;
 
 // "10 over the whole table, then 11, then 12": a table that was read, decoded.
@@ -48,7 +45,7 @@ pub fn check_table(table: &[u8], n: u32, program: &mut Program) -> Result<u8, Re
         return Err(Refusal::WrongQubits);
     }
     let qubits = n as u8;
-    read(table, program)?;
+    read_table(table, program)?;
     check_program(program, qubits)?;
     Ok(qubits)
 }
@@ -63,31 +60,4 @@ pub fn verdict(table: &[u8], n: u32, space: usize) -> Result<(), Refusal>
         return Err(Refusal::ShortWorkspace);
     }
     Ok(())
-}
-
-// The refusal with a number that the reader gives.
-fn refusal_of(k: u8) -> Refusal
-    ensures { 1 ≤ k → k ≤ 8 → number_of result ≡ k }
-{
-    match k {
-        1 => Refusal::TableStops,
-        2 => Refusal::WrongEdition,
-        3 => Refusal::ManyProcedures,
-        4 => Refusal::WrongKind,
-        5 => Refusal::WrongMap,
-        6 => Refusal::WrongField,
-        7 => Refusal::TooDeep,
-        _ => Refusal::BytesLeft,
-    }
-}
-
-// The table read, as a result.
-fn read(table: &[u8], program: &mut Program) -> Result<(), Refusal>
-    ensures program_after { checked_outcome result program.new ≡ outcome (read_table table.now) }
-    ensures placed_read { PlacedHere result table.now program.new }
-{
-    match read_table(table, program) {
-        Table::Refused(k) => Err(refusal_of(k)),
-        Table::Read => Ok(()),
-    }
 }
