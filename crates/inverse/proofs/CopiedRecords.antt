@@ -14,6 +14,7 @@ use lib.ListN.{length, get_or, take, drop, length-drop, drop_of_length-le}
 use lib.Seq.{take-nil}
 use Rattle.model.specs.Limits.{most_depth}
 use Rattle.model.proofs.BooleanLaws.{by_lt}
+use Rattle.decoded.specs.declared.Program as decoded
 use Rattle.decoded.specs.DecodedTable.{start_of, root_of, procedure_count}
 use Rattle.table.specs.ReadTable.{piece, body_end}
 use Rattle.decoded.specs.declared.Parts.{Parts}
@@ -54,7 +55,7 @@ pub piece_next : (bs : List ℕ) (k b : ℕ) (w₀ w w₁ : Writer) → w ≡ pu
 piece_next bs k b w₀ w w₁ so_far h is more = rw (take_more bs k 0 h, ← is) (put_then (take k bs) (b ∷ []) w₀ w w₁ so_far more)
 
 -- the ways out of `body_end`
-module _ (bs g : List ℕ) (f p : ℕ) (n : p ≡ procedure_count g) where
+module _ (bs : List ℕ) (g : decoded.Program) (f p : ℕ) (n : p ≡ procedure_count g) where
   pub end_before : (next end : ℕ) → f < p → next ≡ root_of g (f + 1) → end ≡ start_of g next → end ≡ body_end bs g f
   end_before next end l r s = rw (← n, lt-ltb f p l, s, r)
 
@@ -64,14 +65,14 @@ module _ (bs g : List ℕ) (f p : ℕ) (n : p ≡ procedure_count g) where
 pub ruleset ending = (rules, end_before, end_last)
 
 -- a statement that is not at the bottom, by its parts
-turned_open : (bs g : List ℕ) (depth i stop : ℕ) → (depth ≡ 0 → ⊥) →
+turned_open : (bs : List ℕ) (g : decoded.Program) (depth i stop : ℕ) → (depth ≡ 0 → ⊥) →
     turned_at bs g depth i stop ≡ turned_of (turned_at bs g (depth - 1)) bs g i stop (parts_at g i)
 unfolding turned_at
 turned_open bs g zero i stop h = absurd (h refl)
 turned_open bs g (suc depth) i stop h = rw (sub-one)
 
 -- the ways out of `put_turned`
-module _ (bs g : List ℕ) (depth i stop : ℕ) (w₀ w : Writer) (from : ℕ) (starts : from ≡ start_of g i) where
+module _ (bs : List ℕ) (g : decoded.Program) (depth i stop : ℕ) (w₀ w : Writer) (from : ℕ) (starts : from ≡ start_of g i) where
   pub turned_bottom : depth ≡ 0 → w ≡ puts (piece bs from stop) w₀ → w ≡ puts (turned_at bs g depth i stop) w₀
   unfolding turned_at
   turned_bottom z e = rw (z, ← starts) e
@@ -107,12 +108,12 @@ module _ (bs g : List ℕ) (depth i stop : ℕ) (w₀ w : Writer) (from : ℕ) (
 pub ruleset turning = (rules, not-true, not-false, turned_bottom, turned_alone, turned_round_lem, turned_kept)
 
 -- the way out of `put_body`
-pub body_put : (bs g : List ℕ) (f root stop : ℕ) (w₀ w : Writer) → root ≡ root_of g f → stop ≡ body_end bs g f →
+pub body_put : (bs : List ℕ) (g : decoded.Program) (f root stop : ℕ) (w₀ w : Writer) → root ≡ root_of g f → stop ≡ body_end bs g f →
     w ≡ puts (turned_at bs g most_depth root stop) w₀ → w ≡ puts (turned_body bs g f) w₀
 body_put bs g f root stop w₀ w r s e = rw (← r, ← s) e
 
 -- what the loop of `put_bodies` keeps: before body f, the bodies below f were put
-module _ (bs g : List ℕ) (w₀ : Writer) where
+module _ (bs : List ℕ) (g : decoded.Program) (w₀ : Writer) where
   pub bodies_start : w₀ ≡ puts (turned_below bs g 0) w₀
   unfolding turned_below puts
   bodies_start = refl
@@ -126,7 +127,7 @@ module _ (bs g : List ℕ) (w₀ : Writer) where
     bodies_last p count l h = let same : suc (procedure_count g) ≡ f + 1 = omega arith in rw same bodies_more
 
 -- the way out of `put_table`
-pub table_put : (bs g : List ℕ) (w₀ w₁ w : Writer) → w₁ ≡ puts (piece bs 0 2) w₀ → w ≡ puts (turned_below bs g (suc (procedure_count g))) w₁ →
+pub table_put : (bs : List ℕ) (g : decoded.Program) (w₀ w₁ w : Writer) → w₁ ≡ puts (piece bs 0 2) w₀ → w ≡ puts (turned_below bs g (suc (procedure_count g))) w₁ →
     w ≡ puts (turned_table bs g) w₀
 unfolding turned_table
 table_put bs g w₀ w₁ w first rest = put_then _ _ w₀ w₁ w first rest

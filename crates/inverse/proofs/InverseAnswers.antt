@@ -19,13 +19,14 @@ use Rattle.model.proofs.InverseTables.{inverse_long}
 use Rattle.limits.specs.declared.Refusal.{Refusal}
 use Rattle.limits.specs.Refusals.{number_of}
 use Rattle.answers.specs.Structs.{given_length}
+use Rattle.decoded.specs.declared.Program as decoded
 use Rattle.decoded.specs.DecodedTable.{program_at}
 use Rattle.verdict.specs.VerdictAnswers.{checked_outcome, PlacedChecked}
 use Rattle.verdict.proofs.AcceptanceAndRefusal.{refused_checked, accepted_checked}
 use Rattle.inverse.specs.TurnedRecords.{turned_table}
 use Rattle.inverse.proofs.TurnedStatements.{turned_program}
 
-module _ (bs g room : List ℕ) (n : ℕ) (r : Result ℕ Refusal) (is : checked_outcome r g ≡ accepted bs n) where
+module _ (bs : List ℕ) (g : decoded.Program) (room : List ℕ) (n : ℕ) (r : Result ℕ Refusal) (is : checked_outcome r g ≡ accepted bs n) where
   abbrev o : Outcome (List ℕ)
   o = inverse_table bs n (length room)
 

@@ -15,7 +15,7 @@ use Rattle.model.proofs.RoundTrip.{Bytes}
 use Rattle.model.proofs.WrittenTables.{table_written}
 use Rattle.records.specs.declared.Record.{Record}
 use Rattle.records.specs.declared.Record.TheVariants as kind
-use Rattle.decoded.specs.Layout.{row_at}
+use Rattle.decoded.specs.declared.Program as decoded
 use Rattle.decoded.specs.DecodedTable.{procedure_count, record_in, statement_of, test_at, statement_at, body_at, program_at}
 use Rattle.table.specs.ReadTable.{Placed, BodiesPlaced}
 use Rattle.decoded.specs.Steps.{step_of}
@@ -23,7 +23,7 @@ use Rattle.decoded.specs.Steps.{parts_of}
 use Rattle.inverse.specs.TurnedRecords.{in_order, turned_of, turned_at, turned_below, turned_table}
 
 -- a record by its kind, where its parts are copied as their inverses
-module _ (bs g : List ℕ) (test : ℕ → Condition) (part : ℕ → Statement) (turned : ℕ → ℕ → List ℕ)
+module _ (bs : List ℕ) (g : decoded.Program) (test : ℕ → Condition) (part : ℕ → Statement) (turned : ℕ → ℕ → List ℕ)
     (parts_are : (j end : ℕ) → Placed bs g j end (part j) → turned j end ≡ statement_bytes (inverse (part j))) (i end : ℕ) where
   turned_record : (r : Record) → Placed bs g i end (statement_of test part g i r) →
       turned_of turned bs g i end (parts_of (step_of g i r)) ≡ statement_bytes (inverse (statement_of test part g i r))
@@ -42,13 +42,13 @@ module _ (bs g : List ℕ) (test : ℕ → Condition) (part : ℕ → Statement)
   turned_record kind.Negation h = h
 
 -- a statement that is placed
-turned_statement : (bs g : List ℕ) (depth i end : ℕ) → Placed bs g i end (statement_at g depth i) →
+turned_statement : (bs : List ℕ) (g : decoded.Program) (depth i end : ℕ) → Placed bs g i end (statement_at g depth i) →
     turned_at bs g depth i end ≡ statement_bytes (inverse (statement_at g depth i))
 unfolding turned_at statement_at Placed inverse statement_bytes
 turned_statement bs g zero i end h = h
 turned_statement bs g (suc depth) i end h =
     turned_record bs g (test_at g depth) (statement_at g depth) (turned_at bs g depth) (turned_statement bs g depth) i end
-    (record_in g (row_at i)) h
+    (record_in g i) h
 
 -- statements one behind the other, and one more
 bytes_more : (ss : List Statement) (s : Statement) → statements_bytes (ss ++ (s ∷ [])) ≡ statements_bytes ss ++ statement_bytes s
@@ -69,7 +69,7 @@ inverse_each : (h : ℕ → Statement) (l : List ℕ) → map inverse (map h l) 
 inverse_each h [] = refl
 inverse_each h (f ∷ l) = ap (λ ss. inverse (h f) ∷ ss) (inverse_each h l)
 
-module _ (bs g : List ℕ) (placed : BodiesPlaced bs g) where
+module _ (bs : List ℕ) (g : decoded.Program) (placed : BodiesPlaced bs g) where
   -- the bodies below n
   turned_bodies : (n : ℕ) → n ≤ suc (procedure_count g) → turned_below bs g n ≡ statements_bytes (map (λ f. inverse (body_at g f)) (range n 0))
   unfolding turned_below

@@ -10,7 +10,7 @@ ghost use Rattle.table.specs.ReadTable.{piece, body_end};
 ghost use Rattle.text.specs.AppendedBytes.{puts};
 ghost use Rattle.inverse.specs.TurnedRecords.{turned_at, turned_body, turned_below, turned_table};
 
-use decoded::{PROGRAM_LENGTH, Parts, Program, parts_at, procedures, root, start};
+use decoded::{Parts, Program, parts_at, procedures, root, start};
 use limits::{MOST_DEPTH, Refusal};
 use text::Writer;
 use verdict::check_table;
@@ -93,7 +93,7 @@ pub fn inverse(table: &[u8], n: u32, room: &mut [u8]) -> Result<usize, Refusal>
     ensures value { outcome_of result ≡ given_length (inverse_table table.now n (length room.old)) }
     ensures room_after { room.new ≡ room_after (inverse_table table.now n (length room.old)) room.old }
 {
-    let mut program = [0u32; PROGRAM_LENGTH];
+    let mut program = Program::new();
     check_table(table, n, &mut program)?;
     if room.len() < table.len() {
         return Err(Refusal::ShortTableRoom);

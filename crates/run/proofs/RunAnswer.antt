@@ -13,13 +13,14 @@ use Rattle.model.specs.Answers.{gives, refuses, after, require, accepted, run}
 use Rattle.agreement.proofs.CompilePromise.{Accepted, accepted_is}
 use Rattle.limits.specs.declared.Refusal.{Refusal}
 use Rattle.limits.specs.Refusals.{number_of}
+use Rattle.decoded.specs.declared.Program as decoded
 use Rattle.decoded.specs.DecodedTable.{program_at}
 use Rattle.verdict.specs.VerdictAnswers.{checked_outcome}
 use Rattle.verdict.proofs.AcceptanceAndRefusal.{refused_checked, accepted_checked}
 use Rattle.run.specs.RunOnWords.{ran_word}
 use Rattle.run.proofs.WordsAndStates.{ran_min}
 
-module _ (bs g : List ℕ) (n word space : ℕ) (r : Result ℕ Refusal) (is : checked_outcome r g ≡ accepted bs n) where
+module _ (bs : List ℕ) (g : decoded.Program) (n word space : ℕ) (r : Result ℕ Refusal) (is : checked_outcome r g ≡ accepted bs n) where
   abbrev P : Program
   P = program_at g
 

@@ -23,6 +23,7 @@ use Rattle.model.proofs.ListLaws.{range_length}
 use Rattle.sets.specs.Sets.{members_of}
 use Rattle.sets.proofs.Members.{members_empty}
 use Rattle.sets.proofs.Readings.{members_split}
+use Rattle.decoded.specs.declared.Program as decoded
 use Rattle.decoded.specs.DecodedTable.{root_of, procedure_count, removals_in, test_at, statement_at, program_at}
 use Rattle.decoded.specs.declared.Step.{Step}
 use Rattle.decoded.specs.declared.Step.TheVariants as step
@@ -65,7 +66,7 @@ bit_bit (suc k) word some h = rw (qubit_is (suc k) h, sub-one) (tested word k)
 -- ---- walk
 
 -- what its loop keeps: the statement at record `at` makes of the word as it is now what the whole statement makes of the word given
-module _ (g : List ℕ) (left at : ℕ) (l : List ℕ) (fuel word whole : ℕ) (inv : walked g left at l fuel word ≡ whole) where
+module _ (g : decoded.Program) (left at : ℕ) (l : List ℕ) (fuel word whole : ℕ) (inv : walked g left at l fuel word ≡ whole) where
   -- skip gives its word back
   skipped : statement_at g left at ≡ skip → word ≡ whole
   unfolding word_does
@@ -136,7 +137,7 @@ less_deep left depth h = omega arith
 
 -- ---- call
 
-module _ (g : List ℕ) where
+module _ (g : decoded.Program) where
   module _ (f : ℕ) where
     -- a call that is too deep gives the word back
     call_spent : (l : List ℕ) (fuel word : ℕ) → fuel ≡ 0 → word ≡ called g f l fuel word

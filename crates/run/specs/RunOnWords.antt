@@ -6,6 +6,7 @@ use Rattle.model.specs.Syntax.{Statement, skip, NOT, sequence, if, qcase, call, 
 use Rattle.model.specs.Lists.{qubits, remaining, touched, holds}
 use Rattle.model.specs.Faults.{enough}
 use Rattle.model.specs.Meaning.{state_of}
+use Rattle.decoded.specs.declared.Program as decoded
 use Rattle.decoded.specs.DecodedTable.{statement_at, program_at}
 
 -- qubits have the numbers 1 to the most there can be. Any other number stands for none, as 0 does.
@@ -53,9 +54,9 @@ unfoldable pub ran_word : Program → ℕ → ℕ → ℕ
 ran_word P n word = word_does (call_words_within P (enough P n)) P.main (qubits n) word
 
 -- what the statement at record i, of at most `depth` records from its root down, makes of a word; calls are followed as deep as `fuel`
-abbrev pub walked : List ℕ → ℕ → ℕ → List ℕ → ℕ → ℕ → ℕ
+abbrev pub walked : decoded.Program → ℕ → ℕ → List ℕ → ℕ → ℕ → ℕ
 walked g depth i l fuel word = word_does (call_words_within (program_at g) fuel) (statement_at g depth i) l word
 
 -- what a call of procedure f makes of a word
-abbrev pub called : List ℕ → ℕ → List ℕ → ℕ → ℕ → ℕ
+abbrev pub called : decoded.Program → ℕ → List ℕ → ℕ → ℕ → ℕ
 called g f l fuel word = call_words (call_words_within (program_at g) fuel) f l word

@@ -9,7 +9,7 @@ ghost use Rattle.run.specs.RunOnWords.{flipped_word, bit_of, walked, called, ran
 ghost use Rattle.answers.specs.Structs.{outcome_of};
 ghost use Rattle.model.specs.Answers as model;
 
-use decoded::{PROGRAM_LENGTH, Program, Step, procedures, root, step_at};
+use decoded::{Program, Step, procedures, root, step_at};
 use limits::{LEAST_WORKSPACE, MOST_DEPTH, MOST_QUBITS, Refusal};
 use sets::{QubitSet, size};
 use step::{all, chosen, remaining, touched};
@@ -124,7 +124,7 @@ fn end_word(program: &Program, n: u8, word: u64) -> u64
 pub fn run(table: &[u8], n: u32, word: u64, space: usize) -> Result<u64, Refusal>
     ensures { outcome_of result ≡ model.run table.now n word space }
 {
-    let mut program = [0u32; PROGRAM_LENGTH];
+    let mut program = Program::new();
     let qubits = check_table(table, n, &mut program)?;
     if !fits(word, qubits) {
         return Err(Refusal::HighBit);

@@ -15,6 +15,7 @@ use Rattle.limits.specs.declared.Refusal.{Refusal}
 use Rattle.limits.specs.declared.Refusal.TheVariants.{WrongQubits, NoRemoval, TooWide, AccessFault, ShortWorkspace}
 use Rattle.limits.specs.Refusals.{number_of}
 use Rattle.answers.proofs.PassedOn.{passed_on}
+use Rattle.decoded.specs.declared.Program as decoded
 use Rattle.decoded.specs.DecodedTable.{procedure_count, program_at}
 use Rattle.table.specs.ReadTable.{outcome_read, BodiesPlaced, BodiesNumbered, PlacedRead}
 use Rattle.reach.specs.CallsInATable.{reach_at, any_lacks_in}
@@ -25,12 +26,12 @@ use Rattle.verdict.specs.VerdictAnswers.{refusal_at, LeavesProgram, leaves, chec
 use Rattle.verdict.proofs.RefusalOrder.{few_qubits, many_qubits, refused_table, read_table_checked, read_table_known}
 
 -- refusals 10, 11 and 12, or none
-module _ (n : ℕ) (g m : List ℕ) (is : m ≡ reach_at g) (lacks : Bool) (l : lacks ≡ any_lacks_in m g) where
+module _ (n : ℕ) (g : decoded.Program) (m : List ℕ) (is : m ≡ reach_at g) (lacks : Bool) (l : lacks ≡ any_lacks_in m g) where
   pub checked_ten : lacks ≡ true → Err NoRemoval ≡ refusal_at g g n
   unfolding refusal_at
   checked_ten e = rw (← is, ← l, e)
 
-  module _ (e : lacks ≡ false) (wide : Bool) (h : List ℕ) (j : Judged m g (suc (procedure_count g)) wide h) where
+  module _ (e : lacks ≡ false) (wide : Bool) (h : decoded.Program) (j : Judged m g (suc (procedure_count g)) wide h) where
     width_told : wide ≡ any_wide_in m g
     width_told = go j
       where
@@ -51,10 +52,10 @@ module _ (n : ℕ) (g m : List ℕ) (is : m ≡ reach_at g) (lacks : Bool) (l : 
       checked_none t = rw (← is, ← l, e, ← width_told, q, ← f, t)
 
 -- what is left of the program
-pub leaves_ten : (g : List ℕ) → LeavesProgram (Err NoRemoval) g g
-leaves_ten g = leaves (record { unseen = record { head = λ k l. refl; rows = λ k l. refl }; known = λ e. absurd (cc) })
+pub leaves_ten : (g : decoded.Program) → LeavesProgram (Err NoRemoval) g g
+leaves_ten g = leaves (record { unseen = record { procedures = refl; roots = refl; entries = λ i. refl }; known = λ e. absurd (cc) })
 
-module _ (m g : List ℕ) (is : m ≡ reach_at g) (wide : Bool) (h : List ℕ) where
+module _ (m : List ℕ) (g : decoded.Program) (is : m ≡ reach_at g) (wide : Bool) (h : decoded.Program) where
   leaves_refused : (why : Refusal) → Judged m g (suc (procedure_count g)) wide h → LeavesProgram (Err why) g h
   leaves_refused why (judged j) = leaves (record { unseen = j.unseen; known = λ e. absurd (cc) })
 
@@ -76,12 +77,12 @@ out_of_range bs n (inl e) = few_qubits bs n e
 out_of_range bs n (inr h) = many_qubits bs n h.1
 
 -- the table was refused, or read and checked
-module _ (bs g : List ℕ) (n : ℕ) (z : n ≡ 0 → ⊥) (h : n ≤ most_qubits) (r : Result (Unit {0}) Refusal) (s : outcome_read r g ≡ outcome (read_table bs)) where
+module _ (bs : List ℕ) (g : decoded.Program) (n : ℕ) (z : n ≡ 0 → ⊥) (h : n ≤ most_qubits) (r : Result (Unit {0}) Refusal) (s : outcome_read r g ≡ outcome (read_table bs)) where
   pub check_refused : (why : Refusal) → r ≡ Err why → accepted bs n ≡ refuses (number_of why)
   unfolding outcome_read
   check_refused why e = sym (refused_table bs n (number_of why) z h (rw e at s))
 
-  module _ (read : r ≡ Ok tt) (q : Result (Unit {0}) Refusal) (k : List ℕ) (decides : q ≡ refusal_at g k n) (left : LeavesProgram q g k) where
+  module _ (read : r ≡ Ok tt) (q : Result (Unit {0}) Refusal) (k : decoded.Program) (decides : q ≡ refusal_at g k n) (left : LeavesProgram q g k) where
     decided : checked_outcome q k ≡ accepted bs n
     unfolding outcome_read
     decided = rw decides (go left)
@@ -96,18 +97,18 @@ module _ (bs g : List ℕ) (n : ℕ) (z : n ≡ 0 → ⊥) (h : n ≤ most_qubit
     check_passes e = rw e at decided
 
 -- a refusal says nothing of the program; one of a table that was accepted places its bodies and knows their widths
-pub refused_unplaced : (r : Result ℕ Refusal) (bs g : List ℕ) → IsErr r → PlacedChecked r bs g
+pub refused_unplaced : (r : Result ℕ Refusal) (bs : List ℕ) (g : decoded.Program) → IsErr r → PlacedChecked r bs g
 unfolding PlacedChecked
 refused_unplaced (Ok a) bs g e is = absurd (cc)
 refused_unplaced (Err why) bs g e is = absurd (cc)
 
-pub refused_unknown : (r : Result ℕ Refusal) (g : List ℕ) → IsErr r → KnownChecked r g
+pub refused_unknown : (r : Result ℕ Refusal) (g : decoded.Program) → IsErr r → KnownChecked r g
 unfolding KnownChecked
 refused_unknown (Ok a) g e is = absurd (cc)
 refused_unknown (Err why) g e is = absurd (cc)
 
-module _ (bs g : List ℕ) (r : Result (Unit {0}) Refusal) (s : outcome_read r g ≡ outcome (read_table bs)) (placed : PlacedRead r bs g) (read : r ≡ Ok tt)
-    (q : Result (Unit {0}) Refusal) (h : List ℕ) (left : LeavesProgram q g h) (passes : q ≡ Ok tt) (a : ℕ) where
+module _ (bs : List ℕ) (g : decoded.Program) (r : Result (Unit {0}) Refusal) (s : outcome_read r g ≡ outcome (read_table bs)) (placed : PlacedRead r bs g) (read : r ≡ Ok tt)
+    (q : Result (Unit {0}) Refusal) (h : decoded.Program) (left : LeavesProgram q g h) (passes : q ≡ Ok tt) (a : ℕ) where
   read_both : BodiesPlaced bs g × BodiesNumbered g
   unfolding PlacedRead
   read_both = rw read at placed
@@ -140,7 +141,7 @@ pub ruleset verdicts = (
 )
 
 -- what a checked table's result says of it
-module _ (bs g : List ℕ) (n space : ℕ) (r : Result ℕ Refusal) (is : checked_outcome r g ≡ accepted bs n) where
+module _ (bs : List ℕ) (g : decoded.Program) (n space : ℕ) (r : Result ℕ Refusal) (is : checked_outcome r g ≡ accepted bs n) where
   -- it is refused
   pub refused_checked : (why : Refusal) → r ≡ Err why → accepted bs n ≡ refuses (number_of why)
   refused_checked why e = sym (rw e at is)

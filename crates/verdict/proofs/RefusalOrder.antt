@@ -16,6 +16,7 @@ use Rattle.model.proofs.BooleanLaws.{by_bool}
 use Rattle.model.proofs.OutcomeLaws.{gives_same, not_both}
 use Rattle.model.proofs.ReadingLaws.{outcome_read_lem, read_named}
 use Rattle.model.proofs.ReachAndRank.{Named}
+use Rattle.decoded.specs.declared.Program as decoded
 use Rattle.decoded.specs.DecodedTable.{procedure_count, root_of, program_at}
 use Rattle.reach.proofs.MatrixOfAProgram.{count_at}
 use Rattle.reach.specs.Matrix.{reach_table, no_marks}
@@ -54,7 +55,7 @@ unfolding after
 refused_table bs n k z h e = rw (in_range bs n z h, ← e)
 
 -- a table that is read: refusals 10, 11 and 12 of its program
-module _ (g h : List ℕ) (u : Unseen g h) (n : ℕ) (few : procedure_count g ≤ most_procedures) (names : Named (program_at g)) (low : n ≤ most_qubits) where
+module _ (g h : decoded.Program) (u : Unseen g h) (n : ℕ) (few : procedure_count g ≤ most_procedures) (names : Named (program_at g)) (low : n ≤ most_qubits) where
   abbrev P : Program
   P = program_at g
 
@@ -85,7 +86,7 @@ module _ (g h : List ℕ) (u : Unseen g h) (n : ℕ) (few : procedure_count g �
       (λ q. rw (q, faults_left e) (by_bool (program_faults P n) (λ f. rw f) (λ f. rw f))))))
 
 -- what was read has no more procedures than there may be, and names them
-few_read : (bs g : List ℕ) → gives (program_at g) ≡ outcome (read_table bs) → procedure_count g ≤ most_procedures
+few_read : (bs : List ℕ) (g : decoded.Program) → gives (program_at g) ≡ outcome (read_table bs) → procedure_count g ≤ most_procedures
 few_read bs g e = rw (count_at g) at (rw (← e) at (outcome_read_lem bs)).1
 
 named_read : (bs : List ℕ) (P : Program) → gives P ≡ outcome (read_table bs) → Named P
@@ -96,7 +97,7 @@ named_read bs P e = by (read_table bs) refl e
     by (parsed Q i) r z = rw (gives_same z) (read_named bs r)
     by (refused k) r z = not_both (sym z)
 
-module _ (bs g h : List ℕ) (u : Unseen g h) (n : ℕ) (e : gives (program_at g) ≡ outcome (read_table bs)) where
+module _ (bs : List ℕ) (g h : decoded.Program) (u : Unseen g h) (n : ℕ) (e : gives (program_at g) ≡ outcome (read_table bs)) where
   pub read_table_checked : (n ≡ 0 → ⊥) → n ≤ most_qubits → checked_outcome (refusal_at g h n) h ≡ accepted bs n
   unfolding after
   read_table_checked z l =

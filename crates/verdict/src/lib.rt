@@ -7,7 +7,7 @@ ghost use Rattle.model.specs.Answers as model;
 ghost use Rattle.answers.specs.Structs.{outcome_of};
 ghost use Rattle.verdict.specs.VerdictAnswers.{refusal_at, LeavesProgram, checked_outcome, PlacedChecked, KnownChecked};
 
-use decoded::{PROGRAM_LENGTH, Program};
+use decoded::Program;
 use faults::faults;
 use limits::{BODY_COUNT, LEAST_WORKSPACE, MOST_N, Refusal};
 use reach::{any_lacks_removal, fill_reach};
@@ -54,7 +54,7 @@ pub fn check_table(table: &[u8], n: u32, program: &mut Program) -> Result<u8, Re
 pub fn verdict(table: &[u8], n: u32, space: usize) -> Result<(), Refusal>
     ensures { number (outcome_of result) ≡ number (model.verdict table.now n space) }
 {
-    let mut program = [0u32; PROGRAM_LENGTH];
+    let mut program = Program::new();
     check_table(table, n, &mut program)?;
     if space < LEAST_WORKSPACE {
         return Err(Refusal::ShortWorkspace);
