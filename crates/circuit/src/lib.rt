@@ -111,7 +111,6 @@ fn placed(action: Action, most: u8) -> bool
 }
 
 // "Counts are at least 1, wires ascend, no wire occurs twice in a gate, a swap's target is its lower wire."
-#[tactic(auto, using(crate::proofs::GateCheckLaws::forms))]
 fn well_formed(gate: &Gate, most: u8) -> bool
     ensures { result ≡ gate_is_well_formed most (gate_in gate.now) }
 {
@@ -192,7 +191,6 @@ pub fn read_gate(input: &[u8], most: u8) -> Option<(Gate<'_>, &[u8])>
 }
 
 // Do `count` gates fill the input?
-#[tactic(auto, using(crate::proofs::GateReading::filled))]
 fn gates_fill(input: &[u8], most: u8, count: u32) -> bool
     ensures { result ≡ fills (read_gates most count (input_of input.now)) }
 {

@@ -27,7 +27,6 @@ fn all_hold(list: &[u8], asked: bool, bits: &[u8; BLOCK_LENGTH]) -> bool
 }
 
 // "every controlled wire holds the bit asked for"
-#[tactic(auto, using(crate::proofs::GateAction::firing))]
 fn fires(gate: &Gate, wires: &Wires) -> bool
     ensures { result ≡ fires (controls_in gate.now) (state_in wires.now.bits) }
 {
@@ -94,7 +93,6 @@ fn answer(ended: Option<Wires>, word: u64) -> CircuitBlock
 }
 
 // The circuit run: the whole block of a circuit that is well formed, from a data word and zero ancillas.
-#[tactic(auto, using(crate::proofs::CircuitRunAnswer::runs))]
 pub fn run_circuit(bytes: &[u8], word: u64) -> CircuitBlock
     ensures { result ≡ block_answer (circuit_run bytes.now word) }
 {
