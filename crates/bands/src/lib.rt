@@ -24,16 +24,6 @@ fn put_mark(writer: &mut Writer<'_>, mark: u8)
     writer.put_all(&[mark, b'-', b'-', b'-']);
 }
 
-// The marks of all columns on a wire's row.
-#[tactic(auto, using(crate::proofs::RowText::rowing))]
-fn put_marks(writer: &mut Writer<'_>, columns: &[Column], wire: u8)
-    ensures { writer.new ≡ puts (marks_at columns.now wire) writer.old }
-{
-    for column in columns {
-        put_mark(writer, column[wire as usize]);
-    }
-}
-
 // How many columns a wire number leaves of its four.
 #[tactic(auto, using(crate::proofs::RowText::indenting))]
 fn indent(wire: u8) -> u8
@@ -65,13 +55,15 @@ fn put_number(writer: &mut Writer<'_>, wire: u8)
     writer.put_decimal(wire as u64);
 }
 
-// "A row starts with its wire number"
-#[tactic(auto, using(text::proofs::AppendLaws::putting))]
+// "A row starts with its wire number": then the marks of all columns.
+#[tactic(auto, using(text::proofs::AppendLaws::putting, crate::proofs::RowText::rowing))]
 fn put_row(writer: &mut Writer<'_>, columns: &[Column], wire: u8)
     ensures { writer.new ≡ puts (row_at columns.now wire) writer.old }
 {
     put_number(writer, wire);
-    put_marks(writer, columns, wire);
+    for column in columns {
+        put_mark(writer, column[wire as usize]);
+    }
     writer.put(b'\n');
 }
 

@@ -2,7 +2,7 @@
 use Rattle.std.proofs.Common.{◌≡◌, drop}
 use Rattle.text.specs.AppendedBytes.{puts}
 use Rattle.bands.specs.MarkedRows.{marks_at}
-use Rattle.bands.proofs.put_marks.Given as goal
+use Rattle.bands.proofs.put_row.Given as goal
 
 abbrev pub invariant-loop-column : goal.invariant-loop-column
 invariant-loop-column l = puts (marks_at (drop l.column-index l.columns) l.wire) l.writer ≡ puts (marks_at l.columns l.wire) l.initial.writer
