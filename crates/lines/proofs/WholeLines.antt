@@ -1,25 +1,28 @@
 -- Whole lines: their parts one behind the other.
 use mathlib.Core.Path.{◌≡◌, refl}
 use mathlib.Core.List.{List, [], ◌∷◌, ◌++◌}
-use Prim.Native.Nat.{ℕ}
+use Prim.Native.Nat.{ℕ, ◌+◌}
 use Rattle.model.specs.Gates.{Controls, no_controls}
 use Rattle.model.specs.Circuit.{controls_of}
-use Rattle.model.specs.Listing.{decimal, letter_x, letter_s, space, newline, action_text, control_text, gate_line, first_line}
+use Rattle.model.specs.Listing.{decimal, letter_x, letter_s, space, newline, action_text, control_text, gate_line}
 use Rattle.circuit.specs.GatesInBytes.{controls_in, gate_with, gate_in}
 use Rattle.circuit.specs.declared.Action.{Action}
 use Rattle.circuit.specs.declared.Action.TheVariants.{Not, Swap}
 use Rattle.circuit.specs.declared.Gate.{Gate}
+use Rattle.circuit.specs.declared.Header.{Header}
+use Rattle.lines.specs.ListingRows.{first_read}
 use Rattle.text.specs.declared.Writer.{Writer}
 use Rattle.text.specs.AppendedBytes.{puts}
 use Rattle.text.proofs.AppendLaws.{put_then, put_next}
 
 -- what `first_line` leaves
-pub first_put : (n ancillas size : ℕ) (w w₁ w₂ w₃ w₄ : Writer) → w₁ ≡ puts (decimal n) w → w₂ ≡ puts (space ∷ decimal ancillas) w₁ →
-    w₃ ≡ puts (space ∷ decimal size) w₂ → w₄ ≡ puts (newline ∷ []) w₃ → w₄ ≡ puts (first_line n ancillas size) w
-first_put n ancillas size w w₁ w₂ w₃ w₄ p q r s =
-    put_then (decimal n) ((space ∷ decimal ancillas) ++ ((space ∷ decimal size) ++ (newline ∷ []))) w w₁ w₄ p
-    (put_then (space ∷ decimal ancillas) ((space ∷ decimal size) ++ (newline ∷ [])) w₁ w₂ w₄ q
-    (put_then (space ∷ decimal size) (newline ∷ []) w₂ w₃ w₄ r s))
+pub first_put : (h : Header) (size : ℕ) → size ≡ h.gates + h.qubits + h.ancillas → (w w₁ w₂ w₃ w₄ : Writer) → w₁ ≡ puts (decimal h.qubits) w →
+    w₂ ≡ puts (space ∷ decimal h.ancillas) w₁ → w₃ ≡ puts (space ∷ decimal size) w₂ → w₄ ≡ puts (newline ∷ []) w₃ → w₄ ≡ puts (first_read h) w
+first_put h size is w w₁ w₂ w₃ w₄ p q r s =
+    rw (← is)
+    (put_then (decimal h.qubits) ((space ∷ decimal h.ancillas) ++ ((space ∷ decimal size) ++ (newline ∷ []))) w w₁ w₄ p
+    (put_then (space ∷ decimal h.ancillas) ((space ∷ decimal size) ++ (newline ∷ [])) w₁ w₂ w₄ q
+    (put_then (space ∷ decimal size) (newline ∷ []) w₂ w₃ w₄ r s)))
 
 -- the ways out of `put_action`
 module _ (action : Action) (w w₁ w₂ : Writer) where

@@ -1,19 +1,19 @@
 // "Worked programs", on the listing: its lines, put into a text one behind the other.
 #![tactic(auto)]
 
-ghost use Rattle.std.specs.Prelude.{◌≡◌, ◌∷◌, ◌++◌, ◌+◌, length, ltb, leb};
+ghost use Rattle.std.specs.Prelude.{◌≡◌, ◌∷◌, ◌++◌, ◌+◌, length, ltb};
 ghost use Rattle.std.specs.List.{prefix_len};
-ghost use Rattle.model.specs.Answers.{circuit_read, room_after};
-ghost use Rattle.model.specs.Listing.{space, plus, decimal, signed, hyphens, control_text, action_text, gate_line, first_line, listed, circuit_list};
-ghost use Rattle.answers.specs.Structs.{length_answer, header_of};
+ghost use Rattle.model.specs.Answers.{room_after};
+ghost use Rattle.model.specs.Listing.{space, plus, decimal, signed, hyphens, control_text, action_text, gate_line, circuit_list};
+ghost use Rattle.answers.specs.Structs.{outcome_of, given_length, length_answer};
 ghost use Rattle.circuit.specs.GatesInBytes.{input_of, gate_with, gate_in};
 ghost use Rattle.model.specs.Gates.{no_controls};
-ghost use Rattle.text.specs.AppendedBytes.{puts};
-ghost use Rattle.lines.specs.ListingRows.{lines_read};
+ghost use Rattle.text.specs.AppendedBytes.{place_after, puts};
+ghost use Rattle.lines.specs.ListingRows.{lines_read, first_read, listing_read};
 
-use answers::{Answer, CircuitHeader};
-use circuit::{Action, Gate, gate_at, read_circuit};
-use limits::{HEADER_LENGTH, LISTING_FACTOR, NO_ROOM};
+use answers::Answer;
+use circuit::{Action, Gate, Header, gate_at, read_whole};
+use limits::{LISTING_FACTOR, Refusal};
 use text::Writer;
 
 // A space and a number.
@@ -109,7 +109,7 @@ fn gate_lines(writer: &mut Writer, bytes: &[u8], count: u32)
 }
 
 // "gates plus data wires plus ancillas"
-fn size(header: CircuitHeader) -> u64
+fn size(header: Header) -> u64
     ensures { result ≡ header.gates + header.qubits + header.ancillas }
 {
     u64::from(header.gates) + u64::from(header.qubits) + u64::from(header.ancillas)
@@ -117,64 +117,55 @@ fn size(header: CircuitHeader) -> u64
 
 // "the first line is n, ancillas, size"
 #[tactic(auto, using(crate::proofs::WholeLines::first_put))]
-fn first_line(writer: &mut Writer, n: u32, ancillas: u32, size: u64)
-    ensures { writer.new ≡ puts (first_line n ancillas size) writer.old }
+fn first_line(writer: &mut Writer, header: Header)
+    ensures { writer.new ≡ puts (first_read header) writer.old }
 {
-    writer.put_decimal(u64::from(n));
-    put_spaced(writer, u64::from(ancillas));
-    put_spaced(writer, size);
+    writer.put_decimal(u64::from(header.qubits));
+    put_spaced(writer, u64::from(header.ancillas));
+    put_spaced(writer, size(header));
     writer.put(b'\n');
 }
 
-// The listing of a circuit whose header was read: its first line and a line for each gate.
-fn put_listing(writer: &mut Writer, circuit: &[u8], header: CircuitHeader)
-    requires header_value { header ≡ header_of (circuit_read circuit.now) }
-    requires number_value { header.number ≡ 0 }
-    ensures { writer.new ≡ puts (listed (circuit_read circuit.now)) writer.old }
+// The listing of a circuit: its first line and a line for each gate.
+#[tactic(auto, using(text::proofs::AppendLaws::put_then))]
+fn put_listing(writer: &mut Writer, header: Header, gates: &[u8])
+    ensures { writer.new ≡ puts (listing_read header gates.now) writer.old }
 {
-    first_line(writer, header.qubits, header.ancillas, size(header));
-    let (_, gates) = circuit.split_at(HEADER_LENGTH);
+    first_line(writer, header);
     gate_lines(writer, gates, header.gates);
 }
 
-// Does a text of this length take the listing? Where it may be too short, the listing is measured.
-fn fits(circuit: &[u8], header: CircuitHeader, room: usize) -> bool
-    requires header_value { header ≡ header_of (circuit_read circuit.now) }
-    requires number_value { header.number ≡ 0 }
-    ensures { result ≡ leb (length (listed (circuit_read circuit.now))) room }
+// How long the listing of a circuit is: it is put into a text of no bytes.
+fn listing_length(header: Header, gates: &[u8]) -> usize
+    ensures { result ≡ place_after 0 (length (listing_read header gates.now)) }
 {
-    if circuit.len() <= room / LISTING_FACTOR {
-        return true;
-    }
     let mut nothing = [0u8; 0];
     let mut writer = Writer::new(&mut nothing[..]);
-    put_listing(&mut writer, circuit, header);
-    writer.length() <= room
+    put_listing(&mut writer, header, gates);
+    writer.length()
 }
 
 // The listing of a circuit, into a text that takes the whole of it: its length; 14 where the circuit is not well formed, 23 where the text is too
-// short, and then the text is left as it is.
+// short, and then the text is left as it is. A text that may be too short is measured.
+pub fn list(circuit: &[u8], text: &mut [u8]) -> Result<usize, Refusal>
+    ensures value { outcome_of result ≡ given_length (circuit_list circuit.now (length text.old)) }
+    ensures text_after { text.new ≡ room_after (circuit_list circuit.now (length text.old)) text.old }
+{
+    let Some((header, gates)) = read_whole(circuit) else {
+        return Err(Refusal::NotWellFormed);
+    };
+    if text.len() / LISTING_FACTOR < circuit.len() && text.len() < listing_length(header, gates) {
+        return Err(Refusal::NoRoom);
+    }
+    let mut writer = Writer::new(text);
+    put_listing(&mut writer, header, gates);
+    Ok(writer.length())
+}
+
+// The same as C gets it.
 pub fn list_circuit(circuit: &[u8], text: &mut [u8]) -> Answer
     ensures value { result ≡ length_answer (circuit_list circuit.now (length text.old)) }
     ensures text_after { text.new ≡ room_after (circuit_list circuit.now (length text.old)) text.old }
 {
-    let header = read_circuit(circuit);
-    if header.number != 0 {
-        return Answer {
-            number: header.number,
-            value: 0,
-        };
-    }
-    if !fits(circuit, header, text.len()) {
-        return Answer {
-            number: NO_ROOM as u32,
-            value: 0,
-        };
-    }
-    let mut writer = Writer::new(text);
-    put_listing(&mut writer, circuit, header);
-    Answer {
-        number: 0,
-        value: writer.length() as u64,
-    }
+    Answer::from(list(circuit, text))
 }

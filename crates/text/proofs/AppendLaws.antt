@@ -80,12 +80,23 @@ unfolding puts
 same_text [] w = refl
 same_text (b ∷ bytes) w = same_text bytes (put_one b w)
 
+-- as many places behind the first as there are bytes
+places : (bytes : List ℕ) (w : Writer) → w.at < 2 ^ 64 → (puts bytes w).at ≡ place_after w.at (length bytes)
+unfolding puts
+places [] w h = omega arith
+places (b ∷ bytes) w h =
+    let on : place_after (next_place w.at) (length bytes) ≡ place_after w.at (suc (length bytes)) = omega arith in
+    rw (places bytes (put_one b w) (omega arith), on)
+
 -- What a function knows that made a writer of its text, at its return: how many bytes were put, that the text is still the one that was lent, and
 -- what stands in it.
 module _ (bytes : List ℕ) {place : ℕ × ℕ} {name : ℕ} {text : List ℕ} {w₀ w : Writer} (p : w ≡ puts bytes w₀)
     (starts : w₀ ≡ nothing_put (record { ref_ptr = place; ghost_name = name; now = text })) where
+  pub puts_place : w.at ≡ place_after 0 (length bytes)
+  puts_place = rw (p, places bytes w₀ (rw starts (omega arith)), starts)
+
   pub puts_count : length bytes ≤ last_place → w.at ≡ length bytes
-  puts_count few = rw (p, puts_all bytes w₀ (rw (starts, zero-add) few), starts) (zero-add (length bytes))
+  puts_count few = let place = puts_place in omega arith
 
   pub name_kept : name ≡ w.text.ghost_name
   name_kept = rw (p, same_text bytes w₀, starts)
