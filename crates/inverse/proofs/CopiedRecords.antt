@@ -1,7 +1,7 @@
 -- The ways out of the functions that copy records: what the loops keep, and that what is put is the table's records, turned round.
 use mathlib.Core.Path.{◌≡◌, refl, ap, ◌∙◌}
 use mathlib.Core.Bool.{Bool, true, false}
-use mathlib.Core.List.{List, [], ◌∷◌, ◌++◌}
+use mathlib.Core.List.{List, ◌++◌}
 use Prim.Native.Nat.{ℕ, zero, suc, ◌+◌, ◌-◌, ◌≤◌, ◌<◌, min}
 use native.Mathlib.Numerals.{add-one, sub-one}
 use native.Mathlib.Omega.{arith}
@@ -9,8 +9,7 @@ use Rattle.std.proofs.Common.{inl, inr, ◌⊎◌}
 use borrow.Author.Rules.{rules}
 use borrow.Author.Tests.{lt-ltb, le-ltb, not-true, not-false}
 use Rattle.std.proofs.Common.{take_all}
-use Rattle.std.proofs.lemmas.List.{take_more}
-use lib.ListN.{length, get_or, take, drop, length-drop, drop_of_length-le}
+use lib.ListN.{length, take, drop, length-drop, drop_of_length-le}
 use lib.Seq.{take-nil}
 use Rattle.model.specs.Limits.{most_depth}
 use Rattle.model.proofs.BooleanLaws.{by_lt}
@@ -43,16 +42,10 @@ piece_cut bs from to = by_lt from (min to (length bs))
     (λ lt. let no : to - from ≡ 0 = omega arith in rw no)
     (λ past. rw (drop_of_length-le bs past, take-nil (to - from)))))
 
--- the loop of `put_piece`: all of the piece was put
-pub piece_put : (bs : List ℕ) (from to start end k : ℕ) (w₀ w : Writer) → end ≡ min to (length bs) → start ≡ min from end →
-    w ≡ puts (take k (take (end - start) (drop start bs))) w₀ → length (take (end - start) (drop start bs)) ≤ k → w ≡ puts (piece bs from to) w₀
-piece_put bs from to start end k w₀ w last first all h =
-    rw (take_all k (take (end - start) (drop start bs)) h) at all ∙ ap (λ l. puts l w₀) (rw (first, last) (piece_cut bs from to))
-
--- one byte more was put
-pub piece_next : (bs : List ℕ) (k b : ℕ) (w₀ w w₁ : Writer) → w ≡ puts (take k bs) w₀ → k < length bs → b ≡ get_or bs k 0 → w₁ ≡ puts (b ∷ []) w →
-    w₁ ≡ puts (take (k + 1) bs) w₀
-piece_next bs k b w₀ w w₁ so_far h is more = rw (take_more bs k 0 h, ← is) (put_then (take k bs) (b ∷ []) w₀ w w₁ so_far more)
+-- what `put_piece` puts
+pub piece_put : (bs : List ℕ) (from to start end : ℕ) (w₀ w : Writer) → end ≡ min to (length bs) → start ≡ min from end →
+    w ≡ puts (take (end - start) (drop start bs)) w₀ → w ≡ puts (piece bs from to) w₀
+piece_put bs from to start end w₀ w last first all = all ∙ ap (λ l. puts l w₀) (rw (first, last) (piece_cut bs from to))
 
 -- the ways out of `body_end`
 module _ (bs : List ℕ) (g : decoded.Program) (f p : ℕ) (n : p ≡ procedure_count g) where

@@ -16,14 +16,12 @@ use text::Writer;
 use verdict::check_table;
 
 // The bytes of the table from one place up to another.
+#[tactic(auto, using(crate::proofs::CopiedRecords::piece_put))]
 fn put_piece(table: &[u8], from: usize, to: usize, writer: &mut Writer)
     ensures { writer.new ≡ puts (piece table.now from to) writer.old }
 {
     let end = to.min(table.len());
-    let piece = &table[from.min(end)..end];
-    for &byte in piece {
-        writer.put(byte);
-    }
+    writer.put_all(&table[from.min(end)..end]);
 }
 
 // The statement at record i, whose bytes stand up to `end`, turned round: what stands before its own statements, and then these.
