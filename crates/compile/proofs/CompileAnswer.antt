@@ -13,6 +13,7 @@ use Rattle.agreement.proofs.CompilePromise.{accepted_is, accepted_few, compiles}
 use Rattle.limits.specs.declared.Refusal.{Refusal}
 use Rattle.limits.specs.Refusals.{number_of}
 use Rattle.answers.specs.Structs.{outcome_of, given_length}
+use Rattle.decoded.specs.declared.Program as decoded
 use Rattle.decoded.specs.DecodedTable.{program_at}
 use Rattle.reach.proofs.MatrixOfAProgram.{count_at}
 use Rattle.verdict.specs.VerdictAnswers.{checked_outcome, KnownChecked}
@@ -20,7 +21,7 @@ use Rattle.verdict.proofs.AcceptanceAndRefusal.{refused_checked, accepted_checke
 use Rattle.emit.specs.WalkPromises.{Checked}
 use Rattle.compile.specs.EmissionAnswer.{Compiles, walks_once, emission_answer}
 
-module _ (bs g : List ℕ) (n : ℕ) (room : List ℕ) (space : ℕ) (r : Result ℕ Refusal) (is : checked_outcome r g ≡ accepted bs n) where
+module _ (bs : List ℕ) (g : decoded.Program) (n : ℕ) (room : List ℕ) (space : ℕ) (r : Result ℕ Refusal) (is : checked_outcome r g ≡ accepted bs n) where
   abbrev P : Program
   P = program_at g
 

@@ -27,6 +27,7 @@ use Rattle.answers.specs.Structs.{given_length}
 use Rattle.circuit.proofs.GateBytes.{sets_past}
 use Rattle.circuit.specs.GatesToWrite.{header_bytes}
 use Rattle.sets.proofs.Members.{members_empty}
+use Rattle.decoded.specs.declared.Program as decoded
 use Rattle.decoded.specs.DecodedTable.{program_at}
 use Rattle.events.specs.Scan.{Emit, refusal_number, Progress, progress, emit_of, room_of, emission_end, wire_of}
 use Rattle.events.proofs.ScanOfEvents.{emission_status, emission_ends, emission_within}
@@ -120,7 +121,7 @@ given_answer P n room header e = rw (le-leb header_length (usable (length room))
 
 -- an emission into a text, of which as much is used as the room has of use: its number is that of the definitions, and where that is 0 the circuit
 -- stands in the text
-module _ {prog : List ℕ} {n : ℕ} (room text : List ℕ) {a : Emit} (text₁ : List ℕ) (long : length text ≡ most_circuit)
+module _ {prog : decoded.Program} {n : ℕ} (room text : List ℕ) {a : Emit} (text₁ : List ℕ) (long : length text ≡ most_circuit)
     (A : Emits prog n (take (usable (length room)) text) a (take (usable (length room)) text₁))
     (checked : Checked prog) (small : n ≤ most_qubits)
     (header : header_length ≤ usable (length room)) where
@@ -226,7 +227,7 @@ pub circuit_put : (n : ℕ) (st : Emit) (text room : List ℕ) (a : ℕ) (text�
 circuit_put n st text room a text₁ room₁ low put copied = rw (copied, put, low)
 
 -- the way out of `emit_front`: what was lent comes back at its place
-pub front_emitted : {prog : List ℕ} {n : ℕ} (end : ℕ) (text : List ℕ) {a : Emit} (back rest : List ℕ) →
+pub front_emitted : {prog : decoded.Program} {n : ℕ} (end : ℕ) (text : List ℕ) {a : Emit} (back rest : List ℕ) →
     end ≤ length text → length back ≡ length (take (end - 0) text) → Emits prog n (take (end - 0) text) a back →
     Emits prog n (take end text) a (take end (back ++ rest))
 front_emitted end text back rest h same A =
@@ -235,18 +236,18 @@ front_emitted end text back rest h same A =
     rw (take_at back rest end long) (rw none at A)
 
 -- the way out of `emit_text`
-pub text_emitted : {prog : List ℕ} {n room end : ℕ} (text : List ℕ) {a : Emit} (text₁ : List ℕ) →
+pub text_emitted : {prog : decoded.Program} {n room end : ℕ} (text : List ℕ) {a : Emit} (text₁ : List ℕ) →
     length text ≡ most_circuit → end ≡ usable room → Emits prog n (take end text) a (take end text₁) → EmitsText prog n room a text₁
 text_emitted text text₁ long e A = into_text text long (rw e at A)
 
 -- the ways out of `compile_emission`
-module _ {prog : List ℕ} {n : ℕ} {room : List ℕ} where
+module _ {prog : decoded.Program} {n : ℕ} {room : List ℕ} where
   pub no_header : length room < header_length → Compiles prog n room (Err NoRoom) room
   unfolding emission_answer require after room_after
   no_header h = walks_once (λ checked small.
       let e = lt-leb header_length (usable (length room)) (omega arith) in (rw e, rw e))
 
-module _ {prog : List ℕ} {n : ℕ} {room : List ℕ} {a : Emit} {text₁ : List ℕ} where
+module _ {prog : decoded.Program} {n : ℕ} {room : List ℕ} {a : Emit} {text₁ : List ℕ} where
   pub text_refused : (o : Option Refusal) (why : Refusal) → header_length ≤ length room → EmitsText prog n (length room) a text₁ → refusal_number o ≡ a.status →
       o ≡ Some why → Compiles prog n room (Err why) room
   text_refused o why h (into_text text long A) is some = walks_once (λ checked small.

@@ -11,7 +11,7 @@ ghost use Rattle.emit.specs.WalkPromises.{Emits};
 ghost use Rattle.compile.specs.EmissionAnswer.{EmitsText, delivered, Compiles};
 
 use circuit::write::put_header;
-use decoded::{PROGRAM_LENGTH, Program};
+use decoded::Program;
 use emit::emit_main;
 use events::{State, usable, wire};
 use limits::{HEADER_LENGTH, LEAST_WORKSPACE, MOST_CIRCUIT, Refusal};
@@ -78,7 +78,7 @@ fn translate(table: &[u8], n: u32, room: &mut [u8], space: usize) -> Result<usiz
     ensures value { outcome_of result ≡ given_length (model.compile table.now n (length room.old) space) }
     ensures room_after { room.new ≡ room_after (model.compile table.now n (length room.old) space) room.old }
 {
-    let mut program = [0u32; PROGRAM_LENGTH];
+    let mut program = Program::new();
     let qubits = check_table(table, n, &mut program)?;
     if space < LEAST_WORKSPACE {
         return Err(Refusal::ShortWorkspace);
