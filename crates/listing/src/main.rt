@@ -5,21 +5,30 @@
 ghost use Rattle.std.specs.Prelude.{◌≡◌, List, ◌++◌, ℕ, ◌≤◌, length, take, drop};
 ghost use Rattle.model.specs.Limits.{most_circuit};
 ghost use Rattle.model.specs.Answers.{circuit_read};
-ghost use Rattle.model.specs.Listing.{listed, listing_of, listing};
+ghost use Rattle.model.specs.Listing.{refusal_line, listed, listing_of, listing};
 ghost use Rattle.io.specs.Counts.{IsPrefixLen};
 ghost use Rattle.text.specs.Inputs.{BeginsWith};
 
 use compile::compile;
 use limits::{LEAST_WORKSPACE, MOST_CIRCUIT, MOST_LISTING, MOST_RECORDS, MOST_REMOVALS};
-use lines::list_circuit;
 use std::io::Read;
-use text::refusal_line;
+use text::Writer;
 
 // The longest record: map, kind, removals behind their count, and number a; a number has three bytes.
 const RECORD_LENGTH: usize = 2 + 1 + 3 * MOST_REMOVALS as usize + 3;
 
 // As much of an input as is ever looked at: n, edition and p, the longest records, and map and kind of one too many.
 const INPUT_LENGTH: usize = 1 + 2 + RECORD_LENGTH * MOST_RECORDS + 2;
+
+// "A refusal prints its number alone."
+fn put_refusal(text: &mut [u8; MOST_LISTING], number: u32) -> usize
+    ensures value { result ≡ length (refusal_line number) }
+    ensures text_after { text.new ≡ refusal_line number ++ drop result text.old }
+{
+    let mut writer = Writer::new(&mut text[..]);
+    writer.put_refusal(number);
+    writer.length()
+}
 
 // The listing of the circuit in a room's first bytes. The text is long enough for every listing.
 fn list_room(text: &mut [u8; MOST_LISTING], room: &[u8; MOST_CIRCUIT], used: usize) -> usize
@@ -28,14 +37,13 @@ fn list_room(text: &mut [u8; MOST_LISTING], room: &[u8; MOST_CIRCUIT], used: usi
     ensures text_after { text.new ≡ listed (circuit_read (take used room.now)) ++ drop result text.old }
 {
     let bytes = &room[..];
-    let answer = list_circuit(&bytes[..used], &mut text[..]);
-    if answer.number != 0 {
-        return refusal_line(&mut text[..], 0, answer.number);
+    match lines::list(&bytes[..used], &mut text[..]) {
+        Ok(length) => length,
+        Err(why) => put_refusal(text, u32::from(why)),
     }
-    answer.value as usize
 }
 
-// The circuit that compile writes into the room, line by line. "A refusal prints its number alone."
+// The circuit that compile writes into the room, line by line, or the refusal's line.
 fn list_table(
     text: &mut [u8; MOST_LISTING],
     n: u8,
@@ -46,11 +54,10 @@ fn list_table(
     ensures value { result ≡ length (listing_of n table.now) }
     ensures text_after { text.new ≡ listing_of n table.now ++ drop result text.old }
 {
-    let compiled = compile(table, n as u32, &mut room[..], &mut workspace[..]);
-    if compiled.number != 0 {
-        return refusal_line(&mut text[..], 0, compiled.number as u32);
+    match compile(table, n as u32, &mut room[..], &mut workspace[..]) {
+        Ok(length) => list_room(text, room, length),
+        Err(why) => put_refusal(text, u32::from(why)),
     }
-    list_room(text, room, compiled.length)
 }
 
 // "Empty input counts as n = 0."
@@ -61,10 +68,10 @@ fn list(text: &mut [u8; MOST_LISTING], input: &[u8]) -> usize
 {
     let mut room = [0u8; MOST_CIRCUIT];
     let mut workspace = [0u8; LEAST_WORKSPACE];
-    if input.len() == 0 {
-        return list_table(text, 0, input, &mut room, &mut workspace);
+    match input.split_first() {
+        Some((n, table)) => list_table(text, *n, table, &mut room, &mut workspace),
+        None => list_table(text, 0, input, &mut room, &mut workspace),
     }
-    list_table(text, input[0], &input[1..], &mut room, &mut workspace)
 }
 
 // All that the program writes for an input, of which it read as much as the buffer takes: the buffer is long enough, whatever was left unread.
@@ -75,10 +82,7 @@ fn list_read(text: &mut [u8; MOST_LISTING], buffer: &[u8; INPUT_LENGTH], count: 
     ensures prefix_len { IsPrefixLen result text.new }
 {
     let bytes = &buffer[..];
-    if count < INPUT_LENGTH {
-        return list(text, &bytes[..count]);
-    }
-    list(text, bytes)
+    list(text, &bytes[..count.min(INPUT_LENGTH)])
 }
 
 // What can be read from an input, listed.
