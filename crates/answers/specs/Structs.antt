@@ -1,15 +1,25 @@
 -- The answers of the model as the structs that C gets: "A refusal gives its number and otherwise zeros."
-use Rattle.std.specs.Prelude.{ℕ, ◌≡◌, List, length, take, replicate}
+use Rattle.std.specs.Prelude.{ℕ, ◌≡◌, List, length, take, replicate, Result, Ok, Err}
 use Rattle.model.specs.Limits.{success, block_length}
 use Rattle.model.specs.Circuit.{Circuit}
 use Rattle.model.specs.Answers.{Outcome, gives, refuses, after, Block}
 use Rattle.model.specs.Demand.{Demand3}
 use Rattle.model.specs.Undoing.{Undoes}
 use Rattle.model.specs.Page.{Band}
+use Rattle.limits.specs.declared.Refusal.{Refusal}
+use Rattle.limits.specs.Refusals.{number_of}
 use Rattle.answers.specs.declared.Answer.{Answer}
 use Rattle.answers.specs.declared.CircuitHeader.{CircuitHeader}
 use Rattle.answers.specs.declared.CircuitBlock.{CircuitBlock}
 use Rattle.answers.specs.declared.PageBand.{PageBand}
+
+-- what a function of the library gives, read as the model's outcome: f of what stands in `Ok`, or the number of the one refusal
+abbrev pub outcome_as : {A B : Type 0} → (A → B) → Result A Refusal → Outcome B
+outcome_as f (Ok a) = gives (f a)
+outcome_as f (Err why) = refuses (number_of why)
+
+abbrev pub outcome_of : {A : Type 0} → Result A Refusal → Outcome A
+outcome_of r = outcome_as (λ a. a) r
 
 -- "Success is number 0; run adds the end word"
 unfoldable pub answer_of : Outcome ℕ → Answer
@@ -17,8 +27,11 @@ answer_of (gives value) = record { number = success; value = value }
 answer_of (refuses k) = record { number = k; value = 0 }
 
 -- "compile the circuit's length in bytes"; of a listing or an inverse table, its own
+abbrev pub given_length : Outcome (List ℕ) → Outcome ℕ
+given_length o = after o (λ bytes. gives (length bytes))
+
 abbrev pub length_answer : Outcome (List ℕ) → Answer
-length_answer o = answer_of (after o (λ bytes. gives (length bytes)))
+length_answer o = answer_of (given_length o)
 
 -- Demand 3: where the number is 0, it holds of "The room's bytes up to the length given"
 abbrev pub Delivered : List ℕ → ℕ → Answer → List ℕ → Type 0

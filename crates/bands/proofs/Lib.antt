@@ -2,4 +2,5 @@
 mod RowText
 mod KeptMarks
 mod BandText
+mod BandStarts
 mod BandAnswers

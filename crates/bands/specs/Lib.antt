@@ -1,1 +1,2 @@
 pub mod MarkedRows
+pub mod Starts

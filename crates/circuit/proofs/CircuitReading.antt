@@ -1,152 +1,128 @@
 -- The ways out of the reader of a header, and of the circuit reader.
 use mathlib.Core.Path.{◌≡◌, refl, sym, ap, ◌∙◌}
 use mathlib.Core.Bool.{Bool, true, false, ◌&&◌, false≢true}
-use mathlib.Core.List.{List, ◌∷◌}
+use mathlib.Core.List.{List, [], ◌∷◌}
 use Prim.Native.Nat.{ℕ, zero, suc, ◌+◌, ◌-◌, ◌*◌, ◌≤◌, ◌<◌}
 use native.Mathlib.Omega.{arith}
 use borrow.Author.Rules.{rules}
 use borrow.Author.Tests.{ne_eqb, le-leb, lt-leb, not-true, not-false}
-use lib.ListN.{length, get_or}
+use lib.ListN.{length, get_or, take, drop}
+use lib.Seq.{take_all}
 use lib.Dec.{eqb, leb}
-use Rattle.model.specs.Limits.{not_well_formed, table_stops, most_qubits, most_wires, circuit_edition, header_length, most_circuit}
-use Rattle.model.specs.Reading.{Input, Parsed, parsed, refused, and_then, provided, byte}
+use Rattle.std.proofs.Common.{w32}
+use Rattle.std.specs.Int.{from_le_bytes}
+use Rattle.model.specs.Limits.{success, not_well_formed, most_qubits, most_wires, circuit_edition, header_length, most_circuit}
+use Rattle.model.specs.Reading.{Input, Parsed, parsed, refused, and_then, provided, byte_of}
 use Rattle.model.specs.Gates.{Gate}
 use Rattle.model.specs.Circuit.{Circuit, read_gate, read_gates, four_byte_number, whole_circuit, circuit_of, read_circuit}
 use Rattle.model.specs.Answers.{gives, refuses, well_formed, circuit_read}
-use Rattle.model.proofs.BooleanLaws.{by_lt}
-use Rattle.model.proofs.ByteAtAPlace.{byte_there, byte_past}
-use Rattle.circuit.specs.GatesInBytes.{input_at, fills}
-use Rattle.circuit.specs.Header.{gates_after, circuit_after}
+use Rattle.circuit.specs.GatesInBytes.{input_of, fills}
+use Rattle.circuit.specs.Header.{counts_fit}
 use Rattle.answers.specs.Structs.{header_of, refused_header}
 use Rattle.answers.specs.declared.CircuitHeader.{CircuitHeader}
-use Rattle.circuit.specs.declared.Header.{Header}
-use Rattle.circuit.specs.declared.HeaderRead.{HeaderRead}
-use Rattle.circuit.specs.declared.HeaderRead.TheVariants.{Opened, NoHeader}
 
--- a reading that needs a byte which is not there is refused, whatever it makes of it
-byte_lacks : (bs : List ℕ) (at : ℕ) (f : ℕ → Input → Parsed Circuit) →
-    (at < length bs → well_formed (f (get_or bs at 0) (input_at bs (at + 1))) ≡ refuses not_well_formed) →
-    well_formed (and_then (byte (input_at bs at)) f) ≡ refuses not_well_formed
-unfolding and_then well_formed
-byte_lacks bs at f h = by_lt at (length bs) (λ l. rw (byte_there bs at 0 l) (h l)) (λ l. rw (byte_past bs at 0 l))
-
+-- a test in front of what is refused
 provided_lacks : (b : Bool) (p : Parsed Circuit) → well_formed p ≡ refuses not_well_formed →
     well_formed (provided b not_well_formed p) ≡ refuses not_well_formed
 unfolding provided well_formed
 provided_lacks true p h = h
 provided_lacks false p h = refl
 
-refused_lacks : {A : Type 0} (p : Parsed A) (f : A → Input → Parsed Circuit) → p ≡ refused table_stops →
-    well_formed (and_then p f) ≡ refuses not_well_formed
-unfolding and_then well_formed
-refused_lacks p f e = rw e
-
--- "4 bytes" of which some are missing
-byte_stops : {A : Type 0} (bs : List ℕ) (at : ℕ) (f : ℕ → Input → Parsed A) →
-    (at < length bs → f (get_or bs at 0) (input_at bs (at + 1)) ≡ refused table_stops) → and_then (byte (input_at bs at)) f ≡ refused table_stops
-unfolding and_then
-byte_stops bs at f h = by_lt at (length bs) (λ l. rw (byte_there bs at 0 l) (h l)) (λ l. rw (byte_past bs at 0 l))
-
-count_stops : (bs : List ℕ) → length bs < header_length → four_byte_number (input_at bs 3) ≡ refused table_stops
-unfolding four_byte_number
-count_stops bs h =
-    byte_stops bs 3 _ (λ a. byte_stops bs 4 _ (λ b. byte_stops bs 5 _ (λ c. byte_stops bs 6 _ (λ d. absurd (omega arith)))))
+-- two tests, one after the other
+twice : {A : Type 0} (b c : Bool) (p : Parsed A) → provided b not_well_formed (provided c not_well_formed p) ≡ provided (b && c) not_well_formed p
+unfolding provided
+twice true c p = refl
+twice false c p = refl
 
 -- a circuit whose header is not all there
-header_stops : (bs : List ℕ) → length bs < header_length → well_formed (circuit_of (input_at bs 0)) ≡ refuses not_well_formed
-unfolding circuit_of
-header_stops bs h =
-    byte_lacks bs 0 _ (λ a. provided_lacks (eqb (get_or bs 0 0) circuit_edition) _
-    (byte_lacks bs 1 _ (λ b. provided_lacks (leb 1 (get_or bs 1 0) && leb (get_or bs 1 0) most_qubits) _
-    (byte_lacks bs 2 _ (λ c. provided_lacks (leb (get_or bs 1 0 + get_or bs 2 0) most_wires) _
-    (refused_lacks (four_byte_number (input_at bs 3)) _ (count_stops bs h)))))))
+header_stops : (bs : List ℕ) → length bs < header_length → well_formed (circuit_of (input_of bs)) ≡ refuses not_well_formed
+unfolding circuit_of four_byte_number byte_of and_then well_formed
+header_stops [] h = refl
+header_stops (e ∷ []) h = provided_lacks (eqb e circuit_edition) _ refl
+header_stops (e ∷ n ∷ []) h = provided_lacks (eqb e circuit_edition) _ (provided_lacks (leb 1 n && leb n most_qubits) _ refl)
+header_stops (e ∷ n ∷ a ∷ bs) h =
+    provided_lacks (eqb e circuit_edition) _ (provided_lacks (leb 1 n && leb n most_qubits) _ (provided_lacks (leb (n + a) most_wires) _ (by bs (omega arith))))
+  where
+    by : (l : List ℕ) → length l < 4 → well_formed (and_then (four_byte_number (input_of l)) (λ count m. whole_circuit n a (read_gates (n + a) count m)))
+        ≡ refuses not_well_formed
+    by [] h = refl
+    by (b ∷ []) h = refl
+    by (b ∷ c ∷ []) h = refl
+    by (b ∷ c ∷ d ∷ []) h = refl
+    by (b ∷ c ∷ d ∷ f ∷ l) h = absurd (omega arith)
 
--- the number in bytes 3 to 6
-abbrev count_in : List ℕ → ℕ
-count_in bs = get_or bs 3 0 + 256 * get_or bs 4 0 + 65536 * get_or bs 5 0 + 16777216 * get_or bs 6 0
+-- "4 bytes little-endian"
+number_is : (a b c d : ℕ) → from_le_bytes w32 (a ∷ b ∷ c ∷ d ∷ []) ≡ a + 256 * b + 65536 * c + 16777216 * d
+number_is a b c d = omega arith
+
+-- a list of at least seven bytes
+abbrev behind : List ℕ → List ℕ
+behind bs = take (length bs - header_length) (drop header_length bs)
+
+seven_first : (bs : List ℕ) → header_length ≤ length bs →
+    bs ≡ get_or bs 0 0 ∷ get_or bs 1 0 ∷ get_or bs 2 0 ∷ get_or bs 3 0 ∷ get_or bs 4 0 ∷ get_or bs 5 0 ∷ get_or bs 6 0 ∷ behind bs
+seven_first (e ∷ n ∷ a ∷ b ∷ c ∷ d ∷ f ∷ l) h =
+    ap (λ x. e ∷ n ∷ a ∷ b ∷ c ∷ d ∷ f ∷ x) (sym (take_all (length (e ∷ n ∷ a ∷ b ∷ c ∷ d ∷ f ∷ l) - 7) l (omega arith)))
+seven_first [] h = absurd (omega arith)
+seven_first (e ∷ []) h = absurd (omega arith)
+seven_first (e ∷ n ∷ []) h = absurd (omega arith)
+seven_first (e ∷ n ∷ a ∷ []) h = absurd (omega arith)
+seven_first (e ∷ n ∷ a ∷ b ∷ []) h = absurd (omega arith)
+seven_first (e ∷ n ∷ a ∷ b ∷ c ∷ []) h = absurd (omega arith)
+seven_first (e ∷ n ∷ a ∷ b ∷ c ∷ d ∷ []) h = absurd (omega arith)
 
 -- the header's tests of at least 7 bytes, then the gates
-opened : (bs : List ℕ) → header_length ≤ length bs →
-    circuit_of (input_at bs 0)
-    ≡ provided (eqb (get_or bs 0 0) circuit_edition) not_well_formed (provided (leb 1 (get_or bs 1 0) && leb (get_or bs 1 0) most_qubits) not_well_formed
-    (provided (leb (get_or bs 1 0 + get_or bs 2 0) most_wires) not_well_formed
-    (whole_circuit (get_or bs 1 0) (get_or bs 2 0) (read_gates (get_or bs 1 0 + get_or bs 2 0) (count_in bs) (input_at bs header_length)))))
-unfolding circuit_of four_byte_number and_then
-opened bs h =
-    rw (
-      byte_there bs 0 0 (omega arith),
-      byte_there bs 1 0 (omega arith),
-      byte_there bs 2 0 (omega arith),
-      byte_there bs 3 0 (omega arith),
-      byte_there bs 4 0 (omega arith),
-      byte_there bs 5 0 (omega arith),
-      byte_there bs 6 0 (omega arith),
-    )
+tests : ℕ → ℕ → ℕ → ℕ → List ℕ → Parsed Circuit
+tests e n a count l =
+    provided (eqb e circuit_edition) not_well_formed (provided (leb 1 n && leb n most_qubits) not_well_formed
+    (provided (leb (n + a) most_wires) not_well_formed (whole_circuit n a (read_gates (n + a) count (input_of l)))))
+
+opened : (e n a b c d f : ℕ) (l : List ℕ) →
+    circuit_of (input_of (e ∷ n ∷ a ∷ b ∷ c ∷ d ∷ f ∷ l)) ≡ tests e n a (from_le_bytes w32 (b ∷ c ∷ d ∷ f ∷ [])) l
+unfolding circuit_of four_byte_number byte_of and_then tests
+opened e n a b c d f l = rw (number_is b c d f)
 
 -- the ways out of `read_header`
 module _ (bs : List ℕ) where
-  pub header_long : most_circuit < length bs → circuit_after bs NoHeader ≡ circuit_read bs
-  unfolding read_circuit provided well_formed circuit_after
+  pub header_long : most_circuit < length bs → refuses not_well_formed ≡ circuit_read bs
+  unfolding read_circuit provided well_formed
   header_long h = rw (lt-leb (length bs) most_circuit h)
 
   module _ (l : length bs ≤ most_circuit) where
-    pub header_short : length bs < header_length → circuit_after bs NoHeader ≡ circuit_read bs
-    unfolding read_circuit provided circuit_after
+    pub header_short : length bs < header_length → refuses not_well_formed ≡ circuit_read bs
+    unfolding read_circuit provided
     header_short h = rw (le-leb (length bs) most_circuit l) (sym (header_stops bs h))
 
     module _ (h : header_length ≤ length bs) where
-      read : read_circuit bs ≡ circuit_of (input_at bs 0)
+      read : read_circuit bs ≡ tests (get_or bs 0 0) (get_or bs 1 0) (get_or bs 2 0)
+          (from_le_bytes w32 (get_or bs 3 0 ∷ get_or bs 4 0 ∷ get_or bs 5 0 ∷ get_or bs 6 0 ∷ [])) (behind bs)
       unfolding read_circuit provided
-      read = rw (le-leb (length bs) most_circuit l)
+      read = rw (le-leb (length bs) most_circuit l) (ap (λ x. circuit_of (input_of x)) (seven_first bs h)
+          ∙ opened (get_or bs 0 0) (get_or bs 1 0) (get_or bs 2 0) (get_or bs 3 0) (get_or bs 4 0) (get_or bs 5 0) (get_or bs 6 0) (behind bs))
 
-      pub header_edition : (get_or bs 0 0 ≡ 1 → ⊥) → circuit_after bs NoHeader ≡ circuit_read bs
-      unfolding provided well_formed circuit_after
-      header_edition f = rw (read, opened bs h, ne_eqb (get_or bs 0 0) 1 f)
+      pub header_edition : (get_or bs 0 0 ≡ 1 → ⊥) → refuses not_well_formed ≡ circuit_read bs
+      unfolding tests provided well_formed
+      header_edition f = rw (read, ne_eqb (get_or bs 0 0) 1 f)
 
-      module _ (e : get_or bs 0 0 ≡ 1) where
-        pub header_none : get_or bs 1 0 ≡ 0 → circuit_after bs NoHeader ≡ circuit_read bs
-        unfolding provided well_formed circuit_after
-        header_none z = rw (read, opened bs h, e, z)
+      module _ (e : get_or bs 0 0 ≡ 1) (good : Bool) (is : good ≡ counts_fit (get_or bs 1 0) (get_or bs 2 0)) where
+        kept : read_circuit bs ≡ provided good not_well_formed (whole_circuit (get_or bs 1 0) (get_or bs 2 0)
+            (read_gates (get_or bs 1 0 + get_or bs 2 0) (from_le_bytes w32 (get_or bs 3 0 ∷ get_or bs 4 0 ∷ get_or bs 5 0 ∷ get_or bs 6 0 ∷ []))
+            (input_of (behind bs))))
+        unfolding tests provided
+        kept = rw (read, e, is) (twice (leb 1 (get_or bs 1 0) && leb (get_or bs 1 0) most_qubits) (leb (get_or bs 1 0 + get_or bs 2 0) most_wires) _)
 
-        module _ (f : get_or bs 1 0 ≡ 0 → ⊥) where
-          pub header_qubits : most_qubits < get_or bs 1 0 → circuit_after bs NoHeader ≡ circuit_read bs
-          unfolding provided well_formed circuit_after
-          header_qubits k = rw (read, opened bs h, e, le-leb 1 (get_or bs 1 0) (omega arith), lt-leb (get_or bs 1 0) most_qubits k)
+        pub header_counts : good ≡ false → refuses not_well_formed ≡ circuit_read bs
+        unfolding provided well_formed
+        header_counts f = rw (kept, f)
 
-          module _ (k : get_or bs 1 0 ≤ most_qubits) where
-            pub header_wires_lem : most_wires - get_or bs 1 0 < get_or bs 2 0 → circuit_after bs NoHeader ≡ circuit_read bs
-            unfolding provided well_formed circuit_after
-            header_wires_lem m =
-                rw (
-                  read,
-                  opened bs h,
-                  e,
-                  le-leb 1 (get_or bs 1 0) (omega arith),
-                  le-leb (get_or bs 1 0) most_qubits k,
-                  lt-leb (get_or bs 1 0 + get_or bs 2 0) most_wires (omega arith),
-                )
+        pub header_opened : good ≡ true → (count : ℕ) →
+            count ≡ from_le_bytes w32 (get_or bs 3 0 ∷ get_or bs 4 0 ∷ get_or bs 5 0 ∷ get_or bs 6 0 ∷ []) →
+            well_formed (whole_circuit (get_or bs 1 0) (get_or bs 2 0) (read_gates (get_or bs 1 0 + get_or bs 2 0) count (input_of (behind bs))))
+            ≡ circuit_read bs
+        unfolding provided
+        header_opened f count q = rw (kept, f, q)
 
-            pub header_opened : get_or bs 2 0 ≤ most_wires - get_or bs 1 0 → (count : ℕ) → count ≡ count_in bs →
-                circuit_after bs (Opened (record {
-                  qubits = get_or bs 1 0;
-                  ancillas = get_or bs 2 0;
-                  wires = get_or bs 1 0 + get_or bs 2 0;
-                  gates = count;
-                })) ≡ circuit_read bs
-            unfolding provided circuit_after
-            header_opened m count q =
-                rw (
-                  read,
-                  opened bs h,
-                  e,
-                  le-leb 1 (get_or bs 1 0) (omega arith),
-                  le-leb (get_or bs 1 0) most_qubits k,
-                  le-leb (get_or bs 1 0 + get_or bs 2 0) most_wires (omega arith),
-                  q,
-                )
-
-pub ruleset headers =
-    (rules, header_long, header_short, header_edition, header_none, header_qubits, header_wires_lem, header_opened)
+pub ruleset headers = (rules, not-true, not-false, header_long, header_short, header_edition, header_counts, header_opened)
 
 -- what was read, if it was, are n gates
 abbrev Counts : ℕ → Parsed (List Gate) → Type 0
@@ -171,34 +147,30 @@ read_counts most (suc n) i = each (read_gate most i) (λ j. read_counts most n j
 
 module _ (n ancillas : ℕ) where
   header_good : (count : ℕ) (p : Parsed (List Gate)) → Counts count p → fills p ≡ true →
-      header_of (well_formed (whole_circuit n ancillas p)) ≡ record { number = 0; qubits = n; ancillas = ancillas; gates = count }
+      header_of (well_formed (whole_circuit n ancillas p)) ≡ record { number = success; qubits = n; ancillas = ancillas; gates = count }
   unfolding and_then provided fills well_formed header_of
   header_good count (parsed gs o) h e = rw (e, h)
   header_good count (refused k) h e = absurd (false≢true e)
 
-  header_bad : (p : Parsed (List Gate)) → fills p ≡ false → header_of (well_formed (whole_circuit n ancillas p)) ≡ refused_header not_well_formed
-  unfolding and_then provided fills well_formed header_of
-  header_bad (parsed gs o) e = rw e
-  header_bad (refused k) e = refl
+  not_filled : (p : Parsed (List Gate)) → fills p ≡ false → refuses not_well_formed ≡ well_formed (whole_circuit n ancillas p)
+  unfolding and_then provided fills well_formed
+  not_filled (parsed gs o) e = rw e
+  not_filled (refused k) e = refl
 
--- the ways out of `read_circuit`
-module _ (bs : List ℕ) (found : HeaderRead) (is : circuit_after bs found ≡ circuit_read bs) where
-  pub circuit_none : found ≡ NoHeader → (x : CircuitHeader) → x ≡ refused_header not_well_formed → x ≡ header_of (circuit_read bs)
-  unfolding circuit_after header_of
-  circuit_none e x q = rw (q, ← is, e)
+-- the ways out of `read_whole`
+pub whole_none : (bs : List ℕ) → refuses not_well_formed ≡ circuit_read bs → refused_header not_well_formed ≡ header_of (circuit_read bs)
+unfolding header_of
+whole_none bs is = rw (← is)
 
-  module _ (h : Header) (e : found ≡ Opened h) (good : Bool) (p : good ≡ fills (gates_after bs h)) where
-    pub circuit_gates : good ≡ false → (x : CircuitHeader) → x ≡ refused_header not_well_formed → x ≡ header_of (circuit_read bs)
-    unfolding circuit_after
-    circuit_gates g x q = rw (q, ← is, e) (sym (header_bad h.qubits h.ancillas (gates_after bs h) (sym p ∙ g)))
+module _ (bs : List ℕ) (n ancillas wires count : ℕ) (l : List ℕ)
+    (is : well_formed (whole_circuit n ancillas (read_gates wires count (input_of l))) ≡ circuit_read bs)
+    (good : Bool) (good_is : good ≡ fills (read_gates wires count (input_of l))) where
+  pub whole_bad : good ≡ false → refuses not_well_formed ≡ circuit_read bs
+  whole_bad g = not_filled n ancillas (read_gates wires count (input_of l)) (sym good_is ∙ g) ∙ is
 
-    pub circuit_whole : good ≡ true →
-        record { number = 0; qubits = h.qubits; ancillas = h.ancillas; gates = h.gates } ≡ header_of (circuit_read bs)
-    unfolding circuit_after
-    circuit_whole g = rw (← is, e) (sym (header_good h.qubits h.ancillas h.gates (gates_after bs h)
-        (read_counts h.wires h.gates (input_at bs header_length)) (sym p ∙ g)))
-
-pub ruleset circuits = (rules, not-true, not-false, circuit_none, circuit_gates, circuit_whole)
+  pub whole_good : good ≡ true → record { number = success; qubits = n; ancillas = ancillas; gates = count } ≡ header_of (circuit_read bs)
+  whole_good g = rw (← is) (sym (header_good n ancillas count (read_gates wires count (input_of l))
+      (read_counts wires count (input_of l)) (sym good_is ∙ g)))
 
 -- number 0 says that there is a circuit
 pub read_gives : (bs : List ℕ) (h : CircuitHeader) → h ≡ header_of (circuit_read bs) → h.number ≡ 0 → (c : Circuit) × (circuit_read bs ≡ gives c)

@@ -1,68 +1,34 @@
--- The ways out of a gate's checks, and that these checks are document 01's.
-use mathlib.Core.Path.{◌≡◌, refl}
+-- The ways out of a gate's checks: these checks are document 01's.
+use mathlib.Core.Path.{◌≡◌}
 use mathlib.Core.Bool.{Bool, true, false, not}
 use mathlib.Core.List.{List}
-use Prim.Native.Nat.{ℕ, ◌≤◌, ◌<◌}
-use native.Mathlib.Omega.{arith}
+use Prim.Native.Nat.{ℕ, ◌<◌}
 use borrow.Author.Rules.{rules}
-use borrow.Author.Tests.{lt-ltb, le-ltb, le-leb, not-true, not-false}
-use lib.Dec.{leb}
+use borrow.Author.Tests.{not-true, not-false}
 use Rattle.limits.specs.Sizes.{wire_count}
 use Rattle.model.specs.Circuit.{gate_is_well_formed}
+use Rattle.circuit.specs.declared.Action.{Action}
+use Rattle.circuit.specs.GatesInBytes.{gate_with}
+use Rattle.circuit.specs.GateChecks.{list_fits, set_of, any_in, placed, own_wires}
 use Rattle.circuit.proofs.WellFormedGate.{checked_is}
-use Rattle.circuit.specs.declared.GateAt.{GateAt}
-use Rattle.circuit.specs.GatesInBytes.{list_in, gate_in}
-use Rattle.circuit.specs.GateChecks.{list_fits, set_of, any_in, placed, last_wire, checked}
-
--- the ways out of `placed`
-module _ (most : ℕ) (swaps : Bool) (u v : ℕ) where
-  pub placed_zero : u ≡ 0 → false ≡ placed most swaps u v
-  unfolding placed
-  placed_zero e = rw e (by swaps)
-    where
-      by : (b : Bool) → false ≡ placed most b 0 v
-      by true = refl
-      by false = refl
-
-  module _ (f : u ≡ 0 → ⊥) where
-    pub placed_flip : swaps ≡ false → leb u most ≡ placed most swaps u v
-    unfolding placed
-    placed_flip s = rw (s, le-leb 1 u (omega arith))
-
-    module _ (s : swaps ≡ true) where
-      pub placed_order : v ≤ u → false ≡ placed most swaps u v
-      unfolding placed
-      placed_order h = rw (s, le-leb 1 u (omega arith), le-ltb u v h)
-
-      pub placed_swap : u < v → leb v most ≡ placed most swaps u v
-      unfolding placed
-      placed_swap h = rw (s, le-leb 1 u (omega arith), lt-ltb u v h)
-
-pub ruleset places = (rules, not-true, not-false, placed_zero, placed_flip, placed_order, placed_swap)
 
 -- the ways out of `well_formed`
-module _ (bs : List ℕ) (g : GateAt) (most : ℕ) (h : most < wire_count) (own : Bool) (is : own ≡ placed most g.swaps g.target g.second) where
-  formed : gate_is_well_formed most (gate_in bs g) ≡ checked most g.swaps (list_in bs g.ones) (list_in bs g.zeros) g.target g.second
-  formed = checked_is most h (list_in bs g.ones) (list_in bs g.zeros) g.target g.second g.swaps
+module _ (most : ℕ) (h : most < wire_count) (a : Action) (ones zeros : List ℕ) (own : Bool) (own_is : own ≡ placed most a) where
+  abbrev Judges : Bool → Type 0
+  Judges b = b ≡ gate_is_well_formed most (gate_with a (record { ones = ones; zeros = zeros }))
 
-  pub formed_own : own ≡ false → false ≡ gate_is_well_formed most (gate_in bs g)
-  unfolding checked
-  formed_own e = rw (formed, ← is, e)
+  pub formed_own : own ≡ false → Judges false
+  formed_own e = rw (checked_is most h ones zeros a, ← own_is, e)
 
-  module _ (e : own ≡ true) (last : ℕ) (l : last ≡ last_wire g.swaps g.target g.second)
-      (one : Bool) (p : one ≡ list_fits 0 most g.target last (list_in bs g.ones)) where
-    pub formed_ones : one ≡ false → false ≡ gate_is_well_formed most (gate_in bs g)
-    unfolding checked
-    formed_ones f = rw (formed, ← is, e, ← l, ← p, f)
+  module _ (e : own ≡ true) (wires : ℕ × ℕ) (wires_is : wires ≡ own_wires a) (one : Bool) (one_is : one ≡ list_fits 0 most wires.0 wires.1 ones) where
+    pub formed_ones : one ≡ false → Judges false
+    formed_ones f = rw (checked_is most h ones zeros a, ← own_is, e, ← wires_is, ← one_is, f)
 
-    module _ (f : one ≡ true) (other : Bool) (q : other ≡ list_fits 0 most g.target last (list_in bs g.zeros)) where
-      pub formed_zeros : other ≡ false → false ≡ gate_is_well_formed most (gate_in bs g)
-      unfolding checked
-      formed_zeros i = rw (formed, ← is, e, ← l, ← p, f, ← q, i)
+    module _ (f : one ≡ true) (other : Bool) (other_is : other ≡ list_fits 0 most wires.0 wires.1 zeros) where
+      pub formed_zeros : other ≡ false → Judges false
+      formed_zeros i = rw (checked_is most h ones zeros a, ← own_is, e, ← wires_is, ← one_is, f, ← other_is, i)
 
-      pub formed_shared : other ≡ true → (shared : Bool) → shared ≡ any_in (set_of (list_in bs g.zeros)) (list_in bs g.ones) →
-          not shared ≡ gate_is_well_formed most (gate_in bs g)
-      unfolding checked
-      formed_shared i shared r = rw (formed, ← is, e, ← l, ← p, f, ← q, i, ← r)
+      pub formed_shared : other ≡ true → (shared : Bool) → shared ≡ any_in (set_of zeros) ones → Judges (not shared)
+      formed_shared i shared shared_is = rw (checked_is most h ones zeros a, ← own_is, e, ← wires_is, ← one_is, f, ← other_is, i, ← shared_is)
 
 pub ruleset forms = (rules, not-true, not-false, formed_own, formed_ones, formed_zeros, formed_shared)

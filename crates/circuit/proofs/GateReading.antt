@@ -2,28 +2,22 @@
 use mathlib.Core.Path.{◌≡◌, refl, sym, ap, ◌∙◌}
 use mathlib.Core.Bool.{Bool, true, false}
 use mathlib.Core.List.{List, [], ◌∷◌}
-use Prim.Native.Nat.{ℕ, zero, suc, ◌+◌, ◌-◌, ◌/◌, ◌%◌, ◌≤◌, ◌<◌}
+use Prim.Native.Nat.{ℕ, zero, suc, ◌+◌, ◌-◌, ◌≤◌, ◌<◌}
 use native.Mathlib.Numerals.{sub-one}
-use native.Mathlib.Nat.{div-one}
 use native.Mathlib.Omega.{arith}
 use borrow.Author.Rules.{rules}
-use borrow.Author.Tests.{eq-eqb, ne_eqb, lt-ltb, le-ltb, le-leb, lt-leb, not-true, not-false}
-use lib.ListN.{length, get_or, length-drop}
-use lib.Dec.{eqb, ltb, leb}
+use borrow.Author.Tests.{lt-ltb, le-ltb, not-true, not-false}
+use lib.ListN.{length, get_or, take, drop}
+use lib.Seq.{take_all}
+use lib.Dec.{eqb, ltb}
 use Rattle.model.specs.Limits.{not_well_formed}
-use Rattle.model.specs.Reading.{Input, Parsed, parsed, refused, and_then, provided, optional, stands}
+use Rattle.model.specs.Reading.{Input, Parsed, parsed, refused, and_then, provided, byte_of, optional, stands}
 use Rattle.model.specs.Reading as reading
-use Rattle.model.specs.Gates.{Gate}
+use Rattle.model.specs.Gates.{Gate, flip, swap}
 use Rattle.model.specs.Circuit.{wire_list, gate_of, gate_is_well_formed, read_gate, read_gates}
-use Rattle.model.proofs.BooleanLaws.{by_bool, by_lt}
-use Rattle.model.proofs.ByteAtAPlace.{byte_there, byte_past}
-use Rattle.circuit.specs.GatesInBytes.{input_at, settled, fills, list_in, list_parsed, gate_in, gate_parsed, gate_checked, gate_end, gate_written}
-use Rattle.circuit.specs.declared.WireList.{WireList}
-use Rattle.circuit.specs.declared.ListRead.{ListRead}
-use Rattle.circuit.specs.declared.ListRead.TheVariants.{Wires, NoWires}
-use Rattle.circuit.specs.declared.GateAt.{GateAt}
-use Rattle.circuit.specs.declared.GateRead.{GateRead}
-use Rattle.circuit.specs.declared.GateRead.TheVariants.{Found, NoGate}
+use Rattle.model.proofs.BooleanLaws.{by_bool}
+use Rattle.circuit.specs.GatesInBytes.{input_of, settled, fills, gate_checked, gate_written}
+use Rattle.circuit.proofs.WireListReading.{length-zero}
 
 -- what was read was parsed, and what was refused ends the reading
 pub settled_parsed : {A : Type 0} (p : Parsed A) (a : A) (i : Input) → parsed a i ≡ settled p → p ≡ parsed a i
@@ -37,118 +31,89 @@ unfolding settled and_then
 settled_refused (parsed b j) k f e = let z : ◌≡◌ {A = ℕ} 0 1 = cc in absurd (omega arith)
 settled_refused (refused n) k f e = refl
 
-settled_checked : (most : ℕ) (g : Gate) (i : Input) → settled (gate_checked most g i) ≡ gate_checked most g i
-unfolding settled provided
-settled_checked most g i = by_bool (gate_is_well_formed most g) (λ e. rw e) (λ e. rw e)
+-- a list of at least two bytes
+two_first : (bs : List ℕ) → 2 ≤ length bs → bs ≡ get_or bs 0 0 ∷ get_or bs 1 0 ∷ take (length bs - 2) (drop 2 bs)
+two_first [] h = absurd (omega arith)
+two_first (a ∷ []) h = absurd (omega arith)
+two_first (a ∷ b ∷ bs) h = ap (λ l. a ∷ b ∷ l) (sym (take_all (suc (suc (length bs)) - 2) bs (omega arith)))
 
--- the ways out of `check-gate`
-module _ (bs : List ℕ) (g : GateAt) (most : ℕ) (good : Bool) (is : good ≡ gate_is_well_formed most (gate_in bs g)) where
-  pub check_good : good ≡ true → gate_parsed bs (Found g) ≡ gate_checked most (gate_in bs g) (input_at bs g.next)
-  unfolding gate_parsed provided
-  check_good e = rw (← is, e)
+-- a gate behind its map, its target and the lists of its controls
+abbrev after_zeros : ℕ → ℕ → List ℕ → List ℕ → Input → Parsed Gate
+after_zeros map target ones zeros i = gate_of (stands 2 map) (record { ones = ones; zeros = zeros }) target i
 
-  pub check_bad : good ≡ false → gate_parsed bs NoGate ≡ gate_checked most (gate_in bs g) (input_at bs g.next)
-  unfolding gate_parsed provided
-  check_bad e = rw (← is, e)
-
-pub ruleset gate-checks = (rules, check_good, check_bad)
-
--- the ways out of `end_gate`
-module _ (bs : List ℕ) (target : ℕ) (ones zeros : WireList) (swaps : Bool) where
-  abbrev Ends : GateRead → Type 0
-  Ends r = gate_parsed bs r ≡ settled (gate_end swaps (list_in bs ones) (list_in bs zeros) target (input_at bs zeros.next))
-
-  pub end_flip : swaps ≡ false → Ends (Found (record { target = target; ones = ones; zeros = zeros; swaps = false; second = 0; next = zeros.next }))
-  unfolding gate_parsed settled gate_of
-  end_flip e = rw e
-
-  pub end_swap : swaps ≡ true → zeros.next < length bs →
-      Ends (Found (record { target = target; ones = ones; zeros = zeros; swaps = true; second = get_or bs zeros.next 0; next = zeros.next + 1 }))
-  unfolding gate_parsed settled and_then gate_of
-  end_swap e h = rw (e, byte_there bs zeros.next 0 h)
-
-  pub end_short : swaps ≡ true → length bs ≤ zeros.next → Ends NoGate
-  unfolding gate_parsed settled and_then gate_of
-  end_short e h = rw (e, byte_past bs zeros.next 0 h)
-
-pub ruleset ends = (rules, not-true, not-false, end_flip, end_swap, end_short)
-
--- a gate behind its map, its target and the first list of its controls
 abbrev after_ones : ℕ → ℕ → List ℕ → Input → Parsed Gate
-after_ones map target ones i =
-    and_then (optional (eqb (map / 2 % 2) 1) wire_list [] i) (λ zeros j. gate_end (eqb (map / 4 % 2) 1) ones zeros target j)
+after_ones map target ones i = and_then (optional (stands 1 map) wire_list [] i) (λ zeros j. after_zeros map target ones zeros j)
+
+abbrev after_target : ℕ → ℕ → Input → Parsed Gate
+after_target map target i = and_then (optional (stands 0 map) wire_list [] i) (λ ones j. after_ones map target ones j)
 
 -- the ways out of `gate_at`
-module _ (bs : List ℕ) (at : ℕ) where
-  gate_lacks : length bs < at + 2 → gate_parsed bs NoGate ≡ settled (gate_written (input_at bs at))
-  unfolding gate_parsed settled gate_written and_then
-  gate_lacks h = by_lt at (length bs)
-      (λ l. rw (byte_there bs at 0 l, byte_past bs (at + 1) 0 (omega arith)))
-      (λ l. rw (byte_past bs at 0 l))
+pub gate_lacks : (bs : List ℕ) → length bs < 2 → refused not_well_formed ≡ settled (gate_written (input_of bs))
+unfolding settled gate_written byte_of and_then
+gate_lacks [] h = refl
+gate_lacks (a ∷ []) h = refl
+gate_lacks (a ∷ b ∷ l) h = absurd (omega arith)
 
-  pub gate_none : length bs < 2 → gate_parsed bs NoGate ≡ settled (gate_written (input_at bs at))
-  gate_none h = gate_lacks (omega arith)
+opened : (map target : ℕ) (l : List ℕ) →
+    gate_written (input_of (map ∷ target ∷ l)) ≡ provided (ltb map 8) not_well_formed (after_target map target (input_of l))
+unfolding gate_written byte_of and_then
+opened map target l = refl
 
-  module _ (l : 2 ≤ length bs) where
-    pub gate_short : length bs - 2 < at → gate_parsed bs NoGate ≡ settled (gate_written (input_at bs at))
-    gate_short h = gate_lacks (omega arith)
+module _ (bs : List ℕ) (h : 2 ≤ length bs) where
+  abbrev Settles : Parsed Gate → Type 0
+  Settles p = p ≡ settled (gate_written (input_of bs))
 
-    module _ (h : at ≤ length bs - 2) where
-      opened : gate_written (input_at bs at) ≡ provided (ltb (get_or bs at 0) 8) not_well_formed
-          (and_then (optional (eqb (get_or bs at 0 % 2) 1) wire_list [] (input_at bs (at + 2)))
-          (λ ones i. after_ones (get_or bs at 0) (get_or bs (at + 1) 0) ones i))
-      unfolding gate_written and_then
-      opened =
-          let e : (at + 1) + 1 ≡ at + 2 = omega arith in
-          rw (byte_there bs at 0 (omega arith), byte_there bs (at + 1) 0 (omega arith), e, div-one (get_or bs at 0))
+  with_two : gate_written (input_of bs)
+      ≡ provided (ltb (get_or bs 0 0) 8) not_well_formed (after_target (get_or bs 0 0) (get_or bs 1 0) (input_of (take (length bs - 2) (drop 2 bs))))
+  with_two = ap (λ l. gate_written (input_of l)) (two_first bs h)
+      ∙ opened (get_or bs 0 0) (get_or bs 1 0) (take (length bs - 2) (drop 2 bs))
 
-      pub gate_map : 7 < get_or bs at 0 → gate_parsed bs NoGate ≡ settled (gate_written (input_at bs at))
-      unfolding gate_parsed settled provided
-      gate_map k = rw (opened, le-ltb (get_or bs at 0) 8 (omega arith))
+  pub gate_map : 7 < get_or bs 0 0 → Settles (refused not_well_formed)
+  unfolding settled provided
+  gate_map k = rw (with_two, le-ltb (get_or bs 0 0) 8 (omega arith))
 
-      module _ (k : get_or bs at 0 ≤ 7) (x : ListRead)
-          (p : list_parsed bs x ≡ settled (optional (eqb (get_or bs at 0 % 2) 1) wire_list [] (input_at bs (at + 2)))) where
-        kept : gate_written (input_at bs at) ≡ and_then (optional (eqb (get_or bs at 0 % 2) 1) wire_list [] (input_at bs (at + 2)))
-            (λ ones i. after_ones (get_or bs at 0) (get_or bs (at + 1) 0) ones i)
-        unfolding provided
-        kept = rw (opened, lt-ltb (get_or bs at 0) 8 (omega arith))
+  module _ (k : get_or bs 0 0 ≤ 7) (b : Bool) (b_is : b ≡ stands 0 (get_or bs 0 0)) where
+    with_map : gate_written (input_of bs) ≡ and_then (optional b wire_list [] (input_of (take (length bs - 2) (drop 2 bs))))
+        (λ ones j. after_ones (get_or bs 0 0) (get_or bs 1 0) ones j)
+    unfolding provided
+    with_map = rw (with_two, lt-ltb (get_or bs 0 0) 8 (omega arith), b_is)
 
-        pub gate_ones : x ≡ NoWires → gate_parsed bs NoGate ≡ settled (gate_written (input_at bs at))
-        unfolding gate_parsed list_parsed
-        gate_ones e = rw kept
-            (settled_refused (optional (eqb (get_or bs at 0 % 2) 1) wire_list [] (input_at bs (at + 2))) not_well_formed
-            (λ ones i. after_ones (get_or bs at 0) (get_or bs (at + 1) 0) ones i) (rw e at p))
+    pub gate_ones : refused not_well_formed ≡ settled (optional b wire_list [] (input_of (take (length bs - 2) (drop 2 bs)))) →
+        Settles (refused not_well_formed)
+    gate_ones e = rw with_map (settled_refused (optional b wire_list [] (input_of (take (length bs - 2) (drop 2 bs)))) not_well_formed
+        (λ ones j. after_ones (get_or bs 0 0) (get_or bs 1 0) ones j) e)
 
-        module _ (ones : WireList) (e : x ≡ Wires ones) (y : ListRead)
-            (q : list_parsed bs y ≡ settled (optional (eqb (get_or bs at 0 / 2 % 2) 1) wire_list [] (input_at bs ones.next))) where
-          with_ones : gate_written (input_at bs at) ≡ after_ones (get_or bs at 0) (get_or bs (at + 1) 0) (list_in bs ones) (input_at bs ones.next)
-          unfolding list_parsed and_then
-          with_ones =
-              rw (
-                kept,
-                settled_parsed (optional (eqb (get_or bs at 0 % 2) 1) wire_list [] (input_at bs (at + 2)))
-                    (list_in bs ones) (input_at bs ones.next) (rw e at p),
-              )
+    module _ (ones l : List ℕ) (p : parsed ones (input_of l) ≡ settled (optional b wire_list [] (input_of (take (length bs - 2) (drop 2 bs)))))
+        (d : Bool) (d_is : d ≡ stands 1 (get_or bs 0 0)) where
+      with_ones : gate_written (input_of bs) ≡ and_then (optional d wire_list [] (input_of l))
+          (λ zeros j. after_zeros (get_or bs 0 0) (get_or bs 1 0) ones zeros j)
+      unfolding and_then
+      with_ones = rw (with_map, settled_parsed (optional b wire_list [] (input_of (take (length bs - 2) (drop 2 bs)))) ones (input_of l) p, d_is)
 
-          pub gate_zeros : y ≡ NoWires → gate_parsed bs NoGate ≡ settled (gate_written (input_at bs at))
-          unfolding gate_parsed list_parsed
-          gate_zeros f = rw with_ones
-              (settled_refused (optional (eqb (get_or bs at 0 / 2 % 2) 1) wire_list [] (input_at bs ones.next)) not_well_formed
-              (λ zeros i. gate_end (eqb (get_or bs at 0 / 4 % 2) 1) (list_in bs ones) zeros (get_or bs (at + 1) 0) i) (rw f at q))
+      pub gate_zeros : refused not_well_formed ≡ settled (optional d wire_list [] (input_of l)) → Settles (refused not_well_formed)
+      gate_zeros e = rw with_ones (settled_refused (optional d wire_list [] (input_of l)) not_well_formed
+          (λ zeros j. after_zeros (get_or bs 0 0) (get_or bs 1 0) ones zeros j) e)
 
-          pub gate_end_lem : (zeros : WireList) → y ≡ Wires zeros → (r : GateRead) →
-              gate_parsed bs r ≡ settled (gate_end (eqb (get_or bs at 0 / 4 % 2) 1) (list_in bs ones) (list_in bs zeros) (get_or bs (at + 1) 0)
-              (input_at bs zeros.next)) →
-              gate_parsed bs r ≡ settled (gate_written (input_at bs at))
-          unfolding list_parsed and_then
-          gate_end_lem zeros f r s =
-              rw (
-                with_ones,
-                settled_parsed (optional (eqb (get_or bs at 0 / 2 % 2) 1) wire_list [] (input_at bs ones.next))
-                    (list_in bs zeros) (input_at bs zeros.next) (rw f at q),
-              ) s
+      module _ (zeros m : List ℕ) (q : parsed zeros (input_of m) ≡ settled (optional d wire_list [] (input_of l)))
+          (swaps : Bool) (swaps_is : swaps ≡ stands 2 (get_or bs 0 0)) where
+        with_zeros : gate_written (input_of bs) ≡ gate_of swaps (record { ones = ones; zeros = zeros }) (get_or bs 1 0) (input_of m)
+        unfolding and_then
+        with_zeros = rw (with_ones, settled_parsed (optional d wire_list [] (input_of l)) zeros (input_of m) q, swaps_is)
 
-pub ruleset gates = (rules, gate_none, gate_short, gate_map, gate_ones, gate_zeros, gate_end_lem)
+        pub gate_flip : swaps ≡ false → Settles (parsed (flip (record { ones = ones; zeros = zeros }) (get_or bs 1 0)) (input_of m))
+        unfolding settled gate_of
+        gate_flip e = rw (with_zeros, e)
+
+        pub gate_short : swaps ≡ true → length m ≡ 0 → Settles (refused not_well_formed)
+        unfolding settled gate_of and_then byte_of
+        gate_short e f = rw (with_zeros, e, length-zero m f)
+
+        pub gate_swap : swaps ≡ true → (second : ℕ) (o : List ℕ) → m ≡ second ∷ o →
+            Settles (parsed (swap (record { ones = ones; zeros = zeros }) (get_or bs 1 0) second) (input_of o))
+        unfolding settled gate_of and_then byte_of
+        gate_swap e second o f = rw (with_zeros, e, f)
+
+pub ruleset gates = (rules, not-true, not-false, gate_lacks, gate_map, gate_ones, gate_zeros, gate_flip, gate_short, gate_swap)
 
 -- reading in two steps: first this, then that
 then_then : {A B C : Type 0} (p : Parsed A) (f : A → Input → Parsed B) (g : B → Input → Parsed C) (h : A → Input → Parsed C) →
@@ -184,23 +149,20 @@ read_written most i j g e = go (gate_written i) (rw (read_is most i) at e)
     go (refused k) f = let z : ◌≡◌ {A = ℕ} 0 1 = cc in absurd (omega arith)
 
 -- the ways out of `read_gate`
-module _ (bs : List ℕ) (at most : ℕ) (x : GateRead) (p : gate_parsed bs x ≡ settled (gate_written (input_at bs at))) where
-  pub read_none : x ≡ NoGate → gate_parsed bs NoGate ≡ settled (read_gate most (input_at bs at))
-  unfolding gate_parsed
-  read_none e = rw (read_is most (input_at bs at))
-      (settled_refused (gate_written (input_at bs at)) not_well_formed (λ g j. gate_checked most g j) (rw e at p))
+module _ (most : ℕ) (i : Input) where
+  pub read_none : refused not_well_formed ≡ settled (gate_written i) → refused not_well_formed ≡ settled (read_gate most i)
+  read_none e = rw (read_is most i) (settled_refused (gate_written i) not_well_formed (λ g j. gate_checked most g j) e)
 
-  pub read_judged : (g : GateAt) → x ≡ Found g → (r : GateRead) → gate_parsed bs r ≡ gate_checked most (gate_in bs g) (input_at bs g.next) →
-      gate_parsed bs r ≡ settled (read_gate most (input_at bs at))
-  unfolding gate_parsed and_then
-  read_judged g e r s =
-      rw (
-        read_is most (input_at bs at),
-        settled_parsed (gate_written (input_at bs at)) (gate_in bs g) (input_at bs g.next) (rw e at p),
-      )
-      (s ∙ sym (settled_checked most (gate_in bs g) (input_at bs g.next)))
+  module _ (g : Gate) (j : Input) (p : parsed g j ≡ settled (gate_written i)) (good : Bool) (is : good ≡ gate_is_well_formed most g) where
+    pub read_bad : good ≡ false → refused not_well_formed ≡ settled (read_gate most i)
+    unfolding settled and_then provided
+    read_bad e = rw (read_is most i, settled_parsed (gate_written i) g j p, ← is, e)
 
-pub ruleset judged = (rules, read_none, read_judged)
+    pub read_good : good ≡ true → parsed g j ≡ settled (read_gate most i)
+    unfolding settled and_then provided
+    read_good e = rw (read_is most i, settled_parsed (gate_written i) g j p, ← is, e)
+
+pub ruleset judged = (rules, not-true, not-false, read_none, read_bad, read_good)
 
 fills_settled : {A : Type 0} (p : Parsed A) → fills (settled p) ≡ fills p
 unfolding fills settled
@@ -224,35 +186,28 @@ fills_more most (suc n) i h = rw (sub-one, read_gates) (each (read_gate most i))
     each (parsed g j) = fills_front (read_gates most n j) g
     each (refused k) = refl
 
--- what the loop of `gates_fill` keeps: whether all the gates fill the bytes is whether those that are left do
-module _ (bs : List ℕ) (at most left : ℕ) (whole : Bool) (inv : whole ≡ fills (read_gates most left (input_at bs at))) where
-  pub fill_end : left ≤ 0 → leb (length bs) at ≡ whole
+-- what the loop of `gates_fill` keeps: whether all the gates fill the input is whether those that are to come fill what is left
+module _ (most count k : ℕ) (l : List ℕ) (whole : Bool) (inv : whole ≡ fills (read_gates most (count - k) (input_of l))) where
+  pub fill_end : count ≤ k → (empty : Bool) → empty ≡ eqb (length l) 0 → empty ≡ whole
   unfolding read_gates fills
-  fill_end h =
-      let z : left ≡ 0 = omega arith in
-      rw (inv, z, length-drop at bs)
-      (by_lt at (length bs)
-      (λ l. rw (lt-leb (length bs) at l, ne_eqb (length bs - at) 0 (λ e. omega arith)))
-      (λ l. rw (le-leb (length bs) at l, eq-eqb (length bs - at) 0 (omega arith))))
+  fill_end h empty is = let z : count - k ≡ 0 = omega arith in rw (is, inv, z)
 
-  module _ (h : 0 < left) (x : GateRead) (p : gate_parsed bs x ≡ settled (read_gate most (input_at bs at))) where
-    pub fill_bad : x ≡ NoGate → false ≡ whole
-    unfolding gate_parsed fills
+  module _ (h : k < count) where
+    pub fill_bad : refused not_well_formed ≡ settled (read_gate most (input_of l)) → false ≡ whole
+    unfolding fills
     fill_bad e =
         rw (
           inv,
-          fills_more most left (input_at bs at) h,
-          ← fills_settled (and_then (read_gate most (input_at bs at)) (λ g j. read_gates most (left - 1) j)),
-          ← settled_refused (read_gate most (input_at bs at)) not_well_formed (λ g j. read_gates most (left - 1) j) (rw e at p),
+          fills_more most (count - k) (input_of l) (omega arith),
+          ← fills_settled (and_then (read_gate most (input_of l)) (λ g j. read_gates most (count - k - 1) j)),
+          ← settled_refused (read_gate most (input_of l)) not_well_formed (λ g j. read_gates most (count - k - 1) j) e,
         )
 
-    pub fill_next : (g : GateAt) → x ≡ Found g → whole ≡ fills (read_gates most (left - 1) (input_at bs g.next))
-    unfolding gate_parsed and_then
-    fill_next g e =
-        rw (
-          inv,
-          fills_more most left (input_at bs at) h,
-          settled_parsed (read_gate most (input_at bs at)) (gate_in bs g) (input_at bs g.next) (rw e at p),
-        )
+    pub fill_next : (g : Gate) (o : List ℕ) → parsed g (input_of o) ≡ settled (read_gate most (input_of l)) →
+        whole ≡ fills (read_gates most (count - (k + 1)) (input_of o))
+    unfolding and_then
+    fill_next g o e =
+        let n : count - k - 1 ≡ count - (k + 1) = omega arith in
+        rw (inv, fills_more most (count - k) (input_of l) (omega arith), settled_parsed (read_gate most (input_of l)) g (input_of o) e, n)
 
 pub ruleset filled = (rules, fill_end, fill_bad, fill_next)

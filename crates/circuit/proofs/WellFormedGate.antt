@@ -12,8 +12,10 @@ use Rattle.model.specs.Circuit.{wires, controls_of, ascends, distinct, within, l
 use Rattle.model.proofs.BooleanLaws.{by_bool, by_lt, same_test, and_left, and_right, and_both, not_not}
 use Rattle.model.proofs.ListLaws.{member_append}
 use Rattle.model.proofs.AscendingWires.{ascends_tail, ascends_fresh, ascends_distinct, within_head, within_tail, within_append}
+use Rattle.circuit.specs.declared.Action.{Action}
+use Rattle.circuit.specs.declared.Action.TheVariants.{Not, Swap}
 use Rattle.circuit.specs.GatesInBytes.{gate_with}
-use Rattle.circuit.specs.GateChecks.{list_fits, set_of, any_in, placed, checked}
+use Rattle.circuit.specs.GateChecks.{list_fits, set_of, any_in, checked}
 use Rattle.circuit.proofs.WireSets.{set_has}
 
 -- the wires ascend from above `low` to at most `most`
@@ -147,36 +149,36 @@ swap_order false false false false true own zeros = simp and-false
 swap_order false false false false false own zeros = simp and-true
 
 -- the code's checks are document 01's
-module _ (most : ℕ) (h : most < wire_count) (ones zeros : List ℕ) (u v : ℕ) where
-  abbrev Same : Bool → Type 0
-  Same swaps = gate_is_well_formed most (gate_with swaps (record { ones = ones; zeros = zeros }) u v) ≡ checked most swaps ones zeros u v
+module _ (most : ℕ) (h : most < wire_count) (ones zeros : List ℕ) where
+  abbrev Same : Action → Type 0
+  Same a = gate_is_well_formed most (gate_with a (record { ones = ones; zeros = zeros })) ≡ checked most a ones zeros
 
   -- the checks of a list that does not ascend, or not within the bounds, fail on both sides
-  same_lists : (swaps : Bool) → (ascends ones ≡ true → ascends zeros ≡ true → within most ones ≡ true → Same swaps) → Same swaps
-  unfolding gate_is_well_formed checked controls_of within wires
-  same_lists swaps f = by_bool (ascends ones)
+  same_lists : (a : Action) → (ascends ones ≡ true → ascends zeros ≡ true → within most ones ≡ true → Same a) → Same a
+  unfolding gate_is_well_formed controls_of within wires
+  same_lists act f = by_bool (ascends ones)
       (λ a. by_bool (ascends zeros)
       (λ b. by_bool (within most ones)
       (λ i. f a b i)
-      (λ i. by_within swaps i))
-      (λ b. by_zeros swaps b))
-      (λ a. by_ones swaps a)
+      (λ i. by_within act i))
+      (λ b. by_zeros act b))
+      (λ a. by_ones act a)
     where
-      by_ones : (swaps : Bool) → ascends ones ≡ false → Same swaps
-      by_ones true a = simp (fits_is, a, and-false)
-      by_ones false a = simp (fits_is, a, and-false)
+      by_ones : (act : Action) → ascends ones ≡ false → Same act
+      by_ones (Not u) a = simp (fits_is, a, and-false)
+      by_ones (Swap u v) a = simp (fits_is, a, and-false)
 
-      by_zeros : (swaps : Bool) → ascends zeros ≡ false → Same swaps
-      by_zeros true a = simp (fits_is, a, and-false)
-      by_zeros false a = simp (fits_is, a, and-false)
+      by_zeros : (act : Action) → ascends zeros ≡ false → Same act
+      by_zeros (Not u) a = simp (fits_is, a, and-false)
+      by_zeros (Swap u v) a = simp (fits_is, a, and-false)
 
-      by_within : (swaps : Bool) → within most ones ≡ false → Same swaps
-      by_within true a = simp (fits_is, within_append, a, and-false)
-      by_within false a = simp (fits_is, within_append, a, and-false)
+      by_within : (act : Action) → within most ones ≡ false → Same act
+      by_within (Not u) a = simp (fits_is, within_append, a, and-false)
+      by_within (Swap u v) a = simp (fits_is, within_append, a, and-false)
 
-  pub checked_is : (swaps : Bool) → Same swaps
-  unfolding gate_is_well_formed checked placed wires controls_of lower_first distinct within member
-  checked_is false = same_lists false (λ a b i. rw (
+  pub checked_is : (a : Action) → Same a
+  unfolding gate_is_well_formed wires controls_of lower_first distinct within member
+  checked_is (Not u) = same_lists (Not u) (λ a b i. rw (
     a,
     b,
     fits_is most u u ones,
@@ -190,7 +192,7 @@ module _ (most : ℕ) (h : most < wire_count) (ones zeros : List ℕ) (u v : ℕ
     i,
   )
       (flip_order (member u ones) (member u zeros) (any_in (set_of zeros) ones) (leb 1 u && leb u most) (within most zeros)))
-  checked_is true = same_lists true (λ a b i. by_bool (ltb u v)
+  checked_is (Swap u v) = same_lists (Swap u v) (λ a b i. by_bool (ltb u v)
       (λ l. by_bool (leb v most)
       (λ m. let p : u < v = ltb-true u v l in let q : v ≤ most = leb-true v most m in rw (
         a,

@@ -2,33 +2,26 @@
 use mathlib.Core.Path.{◌≡◌, refl, sym, ◌∙◌}
 use mathlib.Core.Bool.{Bool, true, false, ◌||◌, or-true, or-false, or_assoc}
 use mathlib.Core.List.{List, [], ◌∷◌}
-use Prim.Native.Nat.{ℕ, ◌+◌, ◌-◌, ◌≤◌, ◌<◌}
+use Prim.Native.Nat.{ℕ, ◌+◌, ◌≤◌, ◌<◌}
 use native.Mathlib.Omega.{arith}
-use borrow.Author.Rules.{rules}
 use borrow.Author.Tests.{eq-eqb, ne_eqb}
-use lib.ListN.{length, get_or, set, length-set, replicate, length-replicate, get_or-replicate, get_or-eq_default}
+use lib.ListN.{length, get_or, drop, set, length-set, replicate, length-replicate, get_or-replicate, get_or-eq_default}
 use lib.Seq.{get_or-set_same, get_or-set_other}
 use Rattle.limits.specs.Sizes.{wire_count}
 use Rattle.model.specs.Lists.{member}
 use Rattle.model.proofs.BooleanLaws.{by_eq, by_lt}
-use Rattle.circuit.specs.declared.WireList.{WireList}
-use Rattle.circuit.specs.GatesInBytes.{part, list_in, end_of}
 use Rattle.circuit.specs.GateChecks.{mark_all, set_of, any_in}
-use Rattle.circuit.proofs.LoopsOverWires.{part_none, left_step, left_none, left_all}
+use Rattle.circuit.proofs.LoopsOverWires.{left_step, left_none}
 
--- what the loop of `set_of` keeps: the whole set is the set so far with what is left
-module _ (bs : List ℕ) (at end : ℕ) (s : List Bool) where
-  pub mark_next : (whole : List Bool) → whole ≡ mark_all (part bs at (end - at)) s → at < end → end ≤ length bs →
-      whole ≡ mark_all (part bs (at + 1) (end - (at + 1))) (set s (get_or bs at 0) true)
+-- what the loop of `set_of` keeps: the set so far with what is left is the whole set
+module _ (l : List ℕ) (i : ℕ) (s whole : List Bool) (inv : whole ≡ mark_all (drop i l) s) where
+  pub mark_next : i < length l → whole ≡ mark_all (drop (i + 1) l) (set s (get_or l i 0) true)
   unfolding mark_all
-  mark_next whole inv l h = rw (inv, left_step bs at end l h, mark_all)
+  mark_next h = rw (inv, left_step l i h, mark_all)
 
-  pub mark_all_lem : (l : WireList) → end ≡ end_of bs l →
-      mark_all (part bs l.from (end - l.from)) (replicate wire_count false) ≡ mark_all (part bs at (end - at)) s → end ≤ at → s ≡ set_of (list_in bs l)
-  unfolding mark_all set_of
-  mark_all_lem l is inv h = sym (rw (is, left_all bs l, ← is, left_none bs at end h) at inv)
-
-pub ruleset marking = (rules, mark_next, mark_all_lem)
+  pub mark_done : length l ≤ i → s ≡ whole
+  unfolding mark_all
+  mark_done h = rw (inv, left_none l i h)
 
 repeated : (n w : ℕ) → get_or (replicate n false) w false ≡ false
 repeated n w = by_lt w n
@@ -40,31 +33,26 @@ unfolding any_in
 none_in n [] = refl
 none_in n (w ∷ l) = rw (repeated n w) (none_in n l)
 
--- the ways out of `share`; its loop keeps: a wire of the whole list is in the set where one was or one that is left is
-module _ (bs : List ℕ) where
-  pub any_next : (at end : ℕ) (s : List Bool) (shared whole : Bool) → whole ≡ shared || any_in s (part bs at (end - at)) → at < end → end ≤ length bs →
-      whole ≡ (shared || get_or s (get_or bs at 0) false) || any_in s (part bs (at + 1) (end - (at + 1)))
+-- what the loop of `share` keeps: a wire so far was in the set or one that is left is
+module _ (l : List ℕ) (i : ℕ) (s : List Bool) (shared whole : Bool) (inv : whole ≡ shared || any_in s (drop i l)) where
+  pub any_next : i < length l → whole ≡ (shared || get_or s (get_or l i 0) false) || any_in s (drop (i + 1) l)
   unfolding any_in
-  any_next at end s shared whole inv l h =
-      rw (inv, left_step bs at end l h)
-      (sym (or_assoc shared (get_or s (get_or bs at 0) false) (any_in s (part bs (at + 1) (end - (at + 1))))))
+  any_next h = rw (inv, left_step l i h) (sym (or_assoc shared (get_or s (get_or l i 0) false) (any_in s (drop (i + 1) l))))
 
-  module _ (first second : WireList) where
-    pub any_no_first : first.count ≡ 0 → false ≡ any_in (set_of (list_in bs second)) (list_in bs first)
-    unfolding any_in
-    any_no_first e = rw (part_none bs first.from first.count (omega arith))
+  pub any_done : length l ≤ i → shared ≡ whole
+  unfolding any_in
+  any_done h = rw (inv, left_none l i h) (sym (or-false shared))
 
-    pub any_no_second : second.count ≡ 0 → false ≡ any_in (set_of (list_in bs second)) (list_in bs first)
-    unfolding mark_all set_of
-    any_no_second e = rw (part_none bs second.from second.count (omega arith)) (sym (none_in wire_count (list_in bs first)))
+-- no wire shares nothing, on either side
+pub none_first : (s : List Bool) (l : List ℕ) → length l ≡ 0 → false ≡ any_in s l
+unfolding any_in
+none_first s [] h = refl
+none_first s (w ∷ l) h = absurd (omega arith)
 
-    pub any_all : (s : List Bool) → s ≡ set_of (list_in bs second) → (end : ℕ) → end ≡ end_of bs first → (at : ℕ) (shared : Bool) →
-        any_in s (part bs first.from (end - first.from)) ≡ shared || any_in s (part bs at (end - at)) → end ≤ at →
-        shared ≡ any_in (set_of (list_in bs second)) (list_in bs first)
-    unfolding any_in
-    any_all s e end is at shared inv h = rw (← e) (sym (rw (is, left_all bs first, ← is, left_none bs at end h, or-false shared) at inv))
-
-pub ruleset sharing = (rules, any_next, any_no_first, any_no_second, any_all)
+pub none_second : (l m : List ℕ) → length m ≡ 0 → false ≡ any_in (set_of m) l
+unfolding mark_all set_of
+none_second l [] h = sym (none_in wire_count l)
+none_second l (w ∷ m) h = absurd (omega arith)
 
 -- a set has the wires put into it and those that it had
 marked : (l : List ℕ) (s : List Bool) (w : ℕ) → w < length s → get_or (mark_all l s) w false ≡ member w l || get_or s w false

@@ -1,6 +1,8 @@
 -- A gate's checks as the code makes them.
 use Rattle.std.specs.Prelude.{ℕ, Bool, true, false, not, ◌&&◌, ◌||◌, List, [], ◌∷◌, get_or, set, replicate, eqb, ltb, leb}
 use Rattle.limits.specs.Sizes.{wire_count}
+use Rattle.circuit.specs.declared.Action.{Action}
+use Rattle.circuit.specs.declared.Action.TheVariants.{Not, Swap}
 
 -- a wire that is not above `low`, is above `most`, or is one of the gate's own wires u and v
 abbrev pub misfits : ℕ → ℕ → ℕ → ℕ → ℕ → Bool
@@ -26,16 +28,16 @@ any_in s [] = false
 any_in s (w ∷ l) = get_or s w false || any_in s l
 
 -- a gate's own wires are 1 to `most`, and a swap's second is above its first
-unfoldable pub placed : ℕ → Bool → ℕ → ℕ → Bool
-placed most true u v = leb 1 u && ltb u v && leb v most
-placed most false u v = leb 1 u && leb u most
+abbrev pub placed : ℕ → Action → Bool
+placed most (Not u) = leb 1 u && leb u most
+placed most (Swap u v) = leb 1 u && ltb u v && leb v most
 
--- the last of them: a NOT has one
-abbrev pub last_wire : Bool → ℕ → ℕ → ℕ
-last_wire true u v = v
-last_wire false u v = u
+-- the first and the last of them: a NOT has one
+abbrev pub own_wires : Action → ℕ × ℕ
+own_wires (Not u) = (u, u)
+own_wires (Swap u v) = (u, v)
 
--- a NOT on u, or a swap of u and v, under controls
-unfoldable pub checked : ℕ → Bool → List ℕ → List ℕ → ℕ → ℕ → Bool
-checked most swaps ones zeros u v =
-    placed most swaps u v && list_fits 0 most u (last_wire swaps u v) ones && list_fits 0 most u (last_wire swaps u v) zeros && not (any_in (set_of zeros) ones)
+-- a NOT or a swap under controls
+abbrev pub checked : ℕ → Action → List ℕ → List ℕ → Bool
+checked most a ones zeros =
+    placed most a && list_fits 0 most (own_wires a).0 (own_wires a).1 ones && list_fits 0 most (own_wires a).0 (own_wires a).1 zeros && not (any_in (set_of zeros) ones)

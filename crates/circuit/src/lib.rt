@@ -1,26 +1,23 @@
 // "The circuit": a circuit's bytes are read and checked (refusal 14).
 #![tactic(auto)]
 
-ghost use Rattle.std.specs.Prelude.{◌≡◌, [], ◌+◌, ◌*◌};
+ghost use Rattle.std.specs.Prelude.{◌≡◌, ◌<◌, []};
 ghost use Rattle.model.specs.Circuit.{wire_list, read_gate, read_gates, gate_is_well_formed};
-ghost use Rattle.model.specs.Reading.{optional};
+ghost use Rattle.model.specs.Reading.{optional, stands};
 ghost use Rattle.model.specs.Answers.{circuit_read};
-ghost use Rattle.circuit.specs.GatesInBytes.{input_at, settled, fills, list_in, end_of, list_parsed, gate_in, gate_parsed, gate_checked, gate_end, gate_written};
-ghost use Rattle.circuit.specs.GateChecks.{misfits, list_fits, set_of, any_in, placed, last_wire};
-ghost use Rattle.circuit.specs.Header.{circuit_after};
+ghost use Rattle.circuit.specs.GatesInBytes.{input_of, settled, fills, list_read, gate_in, gate_read, gate_written};
+ghost use Rattle.circuit.specs.GateChecks.{misfits, list_fits, set_of, any_in, placed, own_wires};
+ghost use Rattle.circuit.specs.Header.{counts_fit, circuit_after, header_given};
 ghost use Rattle.answers.specs.Structs.{header_of, refused_header};
 ghost use Rattle.model.specs.Limits.{not_well_formed};
 
 use answers::CircuitHeader;
-use limits::{
-    CIRCUIT_EDITION, HEADER_LENGTH, MOST_CIRCUIT, MOST_QUBITS, MOST_WIRES, NOT_WELL_FORMED,
-    WIRE_COUNT,
-};
+use limits::{CIRCUIT_EDITION, MOST_CIRCUIT, MOST_QUBITS, MOST_WIRES, NOT_WELL_FORMED, WIRE_COUNT};
 
 pub mod write;
 
 // What a circuit's header says: n, ancillas and how many wires that makes, and the gate count.
-#[derive(Drop)]
+#[derive(Clone, Copy)]
 pub struct Header {
     pub qubits: u8,
     pub ancillas: u8,
@@ -28,55 +25,31 @@ pub struct Header {
     pub gates: u32,
 }
 
-#[derive(Drop)]
-pub enum HeaderRead {
-    Opened(Header),
-    NoHeader,
-}
-
-// Where a list of wires stands in the bytes, and the place behind it.
+// What a gate does where it fires: it flips its target, or exchanges two wires, the target and a second one.
 #[derive(Clone, Copy)]
-pub struct WireList {
-    pub from: usize,
-    pub count: usize,
-    pub next: usize,
+pub enum Action {
+    Not(u8),
+    Swap(u8, u8),
 }
 
-#[derive(Drop)]
-pub enum ListRead {
-    Wires(WireList),
-    NoWires,
-}
-
-// A gate where it stands in the bytes: `second` is a swap's second wire, and the next gate begins at `next`.
+// A gate: its wires controlled on 1 and on 0, as they stand in the circuit's bytes, and what it does.
 #[derive(Clone, Copy)]
-pub struct GateAt {
-    pub ones: WireList,
-    pub zeros: WireList,
-    pub next: usize,
-    pub target: u8,
-    pub second: u8,
-    pub swaps: bool,
+pub struct Gate<'a> {
+    pub ones: &'a [u8],
+    pub zeros: &'a [u8],
+    pub action: Action,
 }
 
-#[derive(Drop)]
-pub enum GateRead {
-    Found(GateAt),
-    NoGate,
-}
-
-// The place behind the last byte of a list that stands in the bytes.
-pub fn end_of(bytes: &[u8], list: WireList) -> usize
-    ensures { result ≡ end_of bytes.now list }
-{
-    let length = bytes.len();
-    if length < list.from {
-        return length;
+impl Action {
+    // The first and the last of the gate's own wires: a NOT has one.
+    pub fn wires(self) -> (u8, u8)
+        ensures { result ≡ own_wires self }
+    {
+        match self {
+            Action::Not(target) => (target, target),
+            Action::Swap(target, second) => (target, second),
+        }
     }
-    if length - list.from < list.count {
-        return length;
-    }
-    list.from + list.count
 }
 
 // Is a wire at or below the one before it, above `most`, or one of the gate's own wires u and v?
@@ -86,269 +59,186 @@ fn misfits(low: u8, wire: u8, most: u8, u: u8, v: u8) -> bool
     (wire <= low) | (most < wire) | (u == wire) | (v == wire)
 }
 
-// Do the wires of a list ascend from 1 to `most`, without u and v? No test ends the loop: so many wires are tested at once.
-fn list_fits(bytes: &[u8], list: WireList, most: u8, u: u8, v: u8) -> bool
-    ensures { result ≡ list_fits 0 most u v (list_in bytes.now list) }
+// Do the wires of a list ascend from 1 to `most`, without u and v? No test ends the loop: so many wires are tested at once. The wire before is read where it
+// stands: a loop that carries it along, or goes over pairs by `zip` or `windows`, takes more than one and a half times as long.
+fn list_fits(list: &[u8], most: u8, u: u8, v: u8) -> bool
+    ensures { result ≡ list_fits 0 most u v list.now }
 {
-    if list.count == 0 {
+    let Some((first, rest)) = list.split_first() else {
         return true;
-    }
-    let from = list.from;
-    let end = end_of(bytes, list);
-    if end <= from {
-        return true;
-    }
-    if misfits(0, bytes[from], most, u, v) {
-        return false;
-    }
-    let mut bad = false;
-    let mut at = from + 1;
-    while at < end {
-        bad |= misfits(bytes[at - 1], bytes[at], most, u, v);
-        at += 1;
+    };
+    let mut bad = misfits(0, *first, most, u, v);
+    for (i, wire) in rest.iter().enumerate() {
+        bad |= misfits(list[i], *wire, most, u, v);
     }
     !bad
 }
 
 // The wires of a list as a set: true at the number of each.
-fn set_of(bytes: &[u8], list: WireList) -> [bool; WIRE_COUNT]
-    ensures { result ≡ set_of (list_in bytes.now list) }
+fn set_of(list: &[u8]) -> [bool; WIRE_COUNT]
+    ensures { result ≡ set_of list.now }
 {
-    let end = end_of(bytes, list);
     let mut set = [false; WIRE_COUNT];
-    let mut at = list.from;
-    while at < end {
-        set[bytes[at] as usize] = true;
-        at += 1;
+    for wire in list {
+        set[*wire as usize] = true;
     }
     set
 }
 
 // Is a wire of the first list in the second? The second becomes a set, in which each wire of the first is looked up.
-fn share(bytes: &[u8], first: WireList, second: WireList) -> bool
-    ensures { result ≡ any_in (set_of (list_in bytes.now second)) (list_in bytes.now first) }
+fn share(first: &[u8], second: &[u8]) -> bool
+    ensures { result ≡ any_in (set_of second.now) first.now }
 {
-    if first.count == 0 {
+    if first.is_empty() || second.is_empty() {
         return false;
     }
-    if second.count == 0 {
-        return false;
-    }
-    let set = set_of(bytes, second);
-    let end = end_of(bytes, first);
+    let set = set_of(second);
     let mut shared = false;
-    let mut at = first.from;
-    while at < end {
-        shared |= set[bytes[at] as usize];
-        at += 1;
+    for wire in first {
+        shared |= set[*wire as usize];
     }
     shared
 }
 
 // Are the gate's own wires 1 to `most`, and a swap's target its lower wire?
-fn placed(gate: GateAt, most: u8) -> bool
-    ensures { result ≡ placed most gate.swaps gate.target gate.second }
+fn placed(action: Action, most: u8) -> bool
+    ensures { result ≡ placed most action }
 {
-    if gate.target == 0 {
-        return false;
+    match action {
+        Action::Not(target) => 1 <= target && target <= most,
+        Action::Swap(target, second) => 1 <= target && target < second && second <= most,
     }
-    if !gate.swaps {
-        return gate.target <= most;
-    }
-    if gate.second <= gate.target {
-        return false;
-    }
-    gate.second <= most
-}
-
-// The last of the gate's own wires.
-fn last_wire(gate: GateAt) -> u8
-    ensures { result ≡ last_wire gate.swaps gate.target gate.second }
-{
-    if gate.swaps { gate.second } else { gate.target }
 }
 
 // "Counts are at least 1, wires ascend, no wire occurs twice in a gate, a swap's target is its lower wire."
-fn well_formed(bytes: &[u8], gate: GateAt, most: u8) -> bool
-    ensures { result ≡ gate_is_well_formed most (gate_in bytes.now gate) }
+#[tactic(auto, using(crate::proofs::GateCheckLaws::forms))]
+fn well_formed(gate: &Gate, most: u8) -> bool
+    ensures { result ≡ gate_is_well_formed most (gate_in gate.now) }
 {
-    if !placed(gate, most) {
-        return false;
-    }
-    let ones = gate.ones;
-    let zeros = gate.zeros;
-    let last = last_wire(gate);
-    if !list_fits(bytes, ones, most, gate.target, last) {
-        return false;
-    }
-    if !list_fits(bytes, zeros, most, gate.target, last) {
-        return false;
-    }
-    !share(bytes, ones, zeros)
+    let (u, v) = gate.action.wires();
+    placed(gate.action, most)
+        && list_fits(gate.ones, most, u, v)
+        && list_fits(gate.zeros, most, u, v)
+        && !share(gate.ones, gate.zeros)
 }
 
-// "count and wires", where the list's bit stands in the map; otherwise no wire.
-fn read_list(bytes: &[u8], at: usize, stands: bool) -> ListRead
-    ensures { list_parsed bytes.now result ≡ settled (optional stands wire_list [] (input_at bytes.now at)) }
+// Does bit i stand in a map?
+fn stands(i: u8, map: u8) -> bool
+    requires { i < 8 }
+    ensures { result ≡ stands i map }
+{
+    (map >> i) & 1 == 1
+}
+
+// "count and wires", where the list's bit stands in the map; otherwise no wire. Beside it, the input behind it.
+fn read_list(input: &[u8], stands: bool) -> Option<(&[u8], &[u8])>
+    ensures { list_read result ≡ settled (optional stands wire_list [] (input_of input.now)) }
 {
     if !stands {
-        return ListRead::Wires(WireList {
-            from: at,
-            count: 0,
-            next: at,
-        });
+        return Some((&[], input));
     }
-    if bytes.len() <= at {
-        return ListRead::NoWires;
-    }
-    let count = bytes[at] as usize;
+    let (&count, rest) = input.split_first()?;
     if count == 0 {
-        return ListRead::NoWires;
+        return None;
     }
-    if bytes.len() - at <= count {
-        return ListRead::NoWires;
-    }
-    ListRead::Wires(WireList {
-        from: at + 1,
-        count: count,
-        next: at + 1 + count,
-    })
+    rest.split_at_checked(count as usize)
 }
 
-// The gate, if it is well formed.
-fn check_gate(bytes: &[u8], gate: GateAt, most: u8) -> GateRead
-    ensures { gate_parsed bytes.now result
-        ≡ gate_checked most (gate_in bytes.now gate) (input_at bytes.now gate.next) }
+// One gate as it is written, and the input behind it. Whether it is well formed is not asked: whoever walks a circuit that was read knows that.
+pub fn gate_at(input: &[u8]) -> Option<(Gate<'_>, &[u8])>
+    ensures { gate_read result ≡ settled (gate_written (input_of input.now)) }
 {
-    if well_formed(bytes, gate, most) {
-        GateRead::Found(gate)
-    } else {
-        GateRead::NoGate
-    }
-}
-
-// A gate behind its controls: "bit 2, the second wire of a swap".
-fn end_gate(bytes: &[u8], target: u8, ones: WireList, zeros: WireList, swaps: bool) -> GateRead
-    ensures { gate_parsed bytes.now result ≡ settled (gate_end swaps (list_in bytes.now ones)
-        (list_in bytes.now zeros) target (input_at bytes.now zeros.next)) }
-{
-    let next = zeros.next;
-    if !swaps {
-        return GateRead::Found(GateAt {
-            target: target,
-            ones: ones,
-            zeros: zeros,
-            swaps: false,
-            second: 0,
-            next: next,
-        });
-    }
-    if bytes.len() <= next {
-        return GateRead::NoGate;
-    }
-    GateRead::Found(GateAt {
-        target: target,
-        ones: ones,
-        zeros: zeros,
-        swaps: true,
-        second: bytes[next],
-        next: next + 1,
-    })
-}
-
-// One gate as it is written, from a place on. Whether it is well formed is not asked: whoever walks a circuit that was read knows that.
-pub fn gate_at(bytes: &[u8], at: usize) -> GateRead
-    ensures { gate_parsed bytes.now result ≡ settled (gate_written (input_at bytes.now at)) }
-{
-    if bytes.len() < 2 {
-        return GateRead::NoGate;
-    }
-    if bytes.len() - 2 < at {
-        return GateRead::NoGate;
-    }
-    let map = bytes[at];
-    let target = bytes[at + 1];
-    if 7 < map {
-        return GateRead::NoGate;
-    }
-    let first = read_list(bytes, at + 2, map % 2 == 1);
-    let ListRead::Wires(ones) = first else {
-        return GateRead::NoGate;
+    let [map, target, rest @ ..] = input else {
+        return None;
     };
-    let second = read_list(bytes, ones.next, map / 2 % 2 == 1);
-    let ListRead::Wires(zeros) = second else {
-        return GateRead::NoGate;
-    };
-    end_gate(bytes, target, ones, zeros, map / 4 % 2 == 1)
+    if 7 < *map {
+        return None;
+    }
+    let (ones, rest) = read_list(rest, stands(0, *map))?;
+    let (zeros, rest) = read_list(rest, stands(1, *map))?;
+    if !stands(2, *map) {
+        let action = Action::Not(*target);
+        return Some((
+            Gate {
+                ones,
+                zeros,
+                action,
+            },
+            rest,
+        ));
+    }
+    let (second, rest) = rest.split_first()?;
+    let action = Action::Swap(*target, *second);
+    Some((
+        Gate {
+            ones,
+            zeros,
+            action,
+        },
+        rest,
+    ))
 }
 
-// One gate over wires 1 to `most`, from a place on.
-pub fn read_gate(bytes: &[u8], at: usize, most: u8) -> GateRead
-    ensures { gate_parsed bytes.now result ≡ settled (read_gate most (input_at bytes.now at)) }
+// One gate over wires 1 to `most`, if it is well formed, and the input behind it.
+#[tactic(auto, using(crate::proofs::GateReading::judged))]
+pub fn read_gate(input: &[u8], most: u8) -> Option<(Gate<'_>, &[u8])>
+    ensures { gate_read result ≡ settled (read_gate most (input_of input.now)) }
 {
-    let found = gate_at(bytes, at);
-    let GateRead::Found(gate) = found else {
-        return GateRead::NoGate;
-    };
-    check_gate(bytes, gate, most)
+    let (gate, rest) = gate_at(input)?;
+    if !well_formed(&gate, most) {
+        return None;
+    }
+    Some((gate, rest))
 }
 
-// Do `count` gates from a place on fill the bytes?
-fn gates_fill(bytes: &[u8], from: usize, most: u8, count: u32) -> bool
-    ensures { result ≡ fills (read_gates most count (input_at bytes.now from)) }
+// Do `count` gates fill the input?
+#[tactic(auto, using(crate::proofs::GateReading::filled))]
+fn gates_fill(input: &[u8], most: u8, count: u32) -> bool
+    ensures { result ≡ fills (read_gates most count (input_of input.now)) }
 {
-    let mut at = from;
-    let mut left = count;
-    while 0 < left {
-        let found = read_gate(bytes, at, most);
-        let GateRead::Found(gate) = found else {
+    let mut left = input;
+    for _ in 0..count {
+        let Some((_, rest)) = read_gate(left, most) else {
             return false;
         };
-        at = gate.next;
-        left -= 1;
+        left = rest;
     }
-    bytes.len() <= at
+    left.is_empty()
 }
 
-// "4 bytes little-endian"
-fn little_endian(a: u8, b: u8, c: u8, d: u8) -> u32
-    ensures { result ≡ a + 256 * b + 65536 * c + 16777216 * d }
+// "n is 1 to 32", and n plus ancillas "is at most 255"
+fn counts_fit(qubits: u8, ancillas: u8) -> bool
+    ensures { result ≡ counts_fit qubits ancillas }
 {
-    a as u32 + 256 * (b as u32) + 65536 * (c as u32) + 16777216 * (d as u32)
+    1 <= qubits && qubits <= MOST_QUBITS && ancillas <= MOST_WIRES - qubits
 }
 
-// A circuit's header: edition byte 1, n of 1 to 32, at most 255 wires, in at most 65,536 bytes. The gates are not looked at. Of a circuit that is
-// well formed the promise gives its n, ancillas and gate count. Of one that is not it gives neither answer: `NoHeader`, or a header behind which no reading
-// of gates gives a circuit. Either way whoever reads on from the answer ends as the definition does, in 14.
-pub fn read_header(bytes: &[u8]) -> HeaderRead
-    ensures { circuit_after bytes.now result ≡ circuit_read bytes.now }
+// A circuit's header, and the gates' bytes behind it: edition byte 1, n of 1 to 32, at most 255 wires, in at most 65,536 bytes. The gates are not looked at.
+// Of a circuit that is well formed the promise gives its n, ancillas and gate count. Of one that is not it gives neither answer: `None`, or a header behind
+// which no reading of gates gives a circuit. Either way whoever reads on from the answer ends as the definition does, in 14.
+#[tactic(auto, using(crate::proofs::CircuitReading::headers))]
+pub fn read_header(bytes: &[u8]) -> Option<(Header, &[u8])>
+    ensures { circuit_after result ≡ circuit_read bytes.now }
 {
     if MOST_CIRCUIT < bytes.len() {
-        return HeaderRead::NoHeader;
+        return None;
     }
-    if bytes.len() < HEADER_LENGTH {
-        return HeaderRead::NoHeader;
+    let [edition, qubits, ancillas, a, b, c, d, gates @ ..] = bytes else {
+        return None;
+    };
+    if *edition != CIRCUIT_EDITION {
+        return None;
     }
-    if bytes[0] != CIRCUIT_EDITION {
-        return HeaderRead::NoHeader;
+    if !counts_fit(*qubits, *ancillas) {
+        return None;
     }
-    let n = bytes[1];
-    if n == 0 {
-        return HeaderRead::NoHeader;
-    }
-    if MOST_QUBITS < n {
-        return HeaderRead::NoHeader;
-    }
-    let ancillas = bytes[2];
-    if MOST_WIRES - n < ancillas {
-        return HeaderRead::NoHeader;
-    }
-    HeaderRead::Opened(Header {
-        qubits: n,
-        ancillas,
-        wires: n + ancillas,
-        gates: little_endian(bytes[3], bytes[4], bytes[5], bytes[6]),
-    })
+    let header = Header {
+        qubits: *qubits,
+        ancillas: *ancillas,
+        wires: *qubits + *ancillas,
+        gates: u32::from_le_bytes([*a, *b, *c, *d]),
+    };
+    Some((header, gates))
 }
 
 // "14 circuit not well formed": "A refusal gives its number and otherwise zeros."
@@ -363,21 +253,29 @@ pub fn refused() -> CircuitHeader
     }
 }
 
+// The header of a circuit that is well formed, and its gates' bytes.
+pub fn read_whole(bytes: &[u8]) -> Option<(Header, &[u8])>
+    ensures circuit { circuit_after result ≡ circuit_read bytes.now }
+    ensures header { header_given result ≡ header_of (circuit_read bytes.now) }
+{
+    let (header, gates) = read_header(bytes)?;
+    if !gates_fill(gates, header.wires, header.gates) {
+        return None;
+    }
+    Some((header, gates))
+}
+
 // The circuit reader: n, ancillas and gate count of a circuit that is well formed.
 pub fn read_circuit(bytes: &[u8]) -> CircuitHeader
     ensures { result ≡ header_of (circuit_read bytes.now) }
 {
-    let found = read_header(bytes);
-    let HeaderRead::Opened(header) = found else {
-        return refused();
-    };
-    if !gates_fill(bytes, HEADER_LENGTH, header.wires, header.gates) {
-        return refused();
-    }
-    CircuitHeader {
-        number: 0,
-        qubits: header.qubits as u32,
-        ancillas: header.ancillas as u32,
-        gates: header.gates,
+    match read_whole(bytes) {
+        Some((header, _)) => CircuitHeader {
+            number: 0,
+            qubits: header.qubits as u32,
+            ancillas: header.ancillas as u32,
+            gates: header.gates,
+        },
+        None => refused(),
     }
 }

@@ -1,14 +1,15 @@
 -- The loop over the gates: what is left of the run from here is the whole run.
 use mathlib.Core.Path.{◌≡◌, refl, sym}
-use mathlib.Core.Bool.{true}
+use mathlib.Core.Bool.{Bool, true, false}
 use mathlib.Core.List.{List, ◌∷◌}
-use Prim.Native.Nat.{ℕ, zero, suc, ◌-◌, ◌≤◌, ◌<◌}
+use Prim.Native.Nat.{ℕ, zero, suc, ◌+◌, ◌-◌, ◌≤◌, ◌<◌}
 use native.Mathlib.Numerals.{sub-one}
 use native.Mathlib.Omega.{arith}
 use borrow.Author.Rules.{rules}
-use borrow.Author.Tests.{eq-eqb, ne_eqb, le-leb, lt-leb}
-use lib.ListN.{length, length-drop}
-use lib.Dec.{leb}
+use lib.ListN.{length}
+use lib.Dec.{eqb}
+use Rattle.std.specs.Prelude.{Option}
+use Rattle.std.specs.Bool.{then_some}
 use Rattle.model.specs.Limits.{not_well_formed}
 use Rattle.limits.specs.Sizes.{block_bits}
 use Rattle.model.specs.Reading.{Input, Parsed, parsed, refused, and_then}
@@ -16,18 +17,14 @@ use Rattle.model.specs.Meaning.{State}
 use Rattle.model.specs.Gates.{Gate, act, acts}
 use Rattle.model.specs.Circuit.{gate_is_well_formed, read_gate, read_gates, block_of}
 use Rattle.model.specs.Answers.{Outcome, refuses}
-use Rattle.model.proofs.BooleanLaws.{by_lt}
 use Rattle.model.proofs.RoundTrip.{reads_gate, formed}
 use Rattle.wires.specs.StateOfABlock.{state_in, in_state}
 use Rattle.wires.specs.declared.Wires.{Wires}
 use Rattle.wires.proofs.BlocksAndStates.{IsBlock, block_bytes, bytes_inside, state_of_block, act_inside}
 use Rattle.wires.proofs.WireOperations.{is_block, same_state}
-use Rattle.circuit.specs.GatesInBytes.{input_at, settled, gate_in, gate_parsed}
-use Rattle.circuit.specs.declared.GateAt.{GateAt}
-use Rattle.circuit.specs.declared.GateRead.{GateRead}
-use Rattle.circuit.specs.declared.GateRead.TheVariants.{Found, NoGate}
+use Rattle.circuit.specs.GatesInBytes.{input_of, settled}
 use Rattle.circuit.proofs.GateReading.{settled_parsed}
-use Rattle.circuit_run.specs.RunAnswers.{ended_as, ran_of}
+use Rattle.circuit_run.specs.RunAnswers.{ended_as, wires_at_end, ran_of}
 
 -- what was not read ran no gate
 ran_refused : {A : Type 0} (wires : Wires) (p : Parsed A) (f : A → Input → Parsed (List Gate)) → refused not_well_formed ≡ settled p →
@@ -57,33 +54,34 @@ unfolding read_gates
 ran_more most zero i h = absurd (omega arith)
 ran_more most (suc n) i h = rw (sub-one, read_gates)
 
--- what the loop of `run_gates` keeps: the whole run is the run of the gates that are left, on the wires as they are
-module _ (bs : List ℕ) (at most left : ℕ) (wires : Wires) (whole : Outcome Wires)
-    (inv : whole ≡ ran_of wires (read_gates most left (input_at bs at))) where
-  pub run_end : left ≤ 0 → IsBlock wires.bits → ended_as (leb (length bs) at) wires ≡ whole
+-- what the loop of `run_gates` keeps: the whole run is the run of the gates that are to come, on the wires as they are
+module _ (most count k : ℕ) (l : List ℕ) (wires : Wires) (whole : Outcome Wires)
+    (inv : whole ≡ ran_of wires (read_gates most (count - k) (input_of l))) where
+  pub run_end : count ≤ k → IsBlock wires.bits → (empty : Bool) → empty ≡ eqb (length l) 0 → (r : Option Wires) → r ≡ then_some empty wires →
+      wires_at_end r ≡ whole
   unfolding read_gates ran_of acts
-  run_end h b =
-      let z : left ≡ 0 = omega arith in
-      rw (inv, z, length-drop at bs, ← same_state wires b)
-      (by_lt at (length bs)
-      (λ l. rw (lt-leb (length bs) at l, ne_eqb (length bs - at) 0 (λ e. omega arith)))
-      (λ l. rw (le-leb (length bs) at l, eq-eqb (length bs - at) 0 (omega arith))))
+  run_end h b empty is r e =
+      let z : count - k ≡ 0 = omega arith in
+      rw (e, inv, z, ← same_state wires b, ← is) (by empty)
+    where
+      by : (c : Bool) → wires_at_end (then_some c wires) ≡ ended_as c wires
+      by true = refl
+      by false = refl
 
-  module _ (h : 0 < left) (x : GateRead) (p : gate_parsed bs x ≡ settled (read_gate most (input_at bs at))) where
-    pub run_bad : x ≡ NoGate → refuses not_well_formed ≡ whole
-    unfolding gate_parsed
-    run_bad e = rw (inv, ran_more most left (input_at bs at) h) (sym (ran_refused wires (read_gate most (input_at bs at)) _ (rw e at p)))
+  module _ (h : k < count) where
+    pub run_bad : refused not_well_formed ≡ settled (read_gate most (input_of l)) → refuses not_well_formed ≡ whole
+    run_bad e = rw (inv, ran_more most (count - k) (input_of l) (omega arith)) (sym (ran_refused wires (read_gate most (input_of l)) _ e))
 
-    pub run_next : (g : GateAt) → x ≡ Found g → IsBlock wires.bits → most < 256 →
-        (next : Wires) → next ≡ in_state (act (gate_in bs g) (state_in wires.bits)) wires →
-        whole ≡ ran_of next (read_gates most (left - 1) (input_at bs g.next))
-    unfolding gate_parsed and_then
-    run_next g e b k next n =
-        let found : read_gate most (input_at bs at) ≡ parsed (gate_in bs g) (input_at bs g.next) =
-        settled_parsed (read_gate most (input_at bs at)) (gate_in bs g) (input_at bs g.next) (rw e at p) in
-        rw (inv, ran_more most left (input_at bs at) h, found, n)
-        (ran_front wires (gate_in bs g) (read_gates most (left - 1) (input_at bs g.next))
-        (act_state most (input_at bs at) (gate_in bs g) (input_at bs g.next) wires.bits (omega arith) b found))
+    pub run_next : (g : Gate) (o : List ℕ) → parsed g (input_of o) ≡ settled (read_gate most (input_of l)) → IsBlock wires.bits → most < 256 →
+        (next : Wires) → next ≡ in_state (act g (state_in wires.bits)) wires →
+        whole ≡ ran_of next (read_gates most (count - (k + 1)) (input_of o))
+    unfolding and_then
+    run_next g o e b m next n =
+        let found : read_gate most (input_of l) ≡ parsed g (input_of o) = settled_parsed (read_gate most (input_of l)) g (input_of o) e in
+        let less : count - k - 1 ≡ count - (k + 1) = omega arith in
+        rw (inv, ran_more most (count - k) (input_of l) (omega arith), found, n, less)
+        (ran_front wires g (read_gates most (count - (k + 1)) (input_of o))
+        (act_state most (input_of l) g (input_of o) wires.bits (omega arith) b found))
 
 -- the wires behind a gate are a block
 pub run_block : (s : State) (wires next : Wires) → next ≡ in_state s wires → IsBlock next.bits

@@ -1,5 +1,5 @@
 -- What the functions of the circuit run answer, in the terms of document 01's definitions.
-use Rattle.std.specs.Prelude.{ℕ, ◌^◌, Bool, true, false, List, length, eqb, ltb}
+use Rattle.std.specs.Prelude.{ℕ, ◌^◌, Bool, true, false, List, length, eqb, ltb, Option, None, Some}
 use Rattle.model.specs.Limits.{high_bit, not_well_formed}
 use Rattle.model.specs.Reading.{Parsed, parsed, refused}
 use Rattle.model.specs.Meaning.{State}
@@ -7,7 +7,6 @@ use Rattle.model.specs.Gates.{Gate, all_one, all_zero, acts}
 use Rattle.model.specs.Answers.{Outcome, gives, refuses}
 use Rattle.wires.specs.StateOfABlock.{state_in, in_state}
 use Rattle.wires.specs.declared.Wires.{Wires}
-use Rattle.circuit_run.specs.declared.Ran.{Ran}
 use Rattle.answers.specs.declared.CircuitBlock.{CircuitBlock}
 use Rattle.answers.specs.Structs.{given_block, refused_block}
 
@@ -16,13 +15,14 @@ abbrev pub all_hold : Bool → List ℕ → State → Bool
 all_hold true l s = all_one l s
 all_hold false l s = all_zero l s
 
--- the wires where the run ended; otherwise "14 circuit not well formed"
+-- the wires where no byte was left; otherwise "14 circuit not well formed"
 abbrev pub ended_as : Bool → Wires → Outcome Wires
 ended_as true wires = gives wires
 ended_as false wires = refuses not_well_formed
 
-abbrev pub wires_at_end : Ran → Outcome Wires
-wires_at_end r = ended_as r.ended r.wires
+abbrev pub wires_at_end : Option Wires → Outcome Wires
+wires_at_end (Some wires) = gives wires
+wires_at_end None = refuses not_well_formed
 
 -- gates that were read act on the wires in order; "no byte is left"
 unfoldable pub ran_of : Wires → Parsed (List Gate) → Outcome Wires

@@ -6,82 +6,59 @@ ghost use Rattle.model.specs.Gates.{fires, act};
 ghost use Rattle.model.specs.Circuit.{read_gates};
 ghost use Rattle.model.specs.Answers.{circuit_run};
 ghost use Rattle.wires.specs.StateOfABlock.{state_in, in_state};
-ghost use Rattle.circuit.specs.GatesInBytes.{input_at, list_in, gate_in, controls_in};
+ghost use Rattle.circuit.specs.GatesInBytes.{input_of, gate_in, controls_in};
 ghost use Rattle.circuit_run.specs.RunAnswers.{all_hold, wires_at_end, ran_of, end_answer};
 ghost use Rattle.answers.specs.Structs.{refused_block, block_answer};
 
 use answers::CircuitBlock;
-use circuit::{GateAt, GateRead, HeaderRead, WireList};
-use limits::{BLOCK_LENGTH, HEADER_LENGTH, HIGH_BIT, NOT_WELL_FORMED};
+use circuit::{Action, Gate};
+use limits::{BLOCK_LENGTH, HIGH_BIT, NOT_WELL_FORMED};
 use wires::{Wires, fits};
 
-// The wires behind the last gate; they count only where the run ended.
-#[derive(Drop)]
-pub struct Ran {
-    pub ended: bool,
-    pub wires: Wires,
-}
-
 // Does each wire of a list hold the bit asked for? No test ends the loop.
-fn all_hold(bytes: &[u8], list: WireList, asked: bool, bits: &[u8; BLOCK_LENGTH]) -> bool
-    ensures { result ≡ all_hold asked (list_in bytes.now list) (state_in bits.now) }
+fn all_hold(list: &[u8], asked: bool, bits: &[u8; BLOCK_LENGTH]) -> bool
+    ensures { result ≡ all_hold asked list.now (state_in bits.now) }
 {
-    let end = circuit::end_of(bytes, list);
     let mut wrong = false;
-    let mut at = list.from;
-    while at < end {
-        wrong |= wires::holds(bits, bytes[at]) != asked;
-        at += 1;
+    for wire in list {
+        wrong |= wires::holds(bits, *wire) != asked;
     }
     !wrong
 }
 
 // "every controlled wire holds the bit asked for"
-fn fires(bytes: &[u8], gate: GateAt, wires: Wires) -> bool
-    ensures { result ≡ fires (controls_in bytes.now gate) (state_in wires.bits) }
+#[tactic(auto, using(crate::proofs::GateAction::firing))]
+fn fires(gate: &Gate, wires: &Wires) -> bool
+    ensures { result ≡ fires (controls_in gate.now) (state_in wires.now.bits) }
 {
-    if !all_hold(bytes, gate.ones, true, &wires.bits) {
-        return false;
-    }
-    all_hold(bytes, gate.zeros, false, &wires.bits)
+    all_hold(gate.ones, true, &wires.bits) && all_hold(gate.zeros, false, &wires.bits)
 }
 
 // "a NOT flips its target and a swap exchanges its two wires; otherwise the gate changes nothing"
-fn act(bytes: &[u8], gate: GateAt, wires: Wires) -> Wires
-    ensures { result ≡ in_state (act (gate_in bytes.now gate) (state_in wires.bits)) wires }
+fn act(gate: &Gate, wires: Wires) -> Wires
+    ensures { result ≡ in_state (act (gate_in gate.now) (state_in wires.bits)) wires }
 {
-    if !fires(bytes, gate, wires) {
+    if !fires(gate, &wires) {
         return wires;
     }
-    if gate.swaps {
-        return wires::swap(wires, gate.target, gate.second);
+    match gate.action {
+        Action::Not(target) => wires::flip(wires, target),
+        Action::Swap(target, second) => wires::swap(wires, target, second),
     }
-    wires::flip(wires, gate.target)
 }
 
-// Each gate is read, checked and let act, then the next: the run ends where the gates fill the bytes.
-fn run_gates(bytes: &[u8], from: usize, most: u8, count: u32, wires: Wires) -> Ran
-    ensures { wires_at_end result ≡ ran_of wires (read_gates most count (input_at bytes.now from)) }
+// Each gate is read, checked and let act, then the next: the wires behind the last one, where the gates fill the input.
+fn run_gates(input: &[u8], most: u8, count: u32, wires: Wires) -> Option<Wires>
+    ensures { wires_at_end result ≡ ran_of wires (read_gates most count (input_of input.now)) }
 {
     let mut current = wires;
-    let mut at = from;
-    let mut left = count;
-    while 0 < left {
-        let found = circuit::read_gate(bytes, at, most);
-        let GateRead::Found(gate) = found else {
-            return Ran {
-                ended: false,
-                wires: current,
-            };
-        };
-        current = act(bytes, gate, current);
-        at = gate.next;
-        left -= 1;
+    let mut left = input;
+    for _ in 0..count {
+        let (gate, rest) = circuit::read_gate(left, most)?;
+        current = act(&gate, current);
+        left = rest;
     }
-    Ran {
-        ended: bytes.len() <= at,
-        wires: current,
-    }
+    left.is_empty().then_some(current)
 }
 
 // "A refusal gives its number and otherwise zeros."
@@ -97,37 +74,33 @@ fn refused(number: u8) -> CircuitBlock
 }
 
 // "Reading a circuit gives 14 before 13."
-fn answer(ran: Ran, word: u64) -> CircuitBlock
-    ensures { result ≡ end_answer word (wires_at_end ran) }
+#[tactic(auto, using(crate::proofs::CircuitRunAnswer::answering))]
+fn answer(ended: Option<Wires>, word: u64) -> CircuitBlock
+    ensures { result ≡ end_answer word (wires_at_end ended) }
 {
-    let wires = ran.wires;
-    let low = fits(word, wires.data);
-    let bits = wires.bits;
-    if !ran.ended {
-        refused(NOT_WELL_FORMED)
-    } else if !low {
-        refused(HIGH_BIT)
-    } else {
-        CircuitBlock {
-            number: 0,
-            data: wires.data,
-            ancillas: wires.ancillas,
-            bits,
+    match ended {
+        None => refused(NOT_WELL_FORMED),
+        Some(wires) if fits(word, wires.data) => {
+            let bits = wires.bits;
+            CircuitBlock {
+                number: 0,
+                data: wires.data,
+                ancillas: wires.ancillas,
+                bits,
+            }
         }
+        Some(_) => refused(HIGH_BIT),
     }
 }
 
 // The circuit run: the whole block of a circuit that is well formed, from a data word and zero ancillas.
+#[tactic(auto, using(crate::proofs::CircuitRunAnswer::runs))]
 pub fn run_circuit(bytes: &[u8], word: u64) -> CircuitBlock
     ensures { result ≡ block_answer (circuit_run bytes.now word) }
 {
-    let found = circuit::read_header(bytes);
-    let HeaderRead::Opened(header) = found else {
+    let Some((header, gates)) = circuit::read_header(bytes) else {
         return refused(NOT_WELL_FORMED);
     };
     let wires = wires::start(header.qubits, header.ancillas, word);
-    answer(
-        run_gates(bytes, HEADER_LENGTH, header.wires, header.gates, wires),
-        word,
-    )
+    answer(run_gates(gates, header.wires, header.gates, wires), word)
 }

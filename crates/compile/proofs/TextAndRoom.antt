@@ -1,35 +1,39 @@
 -- The emission in its text: its number, its bytes behind the header, and the room that they are copied into.
 use mathlib.Core.Path.{◌≡◌, refl, sym, ap, ◌∙◌}
-use mathlib.Core.List.{List, [], ◌++◌}
+use mathlib.Core.List.{List, [], ◌∷◌, ◌++◌}
 use Prim.Native.Nat.{ℕ, zero, suc, ◌+◌, ◌-◌, ◌≤◌, ◌<◌, min}
-use native.Mathlib.Nat.{le_refl}
+use native.Mathlib.Nat.{le_refl, add-zero}
+use Rattle.std.proofs.Common.{take_all, take-append-drop}
 use native.Mathlib.Omega.{arith}
 use borrow.Author.Rules.{rules}
 use borrow.Author.Tests.{le-leb, lt-leb, le-ltb}
-use lib.ListN.{length, get_or, set, take, drop, replicate, length-append, length-take, length-replicate, get_or-replicate, get_or-eq_default}
-use lib.Seq.{sets, sets-eq, length-sets, length-take-le, take-append-add, take-take, take-add, take_at, drop_at, get_or-take}
-use Rattle.std.specs.Prelude.{Option, Some, None, is_some}
+use lib.ListN.{length, set, take, drop, replicate, length-append, length-take, length-replicate, get_or-replicate, get_or-eq_default}
+use lib.Seq.{sets, sets-eq, length-sets, length-take-le, take-append-add, take-take, take-add, take_at, drop_at}
+use Rattle.std.specs.Prelude.{Option, Some, None, is_some, Ok, Err}
 use Rattle.limits.specs.declared.Refusal.{Refusal}
+use Rattle.limits.specs.declared.Refusal.TheVariants.{NoRoom}
 use Rattle.limits.specs.Refusals.{number_of}
 use Rattle.limits.specs.Sizes.{wire_count}
-use Rattle.model.specs.Limits.{most_wires, most_qubits, most_circuit, header_length, no_room}
+use Rattle.model.specs.Limits.{most_wires, most_qubits, most_circuit, header_length}
 use Rattle.model.specs.Syntax.{Program}
 use Rattle.model.specs.Emission.{emission, gates, peak}
 use Rattle.model.specs.Circuit.{Circuit, encode_all, four_bytes, write}
-use Rattle.model.specs.Answers.{gives, require, fitted, fit, circuit, usable, number, value_or, room_after}
+use Rattle.model.specs.Answers.{gives, refuses, after, require, fitted, fit, circuit, usable, room_after}
 use Rattle.model.proofs.BooleanLaws.{by_lt}
 use Rattle.model.proofs.ListLaws.{not_in_nil}
 use Rattle.model.proofs.RoundTrip.{write_length}
 use Rattle.agreement.proofs.FirstMisfit.{fits_wires}
+use Rattle.answers.specs.Structs.{given_length}
+use Rattle.circuit.proofs.GateBytes.{sets_past}
 use Rattle.circuit.specs.GatesToWrite.{header_bytes}
 use Rattle.sets.proofs.Members.{members_empty}
 use Rattle.decoded.specs.DecodedTable.{program_at}
 use Rattle.events.specs.Scan.{Emit, refusal_number, Progress, progress, emit_of, room_of, emission_end, wire_of}
 use Rattle.events.proofs.ScanOfEvents.{emission_status, emission_ends, emission_within}
-use Rattle.events.proofs.GatesAndSlots.{some_refused, Storing, storing_starts, storing_next, stored_all, stored_full}
+use Rattle.events.proofs.GatesAndSlots.{some_refused}
 use Rattle.emit.specs.WalkPromises.{Checked, Emits}
 use Rattle.emit.proofs.EmissionOfMain.{use_main}
-use Rattle.compile.specs.EmissionAnswer.{EmitsText, into_text, delivered, Compiles, walks_once, emission_answer, compiled_of}
+use Rattle.compile.specs.EmissionAnswer.{EmitsText, into_text, delivered, Compiles, walks_once, emission_answer}
 
 circuit_length : (P : Program) (n : ℕ) → length (write (circuit P n)) ≡ header_length + length (encode_all (gates (emission P n)))
 unfolding circuit
@@ -93,21 +97,18 @@ ancillas_low P n room small fits =
     rw (e, le-ltb most_wires (peak [] (emission P n)) le)
 
 -- what compile answers with a circuit that fits, and with a refusal
-number_given : (P : Program) (n used : ℕ) → used ≡ length (write (circuit P n)) →
-    record { number = 0; length = used } ≡ compiled_of (gives (write (circuit P n)))
-unfolding number value_or
-number_given P n used e = rw e
+length_given : (P : Program) (n used : ℕ) → used ≡ length (write (circuit P n)) → gives used ≡ given_length (gives (write (circuit P n)))
+unfolding after
+length_given P n used e = rw e
 
--- a refusal gives its number, zeros and the room as it was
-refused_is : (k : ℕ) (c : Circuit) (room : List ℕ) → (k ≡ 0 → ⊥) →
-    (record { number = k; length = 0 } ≡ compiled_of (fitted k c)) × (room ≡ room_after (fitted k c) room)
-unfolding fitted number value_or room_after
+-- a refusal leaves the room as it was
+refused_is : (k : ℕ) (c : Circuit) (room : List ℕ) → (k ≡ 0 → ⊥) → (refuses k ≡ given_length (fitted k c)) × (room ≡ room_after (fitted k c) room)
+unfolding fitted after room_after
 refused_is zero c room h = absurd (h refl)
 refused_is (suc k) c room h = (refl, refl)
 
 refused_answer : (P : Program) (n k : ℕ) (room : List ℕ) → header_length ≤ usable (length room) → k ≡ fit (usable (length room)) header_length (emission P n) →
-    (k ≡ 0 → ⊥) → (record { number = k; length = 0 } ≡ compiled_of (emission_answer P n (length room)))
-    × (room ≡ room_after (emission_answer P n (length room)) room)
+    (k ≡ 0 → ⊥) → (refuses k ≡ given_length (emission_answer P n (length room))) × (room ≡ room_after (emission_answer P n (length room)) room)
 unfolding emission_answer require
 refused_answer P n k room header e h =
     rw (le-leb header_length (usable (length room)) header, ← e) (refused_is k (circuit P n) room h)
@@ -176,33 +177,48 @@ module _ {prog : List ℕ} {n : ℕ} (room text : List ℕ) {a : Emit} (text₁ 
         ∙ circuit_bytes P n
 
     emitted_answer : (room₁ : List ℕ) → room₁ ≡ delivered n a text₁ room →
-        (record { number = 0; length = a.used } ≡ compiled_of (emission_answer P n (length room))) × (room₁ ≡ room_after (emission_answer P n (length room)) room)
+        (gives a.used ≡ given_length (emission_answer P n (length room))) × (room₁ ≡ room_after (emission_answer P n (length room)) room)
     emitted_answer room₁ e =
         let count = circuit_length P n in
         let within = emitted_within in
         let used : a.used ≡ length (write (circuit P n)) = ap (λ (x : Emit). x.used) emitted_end ∙ sym count in
         let left = e ∙ ap (sets room 0) emitted_circuit ∙ circuit_copied P n room (omega arith) in
-        rw (← given_answer P n room header emitted_fits) (number_given P n a.used used, left)
+        rw (← given_answer P n room header emitted_fits) (length_given P n a.used used, left)
 
--- the ways out of `ancillas`
-pub ancillas_none : (n highest : ℕ) → highest < n → 0 ≡ wire_of (highest - n)
-ancillas_none n highest h = let e : highest - n ≡ 0 = omega arith in rw e
+-- what is copied: bytes that do not fit are not put
+sets_split : (room : List ℕ) (i : ℕ) (xs ys : List ℕ) → sets room i (xs ++ ys) ≡ sets (sets room i xs) (i + length xs) ys
+sets_split room i [] ys = rw (add-zero i)
+sets_split room i (x ∷ xs) ys =
+    let e : suc i + length xs ≡ i + suc (length xs) = omega arith in sets_split (set room i x) (suc i) xs ys ∙ ap (λ k. sets (sets (set room i x) (suc i) xs) k ys) e
 
--- the ways of `copy`: what is still to be put makes of the room what all of it makes
-module _ (text : List ℕ) (used : ℕ) (room₀ room : List ℕ) (count i : ℕ) (is : count ≡ min used (min (length text) (length room))) where
-  front_count : length (take used text) ≡ min used (length text)
-  front_count = length-take used text
+front_set : (room bytes : List ℕ) → length bytes ≤ length room → sets room 0 bytes ≡ bytes ++ drop (length bytes) room
+front_set room bytes h = let none : 0 + length bytes ≡ length bytes = omega arith in sets-eq bytes room 0 (omega arith) ∙ rw none
 
-  pub copy_next : Storing room₀ 0 (take used text) room i i → i < count → Storing room₀ 0 (take used text) (set room i (get_or text i 0)) (i + 1) (i + 1)
-  copy_next S h = let k = front_count in
-      storing_next room₀ 0 (take used text) room i i (length (take used text)) refl (get_or text i 0) S (omega arith) (sym (get_or-take used text i 0 (omega arith)))
+copied_part : (text room : List ℕ) (used count : ℕ) → count ≡ min (min used (length text)) (length room) → take count text ++ drop count room ≡ sets room 0 (take used text)
+copied_part text room used count is =
+    let bytes = take used text in
+    let long : length bytes ≡ min used (length text) = length-take used text in
+    let few : count ≤ length room = omega arith in
+    let part : length (take count text) ≡ count = length-take-le count text (omega arith) in
+    let start : take count text ++ drop count room ≡ sets room 0 (take count text) =
+    sym (front_set room (take count text) (omega arith) ∙ ap (λ k. take count text ++ drop k room) part) in
+    start ∙ by_lt (length room) (length bytes)
+    (λ lt.
+    let all : count ≡ length room = omega arith in
+    let cut : take count text ≡ take count bytes = sym (take-take count used text (omega arith)) in
+    let full : length (sets room 0 (take count bytes)) ≤ 0 + length (take count bytes) =
+    let a = length-sets room 0 (take count bytes) in let b = ap length cut in omega arith in
+    ap (sets room 0) cut ∙ sets_past (sets room 0 (take count bytes)) (0 + length (take count bytes)) (drop count bytes) full
+    ∙ sym (sets_split room 0 (take count bytes) (drop count bytes)) ∙ ap (sets room 0) (take-append-drop count bytes))
+    (λ ge.
+    let whole : take count text ≡ bytes = by_lt used (length text)
+    (λ h. let same : count ≡ used = omega arith in rw same)
+    (λ h. let same : count ≡ length text = omega arith in rw (same, take_all (length text) text (le_refl (length text)), take_all used text h)) in
+    ap (sets room 0) whole)
 
-  pub copy_ends : Storing room₀ 0 (take used text) room i i → count ≤ i → room ≡ sets room₀ 0 (take used text)
-  copy_ends S h = let k = front_count in by_lt i (length room)
-      (λ lt. stored_all room₀ 0 (take used text) room i i (length (take used text)) refl S (omega arith))
-      (λ le. stored_full room₀ 0 (take used text) room i i (length (take used text)) refl S le)
-
-pub ruleset copying = (rules, storing_starts, copy_next, copy_ends)
+pub copied : (text room front : List ℕ) (used least count : ℕ) → least ≡ min used (length text) → count ≡ min least (length room) → front ≡ take count text →
+    front ++ drop count room ≡ sets room 0 (take used text)
+copied text room front used least count l c is = rw is (copied_part text room used count (rw l at c))
 
 -- the way out of `put_circuit`
 pub circuit_put : (n : ℕ) (st : Emit) (text room : List ℕ) (a : ℕ) (text₁ room₁ : List ℕ) → a ≡ wire_of (st.highest - n) →
@@ -225,24 +241,24 @@ text_emitted text text₁ long e A = into_text text long (rw e at A)
 
 -- the ways out of `compile_emission`
 module _ {prog : List ℕ} {n : ℕ} {room : List ℕ} where
-  pub no_header : length room < header_length → Compiles prog n room (record { number = no_room; length = 0 }) room
-  unfolding emission_answer require number value_or room_after
+  pub no_header : length room < header_length → Compiles prog n room (Err NoRoom) room
+  unfolding emission_answer require after room_after
   no_header h = walks_once (λ checked small.
       let e = lt-leb header_length (usable (length room)) (omega arith) in (rw e, rw e))
 
 module _ {prog : List ℕ} {n : ℕ} {room : List ℕ} {a : Emit} {text₁ : List ℕ} where
-  pub text_refused : (o : Option Refusal) (why : Refusal) {s : ℕ} → header_length ≤ length room → EmitsText prog n (length room) a text₁ → refusal_number o ≡ a.status →
-      o ≡ Some why → s ≡ number_of why → Compiles prog n room (record { number = s; length = 0 }) room
-  text_refused o why {s = s} h (into_text text long A) is some e = walks_once (λ checked small.
+  pub text_refused : (o : Option Refusal) (why : Refusal) → header_length ≤ length room → EmitsText prog n (length room) a text₁ → refusal_number o ≡ a.status →
+      o ≡ Some why → Compiles prog n room (Err why) room
+  text_refused o why h (into_text text long A) is some = walks_once (λ checked small.
       let header : header_length ≤ usable (length room) = omega arith in
-      let same : s ≡ a.status = e ∙ ap refusal_number (sym some) ∙ is in
-      refused_answer (program_at prog) n s room header (same ∙ emitted_status room text text₁ long A checked small header)
-      (λ z. some_refused o (ap is_some some) (ap refusal_number some ∙ sym e ∙ z)))
+      let same : number_of why ≡ a.status = ap refusal_number (sym some) ∙ is in
+      refused_answer (program_at prog) n (number_of why) room header (same ∙ emitted_status room text text₁ long A checked small header)
+      (λ z. some_refused o (ap is_some some) (ap refusal_number some ∙ z)))
 
   pub text_delivered : (o : Option Refusal) {room₁ : List ℕ} → header_length ≤ length room → EmitsText prog n (length room) a text₁ → refusal_number o ≡ a.status → o ≡ None →
-      room₁ ≡ delivered n a text₁ room → Compiles prog n room (record { number = 0; length = a.used }) room₁
+      room₁ ≡ delivered n a text₁ room → Compiles prog n room (Ok a.used) room₁
   text_delivered o {room₁ = room₁} h (into_text text long A) is none e = walks_once (λ checked small.
       let header : header_length ≤ usable (length room) = omega arith in
       emitted_answer room text text₁ long A checked small header (sym is ∙ ap refusal_number none) room₁ e)
 
-pub ruleset delivering = (rules, ancillas_none, no_header, text_refused, text_delivered, circuit_put, front_emitted, text_emitted)
+pub ruleset delivering = (rules, no_header, text_refused, text_delivered, circuit_put, front_emitted, text_emitted)

@@ -1,23 +1,20 @@
 -- The emission of compile: it goes into a text, and from there into the room where it fits.
-use Rattle.std.specs.Prelude.{ℕ, ◌-◌, ◌≤◌, ◌≡◌, List, [], length, take, leb}
+use Rattle.std.specs.Prelude.{ℕ, ◌-◌, ◌≤◌, ◌≡◌, List, length, take, leb, Result}
 use Rattle.std.proofs.lemmas.List.Edits.{sets}
+use Rattle.limits.specs.declared.Refusal.{Refusal}
 use Rattle.model.specs.Limits.{most_qubits, most_circuit, header_length, no_room}
 use Rattle.model.specs.Syntax.{Program}
 use Rattle.model.specs.Emission.{emission}
-use Rattle.model.specs.Answers.{Outcome, require, fitted, fit, circuit, usable, number, value_or, room_after}
+use Rattle.model.specs.Answers.{Outcome, require, fitted, fit, circuit, usable, room_after}
+use Rattle.answers.specs.Structs.{outcome_of, given_length}
 use Rattle.circuit.specs.GatesToWrite.{header_bytes}
 use Rattle.decoded.specs.DecodedTable.{program_at}
 use Rattle.events.specs.Scan.{Emit, wire_of}
 use Rattle.emit.specs.WalkPromises.{Checked, Emits}
-use Rattle.compile.specs.declared.Compiled.{Compiled}
 
 -- what compile answers where the table is accepted and the workspace long enough
 unfoldable pub emission_answer : Program → ℕ → ℕ → Outcome (List ℕ)
 emission_answer P n room = require (leb header_length (usable room)) no_room (fitted (fit (usable room) header_length (emission P n)) (circuit P n))
-
--- an answer as a number and a length: "A refusal gives its number and otherwise zeros."
-abbrev pub compiled_of : Outcome (List ℕ) → Compiled
-compiled_of o = record { number = number o; length = length (value_or [] o) }
 
 -- main emitted into the front of a text, as much of it as a room of that length has of use
 pub data EmitsText (prog : List ℕ) (n room : ℕ) (r : Emit) (text₁ : List ℕ) : Type 0 where
@@ -27,9 +24,9 @@ pub data EmitsText (prog : List ℕ) (n room : ℕ) (r : Emit) (text₁ : List �
 abbrev pub delivered : ℕ → Emit → List ℕ → List ℕ → List ℕ
 delivered n st text room = sets room 0 (take st.used (sets text 0 (header_bytes n (wire_of (st.highest - n)) st.gates)))
 
--- the number, the length and the room of the answer
-pub data Compiles (prog : List ℕ) (n : ℕ) (room : List ℕ) (r : Compiled) (room₁ : List ℕ) : Type 0 where
+-- the result and the room of the answer
+pub data Compiles (prog : List ℕ) (n : ℕ) (room : List ℕ) (r : Result ℕ Refusal) (room₁ : List ℕ) : Type 0 where
   walks_once : (Checked prog → n ≤ most_qubits →
-      (r ≡ compiled_of (emission_answer (program_at prog) n (length room)))
+      (outcome_of r ≡ given_length (emission_answer (program_at prog) n (length room)))
       × (room₁ ≡ room_after (emission_answer (program_at prog) n (length room)) room)) →
       Compiles prog n room r room₁

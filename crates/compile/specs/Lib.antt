@@ -1,2 +1,1 @@
 pub mod EmissionAnswer
-pub mod AnswerAndRoom

@@ -49,7 +49,7 @@ pub fn argument(rt: &impl Env, i: usize, room: &mut [u8]) -> usize
 }
 
 // The input that argument i names. Where it cannot be opened there is none, and the error is printed.
-pub fn open<R: Env + Files + Input + Eprint + AllocGlobal>(
+fn open<R: Env + Files + Input + Eprint + AllocGlobal>(
     rt: &R,
     i: usize,
 ) -> Option<Source<R::Reader, R::File>> {
@@ -71,10 +71,26 @@ pub fn open<R: Env + Files + Input + Eprint + AllocGlobal>(
     }
 }
 
-// Standard input stays open.
-pub fn close<S: Drop, F: Drop>(_source: Source<S, F>) {}
+// Visits each input of a program in turn: standard input where no argument names one, otherwise the named ones that can be opened. Which these are no clause can say.
+pub fn each<R, V>(rt: &R, mut visit: V)
+where
+    R: Env + Files + Input + Eprint + AllocGlobal,
+    V: FnMut(&mut Source<R::Reader, R::File>),
+    requires { V.IsAlwaysCallable visit }
+{
+    let count = argument_count(rt);
+    if count < 2 {
+        visit(&mut Source::Standard(rt.reader()));
+    }
+    for i in 1..count {
+        if let Some(mut source) = open(rt, i) {
+            visit(&mut source);
+        }
+    }
+}
 
-// Reads until the room is full, the input ends or a read fails, and answers how many bytes stand at the start of the room.
+// Reads until the room is full, the input ends or a read fails, and answers how many bytes stand at the start of the room. Each read says by how much the place goes
+// on, so there is no index that a `for` could count.
 pub fn read_full(input: &mut impl Read, room: &mut [u8]) -> usize
     ensures { IsPrefixLen result room.new }
 {

@@ -4,63 +4,47 @@
 
 ghost use Rattle.std.specs.Prelude.{◌≡◌, suc, length};
 ghost use Rattle.model.specs.Answers.{inverse_table, room_after};
-ghost use Rattle.answers.specs.Structs.{length_answer};
+ghost use Rattle.answers.specs.Structs.{outcome_of, given_length};
+ghost use Rattle.decoded.specs.DecodedTable.{procedure_count};
 ghost use Rattle.table.specs.ReadTable.{piece, body_end};
-ghost use Rattle.text.specs.AppendedBytes.{written, puts};
+ghost use Rattle.text.specs.AppendedBytes.{puts};
 ghost use Rattle.inverse.specs.TurnedRecords.{turned_at, turned_body, turned_below, turned_table};
 
-use answers::Answer;
 use decoded::{PROGRAM_LENGTH, Parts, Program, parts_at, procedures, root, start};
-use limits::{MOST_DEPTH, SHORT_TABLE_ROOM};
-use text::put;
+use limits::{MOST_DEPTH, Refusal};
+use text::Writer;
 use verdict::check_table;
 
-// The bytes of the table from one place up to another, put into the room.
-fn put_piece(table: &[u8], from: usize, to: usize, room: &mut [u8], at: usize) -> usize
-    ensures { written room.new result ≡ puts (piece table.now from to) room.old at }
+// The bytes of the table from one place up to another.
+#[tactic(auto, using(crate::proofs::CopiedRecords::piece_put))]
+fn put_piece(table: &[u8], from: usize, to: usize, writer: &mut Writer)
+    ensures { writer.new ≡ puts (piece table.now from to) writer.old }
 {
-    let mut i = from;
-    let mut place = at;
-    while i < to {
-        if table.len() <= i {
-            return place;
-        }
-        place = put(room, place, table[i]);
-        i += 1;
-    }
-    place
+    let end = to.min(table.len());
+    writer.put_all(&table[from.min(end)..end]);
 }
 
 // The statement at record i, whose bytes stand up to `end`, turned round: what stands before its own statements, and then these.
-fn put_turned(
-    table: &[u8],
-    program: &Program,
-    i: u32,
-    end: usize,
-    depth: u8,
-    room: &mut [u8],
-    at: usize,
-) -> usize
-    ensures { written room.new result ≡
-        puts (turned_at table.now program.now depth i end) room.old at }
+fn put_turned(table: &[u8], program: &Program, i: u32, end: usize, depth: u8, writer: &mut Writer)
+    ensures { writer.new ≡ puts (turned_at table.now program.now depth i end) writer.old }
 {
     let from = start(program, i);
     if depth == 0 {
-        return put_piece(table, from, end, room, at);
+        put_piece(table, from, end, writer);
+        return;
     }
-    let parts = parts_at(program, i);
-    match parts {
-        Parts::Neither => put_piece(table, from, end, room, at),
-        Parts::Call(_, _) => put_piece(table, from, end, room, at),
+    match parts_at(program, i) {
+        Parts::Neither | Parts::Call(_, _) => put_piece(table, from, end, writer),
         Parts::Two(first, second, in_turn) => {
             let middle = start(program, second);
-            let head_end = put_piece(table, from, start(program, first), room, at);
+            put_piece(table, from, start(program, first), writer);
             if in_turn {
-                let second_end = put_turned(table, program, second, end, depth - 1, room, head_end);
-                return put_turned(table, program, first, middle, depth - 1, room, second_end);
+                put_turned(table, program, second, end, depth - 1, writer);
+                put_turned(table, program, first, middle, depth - 1, writer);
+                return;
             }
-            let first_end = put_turned(table, program, first, middle, depth - 1, room, head_end);
-            put_turned(table, program, second, end, depth - 1, room, first_end)
+            put_turned(table, program, first, middle, depth - 1, writer);
+            put_turned(table, program, second, end, depth - 1, writer);
         }
     }
 }
@@ -76,63 +60,43 @@ fn body_end(table: &[u8], program: &Program, f: u8) -> usize
 }
 
 // The body of f, main at 0, turned round.
-fn put_body(table: &[u8], program: &Program, f: u8, room: &mut [u8], at: usize) -> usize
-    ensures { written room.new result ≡ puts (turned_body table.now program.now f) room.old at }
+fn put_body(table: &[u8], program: &Program, f: u8, writer: &mut Writer)
+    ensures { writer.new ≡ puts (turned_body table.now program.now f) writer.old }
 {
-    put_turned(
-        table,
-        program,
-        root(program, f),
-        body_end(table, program, f),
-        MOST_DEPTH,
-        room,
-        at,
-    )
+    let end = body_end(table, program, f);
+    put_turned(table, program, root(program, f), end, MOST_DEPTH, writer);
 }
 
 // The bodies of main and each procedure, one behind the other, each turned round.
-fn put_bodies(table: &[u8], program: &Program, p: u8, room: &mut [u8], at: usize) -> usize
-    ensures { written room.new result ≡
-        puts (turned_below table.now program.now (suc p)) room.old at }
+fn put_bodies(table: &[u8], program: &Program, writer: &mut Writer)
+    ensures { writer.new ≡
+        puts (turned_below table.now program.now (suc (procedure_count program.now))) writer.old }
 {
-    let mut place = at;
-    for f in 0..=p {
-        place = put_body(table, program, f, room, place);
+    for f in 0..=procedures(program) {
+        put_body(table, program, f, writer);
     }
-    place
 }
 
 // The whole table: edition and p as they stand, then the bodies.
-fn put_table(table: &[u8], program: &Program, room: &mut [u8]) -> usize
-    ensures { written room.new result ≡ puts (turned_table table.now program.now) room.old 0 }
+fn put_table(table: &[u8], program: &Program, writer: &mut Writer)
+    ensures { writer.new ≡ puts (turned_table table.now program.now) writer.old }
 {
-    let first_end = put_piece(table, 0, 2, room, 0);
-    put_bodies(table, program, procedures(program), room, first_end)
+    put_piece(table, 0, 2, writer);
+    put_bodies(table, program, writer);
 }
 
 // "9; header 1 .., 2, 3; each record ..; 8; 10 over the whole table, then 11, then 12", then 24 for a room that is shorter than the table; then the
 // inverse's bytes, which are as many as the table's.
-pub fn inverse(table: &[u8], n: u32, room: &mut [u8]) -> Answer
-    ensures value { result ≡ length_answer (inverse_table table.now n (length room.old)) }
+pub fn inverse(table: &[u8], n: u32, room: &mut [u8]) -> Result<usize, Refusal>
+    ensures value { outcome_of result ≡ given_length (inverse_table table.now n (length room.old)) }
     ensures room_after { room.new ≡ room_after (inverse_table table.now n (length room.old)) room.old }
 {
     let mut program = [0u32; PROGRAM_LENGTH];
-    let number = check_table(table, n, &mut program);
-    if number != 0 {
-        return Answer {
-            number: number as u32,
-            value: 0,
-        };
-    }
+    check_table(table, n, &mut program)?;
     if room.len() < table.len() {
-        return Answer {
-            number: SHORT_TABLE_ROOM as u32,
-            value: 0,
-        };
+        return Err(Refusal::ShortTableRoom);
     }
-    let length = put_table(table, &program, room);
-    Answer {
-        number: 0,
-        value: length as u64,
-    }
+    let mut writer = Writer::new(room);
+    put_table(table, &program, &mut writer);
+    Ok(writer.length())
 }

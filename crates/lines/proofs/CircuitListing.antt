@@ -1,98 +1,105 @@
 -- The listing of a circuit: what the loop over its gates keeps, and what `put_listing` leaves.
-use mathlib.Core.Path.{◌≡◌, refl, ap}
+use mathlib.Core.Path.{◌≡◌, refl, sym, ap}
 use mathlib.Core.List.{List, [], ◌∷◌, ◌++◌}
 use Prim.Native.Nat.{ℕ, zero, suc, ◌+◌, ◌-◌, ◌≤◌, ◌<◌}
-use native.Mathlib.Numerals.{add-one, sub-one}
 use native.Mathlib.Omega.{arith}
-use mir.Syntax.{w8}
-use mir.Val.{Fits}
-use borrow.Author.Rules.{rules}
-use lib.ListN.{length, get_or}
-use Rattle.model.specs.Limits.{not_well_formed, header_length}
-use Rattle.model.specs.Reading.{Input, Parsed, parsed, refused}
-use Rattle.model.specs.Gates.{Gate}
-use Rattle.model.specs.Circuit.{Circuit, encode_all, write}
-use Rattle.model.specs.Answers.{gives, circuit_read}
-use Rattle.model.specs.Listing.{gate_line, gate_lines, size, first_line, listed}
-use Rattle.model.proofs.RoundTrip.{AllWellFormed, left, read_encode, write_gates, write_circuit_read}
-use Rattle.circuit.specs.GatesInBytes.{input_at, settled, gate_in, gate_parsed, gate_written}
+use lib.Dec.{eqb}
+use lib.ListN.{length}
+use Rattle.model.specs.Limits.{success, not_well_formed}
+use Rattle.model.specs.Reading.{Input, Parsed, parsed, refused, and_then, provided}
+use Rattle.model.specs.Gates as model
+use Rattle.model.specs.Circuit.{Circuit, read_gate, read_gates, whole_circuit}
+use Rattle.model.specs.Answers.{gives, refuses, well_formed, circuit_read}
+use Rattle.model.specs.Listing.{gate_line, gate_lines, circuit_listing}
+use Rattle.model.proofs.BooleanLaws.{by_bool}
+use Rattle.circuit.specs.GatesInBytes.{input_of, settled, gate_in, gate_written}
+use Rattle.circuit.specs.declared.Gate.{Gate}
+use Rattle.circuit.specs.declared.Header.{Header}
+use Rattle.circuit.specs.Header.{gates_after}
+use Rattle.circuit.proofs.GateReading.{settled_parsed, read_written}
 use Rattle.answers.specs.Structs.{header_of}
 use Rattle.answers.specs.declared.CircuitHeader.{CircuitHeader}
-use Rattle.circuit.specs.declared.GateAt.{GateAt}
-use Rattle.circuit.specs.declared.GateRead.{GateRead}
-use Rattle.circuit.specs.declared.GateRead.TheVariants.{Found, NoGate}
-use Rattle.circuit.proofs.GateReading.{settled_parsed, read_written}
-use Rattle.circuit.proofs.CircuitReading.{read_gives}
-use Rattle.text.specs.AppendedBytes.{Written, written, puts}
-use Rattle.lines.specs.ListingRows.{line_then, lines_read}
-use Rattle.text.proofs.AppendLaws.{put_after, put_then}
+use Rattle.text.specs.declared.Writer.{Writer}
+use Rattle.text.specs.AppendedBytes.{puts}
+use Rattle.text.proofs.AppendLaws.{put_after}
+use Rattle.lines.specs.ListingRows.{line_then, lines_read, listing_read}
 
 -- the line of the next gate, then the others
-lines_more : (k left : ℕ) (i : Input) → 0 < left → lines_read k left i ≡ line_then k (gate_written i) (lines_read (k + 1) (left - 1))
+lines_more : (k count : ℕ) (i : Input) → k ≤ count →
+    lines_read k (count + 1 - k) i ≡ line_then k (gate_written i) (lines_read (k + 1) (count + 1 - (k + 1)))
 unfolding lines_read
-lines_more k zero i h = absurd (omega arith)
-lines_more k (suc n) i h = rw (sub-one, add-one, lines_read)
+lines_more k count i h =
+    let one : count + 1 - k ≡ suc (count + 1 - (k + 1)) = omega arith in
+    let next : suc k ≡ k + 1 = omega arith in
+    rw (one, lines_read, next)
 
 -- what is no gate has no line
-no_line : (k : ℕ) (p : Parsed Gate) (others : Input → List ℕ) → refused not_well_formed ≡ settled p → line_then k p others ≡ []
+no_line : (k : ℕ) (p : Parsed model.Gate) (others : Input → List ℕ) → refused not_well_formed ≡ settled p → line_then k p others ≡ []
 unfolding settled line_then
 no_line k (parsed g i) others e = let z : ◌≡◌ {A = ℕ} 0 1 = cc in absurd (omega arith)
 no_line k (refused r) others e = refl
 
--- what the loop of `gate_lines` keeps: all the lines are those that are left, behind those that were put
-module _ (bs text : List ℕ) (next k left place : ℕ) (whole : Written)
-    (inv : whole ≡ puts (lines_read k left (input_at bs next)) text place) where
-  pub lines_end : left ≤ 0 → written text place ≡ whole
+-- what the loop of `gate_lines` keeps
+module _ (bs : List ℕ) (k count : ℕ) (w whole : Writer) (inv : whole ≡ puts (lines_read k (count + 1 - k) (input_of bs)) w) where
+  pub lines_end : count < k → w ≡ whole
   unfolding lines_read puts
-  lines_end l = let z : left ≡ 0 = omega arith in rw (inv, z)
+  lines_end l = let none : count + 1 - k ≡ 0 = omega arith in rw (inv, none)
 
-  module _ (l : 0 < left) (x : GateRead) (p : gate_parsed bs x ≡ settled (gate_written (input_at bs next))) where
-    pub lines_bad : x ≡ NoGate → written text place ≡ whole
-    unfolding gate_parsed puts
-    lines_bad e =
-        rw (inv, lines_more k left (input_at bs next) l, no_line k (gate_written (input_at bs next)) _ (rw e at p))
+  pub lines_bad : k ≤ count → refused not_well_formed ≡ settled (gate_written (input_of bs)) → w ≡ whole
+  unfolding puts
+  lines_bad l e = rw (inv, lines_more k count (input_of bs) l, no_line k (gate_written (input_of bs)) _ e)
 
-    pub lines_next : (g : GateAt) → x ≡ Found g → (text₁ : List ℕ) (place₁ : ℕ) →
-        written text₁ place₁ ≡ puts (gate_line k (gate_in bs g)) text place →
-        whole ≡ puts (lines_read (k + 1) (left - 1) (input_at bs g.next)) text₁ place₁
-    unfolding gate_parsed line_then
-    lines_next g e text₁ place₁ q =
-        let found : gate_written (input_at bs next) ≡ parsed (gate_in bs g) (input_at bs g.next) =
-        settled_parsed (gate_written (input_at bs next)) (gate_in bs g) (input_at bs g.next) (rw e at p) in
-        rw (inv, lines_more k left (input_at bs next) l, found)
-        (put_after (gate_line k (gate_in bs g)) (lines_read (k + 1) (left - 1) (input_at bs g.next)) text text₁ place place₁ q)
+  pub lines_next : k ≤ count → (g : Gate) (behind : List ℕ) → parsed (gate_in g) (input_of behind) ≡ settled (gate_written (input_of bs)) →
+      (w₁ : Writer) → w₁ ≡ puts (gate_line k (gate_in g)) w → whole ≡ puts (lines_read (k + 1) (count + 1 - (k + 1)) (input_of behind)) w₁
+  unfolding line_then
+  lines_next l g behind p w₁ q =
+      let found : gate_written (input_of bs) ≡ parsed (gate_in g) (input_of behind) = settled_parsed (gate_written (input_of bs)) (gate_in g) (input_of behind) p in
+      rw (inv, lines_more k count (input_of bs) l, found) (put_after (gate_line k (gate_in g)) (lines_read (k + 1) (count + 1 - (k + 1)) (input_of behind)) w w₁ q)
 
-pub ruleset gating = (rules, lines_end, lines_bad, lines_next)
+-- the lines of gates that were read are the lines of the gates: the first of them, and those behind it
+lines_first : (most k n : ℕ) (i j : Input) (gs : List model.Gate) →
+    ((l m : Input) (hs : List model.Gate) → read_gates most n l ≡ parsed hs m → lines_read (suc k) n l ≡ gate_lines (suc k) hs) →
+    read_gates most (suc n) i ≡ parsed gs j → line_then k (gate_written i) (lines_read (suc k) n) ≡ gate_lines k gs
+unfolding read_gates and_then line_then gate_lines
+lines_first most k n i j gs rest e = go (read_gate most i) refl e
+  where
+    behind : (l : Input) (g : model.Gate) (p : Parsed (List model.Gate)) → read_gates most n l ≡ p → and_then p (λ hs m. parsed (g ∷ hs) m) ≡ parsed gs j →
+        gate_line k g ++ lines_read (suc k) n l ≡ gate_lines k gs
+    behind l g (parsed hs m) q f =
+        let same : g ∷ hs ≡ gs = cc in
+        rw (← same, rest l m hs q)
+    behind l g (refused r) q f = let z : ◌≡◌ {A = ℕ} 0 1 = cc in absurd (omega arith)
 
--- the lines read from the bytes of gates are the lines of the gates
-lines_are : (most k : ℕ) (gs : List Gate) → AllWellFormed most gs → lines_read k (length gs) (left (encode_all gs) 0) ≡ gate_lines k gs
-unfolding lines_read line_then encode_all gate_lines
-lines_are most k [] ok = refl
-lines_are most k (g ∷ gs) ok =
-    rw (read_written most _ _ g (read_encode most g ok.0 (encode_all gs) 0)) (ap (λ l. gate_line k g ++ l) (lines_are most (suc k) gs ok.1))
+    go : (p : Parsed model.Gate) → read_gate most i ≡ p → and_then p (λ g l. and_then (read_gates most n l) (λ hs m. parsed (g ∷ hs) m)) ≡ parsed gs j →
+        line_then k (gate_written i) (lines_read (suc k) n) ≡ gate_lines k gs
+    go (parsed g l) q f = rw (read_written most i l g q) (behind l g (read_gates most n l) refl f)
+    go (refused r) q f = let z : ◌≡◌ {A = ℕ} 0 1 = cc in absurd (omega arith)
 
--- behind its header a circuit's bytes are its gates
-gates_after_lem : (bs : List ℕ) (c : Circuit) → write c ≡ bs → input_at bs header_length ≡ left (encode_all c.gates) 0
-gates_after_lem bs c e = rw (← e, write_gates c)
+lines_are : (most k n : ℕ) (i j : Input) (gs : List model.Gate) → read_gates most n i ≡ parsed gs j → lines_read k n i ≡ gate_lines k gs
+unfolding read_gates lines_read gate_lines
+lines_are most k zero i j [] e = refl
+lines_are most k zero i j (g ∷ gs) e = let z : [] ≡ g ∷ gs = cc in cc
+lines_are most k (suc n) i j gs e = lines_first most k n i j gs (λ l m hs q. lines_are most (suc k) n l m hs q) e
 
--- what `put_listing` leaves, of a circuit whose header was read
-module _ (bs : List ℕ) (h : CircuitHeader) (is : h ≡ header_of (circuit_read bs)) (z : h.number ≡ 0) where
-  pub list_whole : ((i : ℕ) → Fits w8 (get_or bs i 0)) → (size : ℕ) → size ≡ h.gates + h.qubits + h.ancillas →
-      (text one end : List ℕ) (at first last : ℕ) →
-      written one first ≡ puts (first_line h.qubits h.ancillas size) text at →
-      written end last ≡ puts (lines_read 1 h.gates (input_at bs header_length)) one first →
-      written end last ≡ puts (listed (circuit_read bs)) text at
-  unfolding header_of listed
-  list_whole ok n counted text one end at first last p q =
-      let r = read_gives bs h is z in
-      let c : Circuit = r.0 in
-      let e : h ≡ header_of (gives c) = rw r.1 at is in
-      let w = write_circuit_read bs r.1 in
-      let gates : List ℕ = gate_lines 1 c.gates in
-      let same : lines_read 1 (length c.gates) (input_at bs header_length) ≡ gates =
-      rw (gates_after_lem bs c (w.1 (λ i. (ok i).fits))) (lines_are (c.data_wires + c.ancillas) 1 c.gates w.0.all_gates) in
-      rw r.1
-      (put_then (first_line c.data_wires c.ancillas (size c)) gates text one end at first last (rw e at (rw counted at p))
-      (rw same at (rw e at q)))
+-- a header and the bytes behind it, of a circuit that was read: what is listed of them is the circuit's listing
+pub listing_is : (bs : List ℕ) (h : Header) (l : List ℕ) → well_formed (whole_circuit h.qubits h.ancillas (gates_after h l)) ≡ circuit_read bs →
+    record { number = success; qubits = h.qubits; ancillas = h.ancillas; gates = h.gates } ≡ header_of (circuit_read bs) →
+    (c : Circuit) × (circuit_read bs ≡ gives c) × (listing_read h l ≡ circuit_listing c)
+unfolding and_then provided well_formed header_of
+listing_is bs h l whole header = go (gates_after h l) refl whole
+  where
+    none : circuit_read bs ≡ refuses not_well_formed → (c : Circuit) × (circuit_read bs ≡ gives c) × (listing_read h l ≡ circuit_listing c)
+    none e =
+        let f = rw e at header in
+        let z : ◌≡◌ {A = ℕ} success not_well_formed = ap (λ (y : CircuitHeader). y.number) f in
+        absurd (omega arith)
 
-pub ruleset circuits = (rules, list_whole)
+    go : (p : Parsed (List model.Gate)) → gates_after h l ≡ p → well_formed (whole_circuit h.qubits h.ancillas p) ≡ circuit_read bs →
+        (c : Circuit) × (circuit_read bs ≡ gives c) × (listing_read h l ≡ circuit_listing c)
+    go (parsed gs o) q e = by_bool (eqb (length o.bytes) 0)
+        (λ b. let given : circuit_read bs ≡ gives (record { data_wires = h.qubits; ancillas = h.ancillas; gates = gs }) = sym (rw b at e) in
+        let f = rw given at header in
+        let count : h.gates ≡ length gs = ap (λ (y : CircuitHeader). y.gates) f in
+        (record { data_wires = h.qubits; ancillas = h.ancillas; gates = gs }, given, rw (lines_are h.wires 1 h.gates (input_of l) o gs q, count)))
+        (λ b. none (sym (rw b at e)))
+    go (refused k) q e = none (sym e)

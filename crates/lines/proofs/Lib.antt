@@ -1,6 +1,5 @@
--- What the proofs of several functions, and of callers, use.
-mod ControlText
+pub mod ControlText
 mod WholeLines
-mod CircuitListing
+pub mod CircuitListing
 pub mod CircuitListingLength
 mod ListAnswers

@@ -1,232 +1,171 @@
-// "Worked programs", on the listing: its lines, put into a text one behind the other. Each function that puts takes the place from which it puts
-// its bytes and gives the place behind them; where the text has ended it counts on.
+// "Worked programs", on the listing: its lines, put into a text one behind the other.
 #![tactic(auto)]
 
-ghost use Rattle.std.specs.Prelude.{◌≡◌, ◌∷◌, ◌++◌, ◌+◌, length, leb};
-ghost use Rattle.model.specs.Answers.{circuit_read, room_after};
-ghost use Rattle.model.specs.Listing.{space, plus, decimal, signed, hyphens, control_text, gate_line, first_line, listed, circuit_list};
-ghost use Rattle.answers.specs.Structs.{length_answer, header_of};
-ghost use Rattle.circuit.specs.GatesInBytes.{part, input_at, list_in, gate_in};
-ghost use Rattle.text.specs.AppendedBytes.{written, puts};
-ghost use Rattle.lines.specs.ListingRows.{lower, action_with, lines_read};
+ghost use Rattle.std.specs.Prelude.{◌≡◌, ◌∷◌, ◌++◌, ◌+◌, length, ltb};
+ghost use Rattle.std.specs.List.{prefix_len};
+ghost use Rattle.model.specs.Answers.{room_after};
+ghost use Rattle.model.specs.Listing.{space, plus, decimal, signed, hyphens, control_text, action_text, gate_line, circuit_list};
+ghost use Rattle.answers.specs.Structs.{outcome_of, given_length, length_answer};
+ghost use Rattle.circuit.specs.GatesInBytes.{input_of, gate_with, gate_in};
+ghost use Rattle.model.specs.Gates.{no_controls};
+ghost use Rattle.text.specs.AppendedBytes.{place_after, puts};
+ghost use Rattle.lines.specs.ListingRows.{lines_read, first_read, listing_read};
 
-use answers::{Answer, CircuitHeader};
-use circuit::{GateAt, GateRead, WireList, gate_at, read_circuit};
-use limits::{HEADER_LENGTH, LISTING_FACTOR, NO_ROOM};
-use text::{put, put_decimal};
+use answers::Answer;
+use circuit::{Action, Gate, Header, gate_at, read_whole};
+use limits::{LISTING_FACTOR, Refusal};
+use text::Writer;
 
 // A space and a number.
-fn put_spaced(text: &mut [u8], at: usize, number: u64) -> usize
-    ensures { written text.new result ≡ puts (space ∷ decimal number) text.old at }
+#[tactic(auto, using(text::proofs::AppendLaws::put_next))]
+fn put_spaced(writer: &mut Writer, number: u64)
+    ensures { writer.new ≡ puts (space ∷ decimal number) writer.old }
 {
-    let next = put(text, at, b' ');
-    put_decimal(text, next, number)
+    writer.put(b' ');
+    writer.put_decimal(number);
 }
 
 // A control: a space, its sign and its wire.
-fn put_control(text: &mut [u8], at: usize, sign: u8, wire: u8) -> usize
-    ensures { written text.new result ≡ puts (signed sign wire) text.old at }
+#[tactic(auto, using(text::proofs::AppendLaws::put_next))]
+fn put_control(writer: &mut Writer, sign: u8, wire: u8)
+    ensures { writer.new ≡ puts (signed sign wire) writer.old }
 {
-    let space_end = put(text, at, b' ');
-    let sign_end = put(text, space_end, sign);
-    put_decimal(text, sign_end, wire as u64)
+    writer.put(b' ');
+    writer.put(sign);
+    writer.put_decimal(u64::from(wire));
 }
 
-// The controls on 0 at `count` places of the circuit: each a hyphen and its wire.
-fn put_hyphens(text: &mut [u8], at: usize, circuit: &[u8], from: usize, count: usize) -> usize
-    ensures { written text.new result ≡ puts (hyphens (part circuit.now from count)) text.old at }
+// Controls on 0, each a hyphen and its wire.
+fn put_hyphens(writer: &mut Writer, zeros: &[u8])
+    ensures { writer.new ≡ puts (hyphens zeros.now) writer.old }
 {
-    let mut place = at;
-    let mut next = from;
-    let mut left = count;
-    while 0 < left {
-        if circuit.len() <= next {
-            return place;
-        }
-        place = put_control(text, place, b'-', circuit[next]);
-        next += 1;
-        left -= 1;
+    for &wire in zeros {
+        put_control(writer, b'-', wire);
     }
-    place
 }
 
-// How many of `count` wires come before the first that is not below `wire`?
-fn count_below(circuit: &[u8], from: usize, count: usize, wire: u8) -> usize
-    ensures { result ≡ lower wire (part circuit.now from count) }
+// How many wires come before the first that is not below `wire`?
+fn count_below(zeros: &[u8], wire: u8) -> usize
+    ensures { result ≡ prefix_len (λ zero. ltb zero wire) zeros.now }
 {
-    let mut next = from;
-    let mut left = count;
-    let mut below = 0;
-    while 0 < left {
-        if circuit.len() <= next {
-            return below;
-        }
-        if wire <= circuit[next] {
-            return below;
-        }
-        next += 1;
-        left -= 1;
-        below += 1;
-    }
-    below
-}
-
-// A control on 1 behind `count` controls on 0.
-fn put_placed(
-    text: &mut [u8],
-    at: usize,
-    circuit: &[u8],
-    from: usize,
-    count: usize,
-    wire: u8,
-) -> usize
-    ensures { written text.new result ≡
-        puts (hyphens (part circuit.now from count) ++ signed plus wire) text.old at }
-{
-    let hyphens_end = put_hyphens(text, at, circuit, from, count);
-    put_control(text, hyphens_end, b'+', wire)
+    zeros.iter().take_while(|zero| **zero < wire).count()
 }
 
 // "controls ascending (+ on 1, − on 0, printed as a hyphen)": before each control on 1 come the controls on 0 below it.
-fn put_controls(
-    text: &mut [u8],
-    at: usize,
-    circuit: &[u8],
-    ones: WireList,
-    zeros: WireList,
-) -> usize
-    ensures { written text.new result ≡
-        puts (control_text (list_in circuit.now ones) (list_in circuit.now zeros)) text.old at }
+fn put_controls(writer: &mut Writer, ones: &[u8], zeros: &[u8])
+    ensures { writer.new ≡ puts (control_text ones.now zeros.now) writer.old }
 {
-    let mut place = at;
-    let mut one = ones.from;
-    let mut ones_left = ones.count;
-    let mut zero = zeros.from;
-    let mut zeros_left = zeros.count;
-    while 0 < ones_left {
-        if circuit.len() <= one {
-            return put_hyphens(text, place, circuit, zero, zeros_left);
-        }
-        let wire = circuit[one];
-        let below = count_below(circuit, zero, zeros_left, wire);
-        place = put_placed(text, place, circuit, zero, below, wire);
-        one += 1;
-        ones_left -= 1;
-        zero += below;
-        zeros_left -= below;
+    let mut rest = zeros;
+    for &wire in ones {
+        let (lower, higher) = rest.split_at(count_below(rest, wire));
+        put_hyphens(writer, lower);
+        put_control(writer, b'+', wire);
+        rest = higher;
     }
-    put_hyphens(text, place, circuit, zero, zeros_left)
+    put_hyphens(writer, rest);
 }
 
 // "X or S, target (for a swap both, lower first)"
-fn put_action(text: &mut [u8], at: usize, swaps: bool, target: u8, second: u8) -> usize
-    ensures { written text.new result ≡ puts (action_with swaps target second) text.old at }
+fn put_action(writer: &mut Writer, action: Action)
+    ensures { writer.new ≡ puts (action_text (gate_with action no_controls)) writer.old }
 {
-    if !swaps {
-        let letter_end = put(text, at, b'X');
-        return put_spaced(text, letter_end, target as u64);
+    match action {
+        Action::Not(target) => {
+            writer.put(b'X');
+            put_spaced(writer, u64::from(target));
+        }
+        Action::Swap(target, second) => {
+            writer.put(b'S');
+            put_spaced(writer, u64::from(target));
+            put_spaced(writer, u64::from(second));
+        }
     }
-    let letter_end = put(text, at, b'S');
-    let target_end = put_spaced(text, letter_end, target as u64);
-    put_spaced(text, target_end, second as u64)
 }
 
-// "gate number, X or S, target .., controls": the line of a gate that stands in the circuit.
-fn gate_line(text: &mut [u8], at: usize, circuit: &[u8], gate: GateAt, number: u64) -> usize
-    ensures { written text.new result ≡ puts (gate_line number (gate_in circuit.now gate)) text.old at }
+// "gate number, X or S, target .., controls": the line of a gate.
+#[tactic(auto, using(crate::proofs::WholeLines::gate_put))]
+fn gate_line(writer: &mut Writer, number: u32, gate: &Gate)
+    ensures { writer.new ≡ puts (gate_line number (gate_in gate.now)) writer.old }
 {
-    let number_end = put_decimal(text, at, number);
-    let space_end = put(text, number_end, b' ');
-    let action_end = put_action(text, space_end, gate.swaps, gate.target, gate.second);
-    let controls_end = put_controls(text, action_end, circuit, gate.ones, gate.zeros);
-    put(text, controls_end, b'\n')
+    writer.put_decimal(u64::from(number));
+    writer.put(b' ');
+    put_action(writer, gate.action);
+    put_controls(writer, gate.ones, gate.zeros);
+    writer.put(b'\n');
+}
+
+// The lines of `count` gates, numbered from 1.
+fn gate_lines(writer: &mut Writer, bytes: &[u8], count: u32)
+    ensures { writer.new ≡ puts (lines_read 1 count (input_of bytes.now)) writer.old }
+{
+    let mut rest = bytes;
+    for number in 1..=count {
+        let Some((gate, behind)) = gate_at(rest) else {
+            return;
+        };
+        gate_line(writer, number, &gate);
+        rest = behind;
+    }
 }
 
 // "gates plus data wires plus ancillas"
-fn size(header: CircuitHeader) -> u64
+fn size(header: Header) -> u64
     ensures { result ≡ header.gates + header.qubits + header.ancillas }
 {
-    header.gates as u64 + header.qubits as u64 + header.ancillas as u64
+    u64::from(header.gates) + u64::from(header.qubits) + u64::from(header.ancillas)
 }
 
 // "the first line is n, ancillas, size"
-fn first_line(text: &mut [u8], at: usize, n: u32, ancillas: u32, size: u64) -> usize
-    ensures { written text.new result ≡ puts (first_line n ancillas size) text.old at }
+#[tactic(auto, using(crate::proofs::WholeLines::first_put))]
+fn first_line(writer: &mut Writer, header: Header)
+    ensures { writer.new ≡ puts (first_read header) writer.old }
 {
-    let n_end = put_decimal(text, at, n as u64);
-    let ancillas_end = put_spaced(text, n_end, ancillas as u64);
-    let size_end = put_spaced(text, ancillas_end, size);
-    put(text, size_end, b'\n')
+    writer.put_decimal(u64::from(header.qubits));
+    put_spaced(writer, u64::from(header.ancillas));
+    put_spaced(writer, size(header));
+    writer.put(b'\n');
 }
 
-// The lines of `count` gates from a place of the circuit on, numbered from 1.
-fn gate_lines(text: &mut [u8], at: usize, circuit: &[u8], from: usize, count: u32) -> usize
-    ensures { written text.new result ≡
-        puts (lines_read 1 count (input_at circuit.now from)) text.old at }
+// The listing of a circuit: its first line and a line for each gate.
+#[tactic(auto, using(text::proofs::AppendLaws::put_then))]
+fn put_listing(writer: &mut Writer, header: Header, gates: &[u8])
+    ensures { writer.new ≡ puts (listing_read header gates.now) writer.old }
 {
-    let mut place = at;
-    let mut next = from;
-    let mut number = 1u64;
-    let mut left = count;
-    while 0 < left {
-        let found = gate_at(circuit, next);
-        let GateRead::Found(gate) = found else {
-            return place;
-        };
-        place = gate_line(text, place, circuit, gate, number);
-        next = gate.next;
-        number += 1;
-        left -= 1;
-    }
-    place
+    first_line(writer, header);
+    gate_lines(writer, gates, header.gates);
 }
 
-// The listing of a circuit whose header was read: its first line and a line for each gate.
-fn put_listing(text: &mut [u8], circuit: &[u8], header: CircuitHeader) -> usize
-    requires header_value { header ≡ header_of (circuit_read circuit.now) }
-    requires number_value { header.number ≡ 0 }
-    ensures { written text.new result ≡ puts (listed (circuit_read circuit.now)) text.old 0 }
+// How long the listing of a circuit is: it is put into a text of no bytes.
+fn listing_length(header: Header, gates: &[u8]) -> usize
+    ensures { result ≡ place_after 0 (length (listing_read header gates.now)) }
 {
-    let first_end = first_line(text, 0, header.qubits, header.ancillas, size(header));
-    gate_lines(text, first_end, circuit, HEADER_LENGTH, header.gates)
-}
-
-// Does a text of this length take the listing? Where it may be too short, the listing is measured.
-fn fits(circuit: &[u8], header: CircuitHeader, room: usize) -> bool
-    requires header_value { header ≡ header_of (circuit_read circuit.now) }
-    requires number_value { header.number ≡ 0 }
-    ensures { result ≡ leb (length (listed (circuit_read circuit.now))) room }
-{
-    if circuit.len() <= room / LISTING_FACTOR {
-        return true;
-    }
     let mut nothing = [0u8; 0];
-    let length = put_listing(&mut nothing[..], circuit, header);
-    length <= room
+    let mut writer = Writer::new(&mut nothing[..]);
+    put_listing(&mut writer, header, gates);
+    writer.length()
 }
 
 // The listing of a circuit, into a text that takes the whole of it: its length; 14 where the circuit is not well formed, 23 where the text is too
-// short, and then the text is left as it is.
+// short, and then the text is left as it is. A text that may be too short is measured.
+pub fn list(circuit: &[u8], text: &mut [u8]) -> Result<usize, Refusal>
+    ensures value { outcome_of result ≡ given_length (circuit_list circuit.now (length text.old)) }
+    ensures text_after { text.new ≡ room_after (circuit_list circuit.now (length text.old)) text.old }
+{
+    let Some((header, gates)) = read_whole(circuit) else {
+        return Err(Refusal::NotWellFormed);
+    };
+    if text.len() / LISTING_FACTOR < circuit.len() && text.len() < listing_length(header, gates) {
+        return Err(Refusal::NoRoom);
+    }
+    let mut writer = Writer::new(text);
+    put_listing(&mut writer, header, gates);
+    Ok(writer.length())
+}
+
+// The same as C gets it.
 pub fn list_circuit(circuit: &[u8], text: &mut [u8]) -> Answer
     ensures value { result ≡ length_answer (circuit_list circuit.now (length text.old)) }
     ensures text_after { text.new ≡ room_after (circuit_list circuit.now (length text.old)) text.old }
 {
-    let header = read_circuit(circuit);
-    if header.number != 0 {
-        return Answer {
-            number: header.number,
-            value: 0,
-        };
-    }
-    if !fits(circuit, header, text.len()) {
-        return Answer {
-            number: NO_ROOM as u32,
-            value: 0,
-        };
-    }
-    let length = put_listing(text, circuit, header);
-    Answer {
-        number: 0,
-        value: length as u64,
-    }
+    Answer::from(list(circuit, text))
 }

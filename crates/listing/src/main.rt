@@ -13,7 +13,6 @@ use compile::compile;
 use limits::{LEAST_WORKSPACE, MOST_CIRCUIT, MOST_LISTING, MOST_RECORDS, MOST_REMOVALS};
 use lines::list_circuit;
 use std::io::Read;
-use std::rt::{Env, Files};
 use text::refusal_line;
 
 // The longest record: map, kind, removals behind their count, and number a; a number has three bytes.
@@ -91,20 +90,6 @@ fn list_input(rt: &(impl Print + Eprint + AllocGlobal), input: &mut impl Read) {
     inputs::print(rt, &text[..length]);
 }
 
-fn list_argument(rt: &(impl Env + Files + Input + Print + Eprint + AllocGlobal), i: usize) {
-    let Some(mut source) = inputs::open(rt, i) else {
-        return;
-    };
-    list_input(rt, &mut source);
-    inputs::close(source);
-}
-
 fn main(rt: HostRuntime) {
-    let count = inputs::argument_count(&rt);
-    if count < 2 {
-        list_input(&rt, &mut rt.reader());
-    }
-    for i in 1..count {
-        list_argument(&rt, i);
-    }
+    inputs::each(&rt, |input| list_input(&rt, input));
 }

@@ -1,4 +1,4 @@
 -- What the proofs of several functions, and of callers, use.
+mod BarredWires
 mod OutermostWires
-mod MarkedWires
 pub mod MarkedBand

@@ -1,196 +1,110 @@
 // Document 02, S-1: the marks of the gates of one band, a column for each gate and in it a byte for each number of a wire. Each gate is decoded once.
 #![tactic(auto)]
 
-ghost use Rattle.std.specs.Prelude.{◌≡◌, ◌+◌, ◌*◌, set};
-ghost use Rattle.limits.specs.Sizes.{wire_count};
-ghost use Rattle.model.specs.Gates.{no_controls, targets};
+ghost use Rattle.std.specs.Prelude.{◌≡◌, ◌≤◌, MatchOption, ⊤};
 ghost use Rattle.model.specs.Circuit.{wires};
 ghost use Rattle.model.specs.Page.{band_gates, bar};
-ghost use Rattle.circuit.specs.GatesInBytes.{part, input_at, settled, gate_with, gate_in, controls_in};
+ghost use Rattle.circuit.specs.GatesInBytes.{input_of, settled, gate_in, controls_in};
 ghost use Rattle.marks.specs.Columns.{span_from, span_of, inside, mark_all, mark_controls, mark_gate, mark_from, band_parsed};
 
-use circuit::write::{higher, lower};
-use circuit::{GateAt, GateRead, read_gate};
+use circuit::{Action, Gate, read_gate};
 use limits::{BAND_GATES, WIRE_COUNT};
 
+// The marks of a gate: a byte for each number of a wire.
+pub type Column = [u8; WIRE_COUNT];
+
+// Those of a band's gates: "nineteen gates fill a line of 80".
+pub type Columns = [Column; BAND_GATES as usize];
+
 // The outermost of some wires.
-#[derive(Drop)]
+#[derive(Clone, Copy)]
 pub struct Span {
     pub low: u8,
     pub high: u8,
 }
 
-// How many gates a band has, and the place behind them.
-#[derive(Drop)]
-pub struct BandEnd {
-    pub count: u8,
-    pub next: usize,
-}
-
-#[derive(Drop)]
-pub enum BandRead {
-    Gates(BandEnd),
-    NoBand,
-}
-
-// The outermost of two wires and `count` wires from a place on.
-fn with_wires(bytes: &[u8], from: usize, count: usize, low: u8, high: u8) -> Span
-    ensures { result ≡ span_from low high (part bytes.now from count) }
-{
-    let mut lowest = low;
-    let mut highest = high;
-    let mut at = from;
-    let mut left = count;
-    while 0 < left {
-        if bytes.len() <= at {
-            return Span {
-                low: lowest,
-                high: highest,
-            };
-        }
-        let wire = bytes[at];
-        lowest = lower(lowest, wire);
-        highest = higher(highest, wire);
-        at += 1;
-        left -= 1;
-    }
-    Span {
-        low: lowest,
-        high: highest,
-    }
-}
-
-// The outermost wires of a NOT's target or of a swap's two wires.
-fn target_span(swaps: bool, target: u8, second: u8) -> Span
-    ensures { result ≡ span_of (targets (gate_with swaps no_controls target second)) }
-{
-    if !swaps {
-        return Span {
-            low: target,
-            high: target,
-        };
-    }
-    Span {
-        low: lower(target, second),
-        high: higher(target, second),
+impl Span {
+    // The outermost of these and other wires.
+    fn with_wires(self, wires: &[u8]) -> Span
+        ensures { result ≡ span_from self wires.now }
+    {
+        wires.iter().fold(
+            self,
+            |span, &wire| Span {
+                low: span.low.min(wire),
+                high: span.high.max(wire),
+            },
+        )
     }
 }
 
 // "a gate's outermost wires"
-fn outermost(bytes: &[u8], gate: GateAt) -> Span
-    ensures { result ≡ span_of (wires (gate_in bytes.now gate)) }
+#[tactic(auto, using(crate::proofs::OutermostWires::gate_span))]
+fn outermost(gate: &Gate<'_>) -> Span
+    ensures { result ≡ span_of (wires (gate_in gate.now)) }
 {
-    let targets = target_span(gate.swaps, gate.target, gate.second);
-    let ones = with_wires(
-        bytes,
-        gate.ones.from,
-        gate.ones.count,
-        targets.low,
-        targets.high,
-    );
-    with_wires(
-        bytes,
-        gate.zeros.from,
-        gate.zeros.count,
-        ones.low,
-        ones.high,
-    )
-}
-
-// One mark of a column.
-fn set_mark(marks: &mut [u8], column: u8, wire: u8, sign: u8)
-    ensures { marks.new ≡ set marks.old (wire_count * column + wire) sign }
-{
-    let at = WIRE_COUNT * column as usize + wire as usize;
-    if at < marks.len() {
-        marks[at] = sign;
-    }
+    let (target, last) = gate.action.wires();
+    let own = Span {
+        low: target.min(last),
+        high: target.max(last),
+    };
+    own.with_wires(gate.ones).with_wires(gate.zeros)
 }
 
 // "a bar (7C) on other rows between a gate's outermost wires"
-fn mark_bars(marks: &mut [u8], column: u8, low: u8, high: u8)
-    ensures { marks.new ≡ mark_all bar column (inside low high) marks.old }
+#[tactic(auto, using(crate::proofs::BarredWires::range_none, crate::proofs::BarredWires::range_more))]
+fn mark_bars(column: &mut Column, span: Span)
+    ensures { column.new ≡ mark_all bar (inside span) column.old }
 {
-    let mut wire = low;
-    while wire < high {
-        wire += 1;
-        if wire == high {
-            return;
-        }
-        set_mark(marks, column, wire, b'|');
+    for wire in span.low as usize + 1..span.high as usize {
+        column[wire] = b'|';
     }
 }
 
-// One mark on each of `count` wires from a place on.
-fn mark_wires(marks: &mut [u8], column: u8, bytes: &[u8], from: usize, count: usize, sign: u8)
-    ensures { marks.new ≡ mark_all sign column (part bytes.now from count) marks.old }
+// One mark on each of these wires.
+fn mark_wires(column: &mut Column, wires: &[u8], sign: u8)
+    ensures { column.new ≡ mark_all sign wires.now column.old }
 {
-    let mut at = from;
-    let mut left = count;
-    while 0 < left {
-        if bytes.len() <= at {
-            return;
-        }
-        set_mark(marks, column, bytes[at], sign);
-        at += 1;
-        left -= 1;
+    for &wire in wires {
+        column[wire as usize] = sign;
     }
 }
 
 // "+ or o for a control on 1 or 0"
-fn mark_controls(marks: &mut [u8], column: u8, bytes: &[u8], gate: GateAt)
-    ensures { marks.new ≡ mark_controls column (controls_in bytes.now gate) marks.old }
+fn mark_controls(column: &mut Column, gate: &Gate<'_>)
+    ensures { column.new ≡ mark_controls (controls_in gate.now) column.old }
 {
-    mark_wires(
-        marks,
-        column,
-        bytes,
-        gate.zeros.from,
-        gate.zeros.count,
-        b'o',
-    );
-    mark_wires(marks, column, bytes, gate.ones.from, gate.ones.count, b'+');
+    mark_wires(column, gate.zeros, b'o');
+    mark_wires(column, gate.ones, b'+');
 }
 
 // All marks of a gate; "X for a NOT's target, S for each swapped wire"
-fn mark_gate(marks: &mut [u8], column: u8, bytes: &[u8], gate: GateAt)
-    ensures { marks.new ≡ mark_gate column (gate_in bytes.now gate) marks.old }
+#[tactic(auto, unfolding(model::specs::Gates::targets, model::specs::Circuit::controls_of, model::specs::Page::letter))]
+fn mark_gate(column: &mut Column, gate: &Gate<'_>)
+    ensures { column.new ≡ mark_gate (gate_in gate.now) column.old }
 {
-    let span = outermost(bytes, gate);
-    mark_bars(marks, column, span.low, span.high);
-    mark_controls(marks, column, bytes, gate);
-    if !gate.swaps {
-        set_mark(marks, column, gate.target, b'X');
-        return;
+    mark_bars(column, outermost(gate));
+    mark_controls(column, gate);
+    match gate.action {
+        Action::Not(target) => mark_wires(column, &[target], b'X'),
+        Action::Swap(target, second) => mark_wires(column, &[target, second], b'S'),
     }
-    set_mark(marks, column, gate.target, b'S');
-    set_mark(marks, column, gate.second, b'S');
 }
 
-// The marks of at most nineteen gates over wires 1 to `most` from a place on, as many as there are.
-pub fn mark_band(marks: &mut [u8], bytes: &[u8], from: usize, most: u8) -> BandRead
-    ensures { band_parsed bytes.now result marks.new ≡
-        settled (mark_from most band_gates 0 (input_at bytes.now from) marks.old) }
+// The marks of at most nineteen gates over wires 1 to `most`, as many as the input has: how many, and the input behind them.
+#[tactic(auto, using(crate::proofs::MarkedBand::banding))]
+pub fn mark_band<'a>(columns: &mut Columns, input: &'a [u8], most: u8) -> Option<(usize, &'a [u8])>
+    ensures value { band_parsed result columns.new ≡ settled (mark_from most band_gates 0 (input_of input.now) columns.old) }
+    ensures few { MatchOption result ⊤ (λ band. band.0 ≤ band_gates) }
 {
-    let mut at = from;
-    let mut column = 0u8;
-    while column < BAND_GATES {
-        if bytes.len() <= at {
-            return BandRead::Gates(BandEnd {
-                count: column,
-                next: at,
-            });
+    let mut left = input;
+    for (count, column) in columns.iter_mut().enumerate() {
+        if left.is_empty() {
+            return Some((count, left));
         }
-        let found = read_gate(bytes, at, most);
-        let GateRead::Found(gate) = found else {
-            return BandRead::NoBand;
-        };
-        mark_gate(marks, column, bytes, gate);
-        at = gate.next;
-        column += 1;
+        let (gate, rest) = read_gate(left, most)?;
+        mark_gate(column, &gate);
+        left = rest;
     }
-    BandRead::Gates(BandEnd {
-        count: column,
-        next: at,
-    })
+    Some((columns.len(), left))
 }

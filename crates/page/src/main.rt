@@ -10,13 +10,13 @@ ghost use Rattle.page.specs.Parts.{page_part};
 use bands::page_band;
 use limits::{MOST_BAND, MOST_CIRCUIT};
 use std::io::Read;
-use std::rt::{Env, Files};
-use text::refusal_line;
+use text::Writer;
 
 // One byte more than a circuit can have: enough to know that an input is too long.
 const INPUT_LENGTH: usize = MOST_CIRCUIT + 1;
 
-// How much was put into the text, and the place where the next band begins, 0 behind the last.
+// How much was put into the text, and the place where the next band begins, 0 behind the last. No Option: that a place is above the one before it is asked
+// anyway, so that the page ends, and 0 is above none.
 #[derive(Drop)]
 struct Part {
     length: usize,
@@ -32,9 +32,10 @@ fn put_part(text: &mut [u8; MOST_BAND], input: &[u8], at: usize) -> Part
 {
     let band = page_band(input, at, &mut text[..]);
     if band.number != 0 {
-        let length = refusal_line(&mut text[..], 0, band.number);
+        let mut writer = Writer::new(&mut text[..]);
+        writer.put_refusal(band.number);
         return Part {
-            length: length,
+            length: writer.length(),
             next: 0,
         };
     }
@@ -44,7 +45,8 @@ fn put_part(text: &mut [u8; MOST_BAND], input: &[u8], at: usize) -> Part
     }
 }
 
-// The same for an input of which the program read as much as the buffer takes: the buffer is long enough, whatever was left unread.
+// The same for an input of which the program read as much as the buffer takes: the buffer is long enough, whatever was left unread. That is said of the
+// buffer's length, so this takes the buffer with a count, and no part of it.
 fn put_part_read(
     text: &mut [u8; MOST_BAND],
     buffer: &[u8; INPUT_LENGTH],
@@ -57,14 +59,11 @@ fn put_part_read(
         text.new ≡ (page_part whole at).text ++ drop result.length text.old }
     ensures prefix_len { IsPrefixLen result.length text.new }
 {
-    let bytes = &buffer[..];
-    if count < INPUT_LENGTH {
-        return put_part(text, &bytes[..count], at);
-    }
-    put_part(text, bytes, at)
+    put_part(text, &buffer[..count.min(INPUT_LENGTH)], at)
 }
 
-// The page of what can be read from an input, band by band. A place is above the one before it, or 0, which ends the page.
+// The page of what can be read from an input, band by band. A place is above the one before it, or 0, which ends the page; each band says where the next
+// begins, so no `for` could count the places.
 fn print_page(rt: &(impl Print + Eprint + AllocGlobal), input: &mut impl Read) {
     let mut buffer = [0u8; INPUT_LENGTH];
     let mut text = [0u8; MOST_BAND];
@@ -72,31 +71,13 @@ fn print_page(rt: &(impl Print + Eprint + AllocGlobal), input: &mut impl Read) {
     let mut at = 0;
     loop {
         let part = put_part_read(&mut text, &buffer, count, at);
-        let length = part.length;
-        if !inputs::print(rt, &text[..length]) {
-            return;
-        }
-        if part.next <= at {
+        if !inputs::print(rt, &text[..part.length]) || part.next <= at {
             return;
         }
         at = part.next;
     }
 }
 
-fn print_argument(rt: &(impl Env + Files + Input + Print + Eprint + AllocGlobal), i: usize) {
-    let Some(mut source) = inputs::open(rt, i) else {
-        return;
-    };
-    print_page(rt, &mut source);
-    inputs::close(source);
-}
-
 fn main(rt: HostRuntime) {
-    let count = inputs::argument_count(&rt);
-    if count < 2 {
-        print_page(&rt, &mut rt.reader());
-    }
-    for i in 1..count {
-        print_argument(&rt, i);
-    }
+    inputs::each(&rt, |input| print_page(&rt, input));
 }

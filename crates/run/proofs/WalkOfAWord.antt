@@ -5,6 +5,7 @@ use mathlib.Core.List.{List, [], ◌∷◌}
 use Prim.Native.Nat.{ℕ, zero, suc, ◌+◌, ◌-◌, ◌*◌, ◌/◌, ◌%◌, ◌^◌, ◌≤◌, ◌<◌}
 use native.Mathlib.Nat.{le_refl}
 use native.Mathlib.Omega.{arith}
+use Rattle.std.proofs.Common.{inl, inr, ◌⊎◌}
 use mir.Syntax.{w64}
 use mir.Val.{Fits}
 use borrow.Author.Rules.{rules}
@@ -36,23 +37,19 @@ use Rattle.run.proofs.WordClauses.{word_yes, word_no, word_zero, word_one, qubit
 
 -- ---- flip and bit
 
--- number 0 is no qubit
-pub flip_none : (q word : ℕ) → q ≡ 0 → word ≡ flipped_word q word
+-- number 0 is no qubit, nor is one past the last
+abbrev NoQubit : ℕ → Type 0
+NoQubit q = (q ≡ 0) ⊎ ((q ≡ 0 → ⊥) × (most_qubits < q))
+
+pub flip_none : (q word : ℕ) → NoQubit q → word ≡ flipped_word q word
 unfolding bit_flipped
-flip_none q word e = rw e
+flip_none q word (inl e) = rw e
+flip_none q word (inr h) = rw (lt-ltb most_qubits q h.1)
 
-pub bit_none : (q word : ℕ) → q ≡ 0 → false ≡ bit_of q word
+pub bit_none : (q word : ℕ) → NoQubit q → false ≡ bit_of q word
 unfolding state_of
-bit_none q word e = rw e
-
--- nor is one past the last
-pub flip_past : (q word : ℕ) → most_qubits < q → word ≡ flipped_word q word
-unfolding bit_flipped
-flip_past q word h = rw (lt-ltb most_qubits q h)
-
-pub bit_past : (q word : ℕ) → most_qubits < q → false ≡ bit_of q word
-unfolding state_of
-bit_past q word h = rw (lt-ltb most_qubits q h)
+bit_none q word (inl e) = rw e
+bit_none q word (inr h) = rw (lt-ltb most_qubits q h.1)
 
 -- qubit q is bit q − 1
 pub flip_bit : (q word : ℕ) → (q ≡ 0 → ⊥) → q ≤ most_qubits → bit_xor word ((1 * 2 ^ (q - 1)) % 2 ^ 64) ≡ flipped_word q word
@@ -82,8 +79,19 @@ module _ (g : List ℕ) (left at : ℕ) (l : List ℕ) (fuel word whole : ℕ) (
     deep : left ≡ 0 → ⊥
     deep e = omega arith
 
-    pub walk_idle : (x : Step) → st ≡ x → Idle x → word ≡ whole
-    walk_idle x e o = skipped (idle_skip g left at deep steps x e o)
+    idle : (x : Step) → st ≡ x → Idle x → word ≡ whole
+    idle x e o = skipped (idle_skip g left at deep steps x e o)
+
+    -- skip, and what is no statement, gives its word back
+    pub walk_idle : (st ≡ step.Nothing) ⊎ (((k : ℕ) × (st ≡ step.Greater k)) ⊎ (((k : ℕ) × (st ≡ step.AtLeast k)) ⊎ (((k : ℕ) × (st ≡ step.Equal k)) ⊎
+        (((a : ℕ) × (b : ℕ) × (st ≡ step.Both a b)) ⊎ (((a : ℕ) × (b : ℕ) × (st ≡ step.Either a b)) ⊎ ((a : ℕ) × (st ≡ step.Negates a))))))) → word ≡ whole
+    walk_idle (inl e) = idle step.Nothing e tt
+    walk_idle (inr (inl h)) = idle (step.Greater h.0) h.1 tt
+    walk_idle (inr (inr (inl h))) = idle (step.AtLeast h.0) h.1 tt
+    walk_idle (inr (inr (inr (inl h)))) = idle (step.Equal h.0) h.1 tt
+    walk_idle (inr (inr (inr (inr (inl h))))) = idle (step.Both h.0 h.1) h.2 tt
+    walk_idle (inr (inr (inr (inr (inr (inl h)))))) = idle (step.Either h.0 h.1) h.2 tt
+    walk_idle (inr (inr (inr (inr (inr (inr h)))))) = idle (step.Negates h.0) h.1 tt
 
     -- NOT flips the bit of the qubit that it touches
     pub walk_touches : (place q r : ℕ) → st ≡ step.Touches place → q ≡ touched_by g place l → r ≡ flipped_word q word → r ≡ whole
@@ -130,16 +138,20 @@ less_deep left depth h = omega arith
 
 module _ (g : List ℕ) where
   module _ (f : ℕ) where
-    -- an empty list gives the word back
-    pub call_empty : (list fuel word : ℕ) → list ≡ 0 → word ≡ called g f (members_of list) fuel word
-    unfolding call_words
-    call_empty list fuel word e = rw (e, members_empty)
-
-    -- so does a call that is too deep
-    pub call_spent : (l : List ℕ) (fuel word : ℕ) → fuel ≡ 0 → word ≡ called g f l fuel word
+    -- a call that is too deep gives the word back
+    call_spent : (l : List ℕ) (fuel word : ℕ) → fuel ≡ 0 → word ≡ called g f l fuel word
     unfolding call_words call_words_within
     call_spent [] fuel word e = refl
     call_spent (q ∷ l) fuel word e = rw e
+
+    -- so does one with an empty list
+    call_empty : (list fuel word : ℕ) → list ≡ 0 → word ≡ called g f (members_of list) fuel word
+    unfolding call_words
+    call_empty list fuel word e = rw (e, members_empty)
+
+    pub call_none : (list fuel word : ℕ) → (fuel ≡ 0) ⊎ ((fuel ≡ 0 → ⊥) × (list ≡ 0)) → word ≡ called g f (members_of list) fuel word
+    call_none list fuel word (inl e) = call_spent (members_of list) fuel word e
+    call_none list fuel word (inr h) = call_empty list fuel word h.1
 
     -- and a call of no procedure
     pub call_past : (l : List ℕ) (fuel word p : ℕ) → p ≡ procedure_count g → p < f → word ≡ called g f l fuel word
@@ -178,4 +190,4 @@ pub ruleset walking = (
   walk_calls,
 )
 
-pub ruleset calling = (rules, call_empty, call_spent, call_past, call_body)
+pub ruleset calling = (rules, call_none, call_past, call_body)

@@ -6,14 +6,11 @@ ghost use Rattle.model.specs.Limits.{most_qubits};
 ghost use Rattle.decoded.specs.DecodedTable.{program_at};
 ghost use Rattle.sets.specs.Sets.{members_of};
 ghost use Rattle.run.specs.RunOnWords.{flipped_word, bit_of, walked, called, ran_word};
-ghost use Rattle.answers.specs.Structs.{answer_of};
+ghost use Rattle.answers.specs.Structs.{outcome_of};
 ghost use Rattle.model.specs.Answers as model;
 
-use answers::Answer;
 use decoded::{PROGRAM_LENGTH, Program, Step, procedures, root, step_at};
-use limits::{
-    HIGH_BIT, LEAST_WORKSPACE, MOST_DEPTH, MOST_N, MOST_QUBITS, SHORT_WORKSPACE, WRONG_QUBITS,
-};
+use limits::{LEAST_WORKSPACE, MOST_DEPTH, MOST_QUBITS, Refusal};
 use sets::{QubitSet, size};
 use step::{all, chosen, remaining, touched};
 use verdict::check_table;
@@ -23,10 +20,7 @@ use wires::fits;
 fn flip(word: u64, q: u8) -> u64
     ensures { result ≡ flipped_word q word }
 {
-    if q == 0 {
-        return word;
-    }
-    if q > MOST_QUBITS {
+    if q == 0 || MOST_QUBITS < q {
         return word;
     }
     word ^ (1u64 << (q - 1))
@@ -36,10 +30,7 @@ fn flip(word: u64, q: u8) -> u64
 fn bit(word: u64, q: u8) -> bool
     ensures { result ≡ bit_of q word }
 {
-    if q == 0 {
-        return false;
-    }
-    if q > MOST_QUBITS {
+    if q == 0 || MOST_QUBITS < q {
         return false;
     }
     (word >> (q - 1)) & 1 == 1
@@ -87,13 +78,13 @@ fn walk(program: &Program, i: u32, depth: u8, list: QubitSet, fuel: u16, word: u
                 fuel,
                 current,
             ),
-            Step::Nothing => return current,
-            Step::Greater(_) => return current,
-            Step::AtLeast(_) => return current,
-            Step::Equal(_) => return current,
-            Step::Both(_, _) => return current,
-            Step::Either(_, _) => return current,
-            Step::Negates(_) => return current,
+            Step::Nothing
+            | Step::Greater(_)
+            | Step::AtLeast(_)
+            | Step::Equal(_)
+            | Step::Both(_, _)
+            | Step::Either(_, _)
+            | Step::Negates(_) => return current,
         }
     }
     current
@@ -105,13 +96,10 @@ fn walk(program: &Program, i: u32, depth: u8, list: QubitSet, fuel: u16, word: u
 fn call(program: &Program, f: u8, list: QubitSet, fuel: u16, word: u64) -> u64
     ensures { result ≡ called program.now f (members_of list) fuel word }
 {
-    if list == 0 {
+    if fuel == 0 || list == 0 {
         return word;
     }
-    if fuel == 0 {
-        return word;
-    }
-    if f > procedures(program) {
+    if procedures(program) < f {
         return word;
     }
     walk(program, root(program, f), MOST_DEPTH, list, fuel - 1, word)
@@ -133,34 +121,16 @@ fn end_word(program: &Program, n: u8, word: u64) -> u64
 }
 
 // The run: "9; header 1 .., 2, 3; each record ..; 8; 10 over the whole table, then 11, then 12; 13; 21", then the end word; for a workspace of that length.
-pub fn run(table: &[u8], n: u32, word: u64, space: usize) -> Answer
-    ensures { result ≡ answer_of (model.run table.now n word space) }
+pub fn run(table: &[u8], n: u32, word: u64, space: usize) -> Result<u64, Refusal>
+    ensures { outcome_of result ≡ model.run table.now n word space }
 {
     let mut program = [0u32; PROGRAM_LENGTH];
-    let number = check_table(table, n, &mut program) as u32;
-    if number != 0 {
-        return Answer { number, value: 0 };
-    }
-    // An accepted table has no more qubits than the limit: this way is never taken, and lets n be a byte.
-    if MOST_N < n {
-        return Answer {
-            number: WRONG_QUBITS as u32,
-            value: 0,
-        };
-    }
-    let qubits = n as u8;
+    let qubits = check_table(table, n, &mut program)?;
     if !fits(word, qubits) {
-        return Answer {
-            number: HIGH_BIT as u32,
-            value: 0,
-        };
+        return Err(Refusal::HighBit);
     }
     if space < LEAST_WORKSPACE {
-        return Answer {
-            number: SHORT_WORKSPACE as u32,
-            value: 0,
-        };
+        return Err(Refusal::ShortWorkspace);
     }
-    let value = end_word(&program, qubits, word);
-    Answer { number: 0, value }
+    Ok(end_word(&program, qubits, word))
 }

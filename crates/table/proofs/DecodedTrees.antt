@@ -7,17 +7,20 @@ use mathlib.Core.Path.{◌≡◌, refl, sym, ◌∙◌, subst}
 use mathlib.Core.Bool.{Bool, true, false, cond}
 use mathlib.Core.List.{List, [], ◌∷◌, ◌++◌}
 use mathlib.Core.Option.{Option, none, some}
-use borrow.Author.Tests.{lt-ltb, le-ltb, le-leb, lt-leb, ltb-true, ltb-false}
+use borrow.Author.Tests.{lt-ltb, le-ltb, ltb-true, ltb-false}
 use lib.Dec.{ltb}
 use lib.ListN.{length, get_elem?}
+use Rattle.std.specs.Prelude.{Ok, Err}
 use Rattle.limits.specs.Sizes.{place_count, kind_count, first_condition}
+use Rattle.limits.specs.Refusals.{number_of}
+use Rattle.limits.specs.declared.Refusal.{Refusal}
+use Rattle.limits.specs.declared.Refusal.TheVariants.{TooDeep, TableStops, WrongKind, WrongMap}
 use Rattle.decoded.specs.Layout.{record_count, program_length}
-use Rattle.model.specs.Limits.{most_records, most_removals, too_deep, table_stops, wrong_kind, wrong_map}
+use Rattle.model.specs.Limits.{most_records, most_removals}
 use Rattle.model.specs.Syntax.{Condition, conjunction, disjunction, Statement, sequence, if, qcase}
 use Rattle.model.specs.Reading as model
 use Rattle.model.specs.Reading.{Input, input_at, Parsed, parsed, refused, and_then, provided, Fields, known, opening, contents, permitted, stands, two}
 use Rattle.model.specs.Reading.{condition_kind, statement_kind, condition_of, condition, statement, fields}
-use Rattle.model.specs.Answers as answers
 use Rattle.model.specs.Writing.{record_bytes, no_fields, condition_bytes, head_bytes}
 use Rattle.model.proofs.BooleanLaws.{by_bool, by_lt, clash}
 use Rattle.model.proofs.ByteAtAPlace.{byte_there, byte_past}
@@ -32,7 +35,7 @@ use Rattle.decoded.specs.DecodedTable.{start_of, end_of, test_of, test_at, state
 use Rattle.decoded.proofs.DecodedRecords.{removals_place, written_sound, written_place, Row, Decoded, decoded}
 use Rattle.decoded.proofs.KeptWords.{recorded_there, recorded_long}
 use Rattle.table.specs.ReadTable.{piece, Placed, Numbered}
-use Rattle.table.specs.TreeReading.{come, Ran, ran, and_then_tree, wanted, parts, contents_at, many, and_then_fields}
+use Rattle.table.specs.TreeReading.{come, Ran, ran, and_then_tree, wanted, parts, contents_at, many, and_then_read}
 use Rattle.table.specs.TreeReading.{children_at, opened, tree_at}
 use Rattle.decoded.proofs.KeptRecords.{Same, same_then, same_part, same_ends, same_row, end_there, end_row}
 use Rattle.table.proofs.SpannedBytes.{Spans, spans_then, spans_piece, record_spans}
@@ -50,19 +53,19 @@ pub record Reached {A : Type 0} (i : ℕ) (ix : List ℕ) (Found : List ℕ → 
 -- both read, up to the same place and record, or both refuse with the same number
 pub data Agree {A : Type 0} (bs : List ℕ) (i : ℕ) (ix : List ℕ) (Found : List ℕ → ℕ → A → Type 0) : Parsed A → Ran → Type 0 where
   reads : (a : A) (at j : ℕ) (jx : List ℕ) → Reached i ix Found a at j jx →
-      Agree bs i ix Found (parsed a (input_at bs at j)) (ran (answers.gives (come at j)) jx)
-  refuses : (k : ℕ) (jx : List ℕ) → Agree bs i ix Found (refused k) (ran (answers.refuses k) jx)
+      Agree bs i ix Found (parsed a (input_at bs at j)) (ran (Ok (come at j)) jx)
+  refuses : (why : Refusal) (jx : List ℕ) → Agree bs i ix Found (refused (number_of why)) (ran (Err why) jx)
 
 -- a record whose parts are read: its last note
 abbrev finished : ℕ → ℕ → ℕ → List ℕ → Ran
-finished i end total kx = ran (answers.gives (come end total)) (with_end i total kx)
+finished i end total kx = ran (Ok (come end total)) (with_end i total kx)
 
 -- one or two trees, and then what follows
 module _ (one : ℕ → ℕ → List ℕ → Ran) (g : ℕ → ℕ → List ℕ → Ran) (at i : ℕ) (ix : List ℕ) where
-  last : (r : Ran) → and_then_tree (and_then_tree r (λ a j jx. ran (answers.gives (come a j)) jx)) g ≡ and_then_tree r g
+  last : (r : Ran) → and_then_tree (and_then_tree r (λ a j jx. ran (Ok (come a j)) jx)) g ≡ and_then_tree r g
   unfolding and_then_tree
-  last (ran (answers.gives (come a j)) jx) = refl
-  last (ran (answers.refuses k) jx) = refl
+  last (ran (Ok c) jx) = refl
+  last (ran (Err why) jx) = refl
 
   many_one : and_then_tree (many one 1 at i ix) g ≡ and_then_tree (one at i ix) g
   unfolding many
@@ -73,10 +76,10 @@ module _ (one : ℕ → ℕ → List ℕ → Ran) (g : ℕ → ℕ → List ℕ 
   many_two = go (one at i ix)
     where
       go : (r : Ran) →
-          and_then_tree (and_then_tree r (λ a j jx. and_then_tree (one a j jx) (λ b k kx. ran (answers.gives (come b k)) kx))) g
+          and_then_tree (and_then_tree r (λ a j jx. and_then_tree (one a j jx) (λ b k kx. ran (Ok (come b k)) kx))) g
           ≡ and_then_tree r (λ a j jx. and_then_tree (one a j jx) g)
-      go (ran (answers.gives (come a j)) jx) = last (one a j jx)
-      go (ran (answers.refuses k) jx) = refl
+      go (ran (Ok c) jx) = last (one c.at c.records jx)
+      go (ran (Err why) jx) = refl
 
 -- the children of a record, by how many there are
 module _ (one : Bool → ℕ → ℕ → List ℕ → Ran) (k next i : ℕ) (rx : List ℕ) where
@@ -117,8 +120,8 @@ module _ (one : Bool → ℕ → ℕ → List ℕ → Ran) (k next i : ℕ) (rx 
         go : (r : Ran) →
             and_then_tree r (λ a j jx. and_then_tree (many (one false) 2 a j jx) (finished i))
             ≡ and_then_tree r (λ a j jx. and_then_tree (one false a j jx) (λ b m mx. and_then_tree (one false b m mx) (finished i)))
-        go (ran (answers.gives (come a j)) jx) = many_two (one false) (finished i) a j jx
-        go (ran (answers.refuses k) jx) = refl
+        go (ran (Ok c) jx) = many_two (one false) (finished i) c.at c.records jx
+        go (ran (Err why) jx) = refl
 
 -- a record whose first parts are read, up to `at` and record j, and whose start stands in ix
 record Partly (i : ℕ) (ix : List ℕ) (at j : ℕ) (jx : List ℕ) : Type 0 where
@@ -144,7 +147,7 @@ module _ {A B : Type 0} (bs : List ℕ) (i : ℕ) (ix ix₁ : List ℕ) (Found :
       Agree bs i ix Found (f b (input_at bs end n)) (g end n nx)) →
       Agree bs i ix Found (and_then p f) (and_then_tree r g)
   unfolding and_then and_then_tree
-  step at j jx _ _ f g s (refuses k kx) go = refuses k kx
+  step at j jx _ _ f g s (refuses why kx) go = refuses why kx
   step at j jx _ _ f g s (reads b end n nx r) go =
       let l : i < j = s.after in
       let m : j < n = r.more in
@@ -281,8 +284,8 @@ module _ {A : Type 0} (p : ℕ) (bs : List ℕ) (ok : Bytes bs) (at i : ℕ) (ix
       kind_of r ≡ byte_at bs (at + 1) → next ≤ 2 + longest_record * (i + 1) → Spans bs at next (record_bytes (kind_of r) (fields_of bs r)) →
       Agree bs i ix Found (f (fields_of bs r) (input_at bs next (i + 1))) (g r next)) →
       Agree bs i ix Found (contents p (byte_at bs at) (byte_at bs (at + 1)) (input_at bs (at + 2) i) f)
-      (cond (ltb i most_records) (and_then_fields (contents_at p (byte_at bs at) (byte_at bs (at + 1)) bs (at + 2)) ix g) (ran (answers.refuses too_deep) ix))
-  unfolding contents contents_at provided and_then and_then_fields
+      (cond (ltb i most_records) (and_then_read (contents_at p (byte_at bs at) (byte_at bs (at + 1)) bs (at + 2)) ix (λ r. g r.0 r.1)) (ran (Err TooDeep) ix))
+  unfolding contents contents_at provided and_then
   contents_agree f g inside small near go =
       let map = byte_at bs at in
       let k = byte_at bs (at + 1) in
@@ -292,41 +295,41 @@ module _ {A : Type 0} (p : ℕ) (bs : List ℕ) (ok : Bytes bs) (at i : ℕ) (ix
       (λ t. rw (t, ← add-one i)
       (fields_cases p k map bs (at + 2) (i + 1) (omega arith) (omega arith) inside small t
       (λ q x. fields p map (input_at bs (at + 2) (i + 1)) ≡ q → fields_at p k (stands 0 map) bs (at + 2) ≡ x →
-      Agree bs i ix Found (and_then q f) (and_then_fields x ix g))
+      Agree bs i ix Found (and_then q f) (and_then_read x ix (λ r. g r.0 r.1)))
       (λ r next e is w read found.
       let removing = removals_read p k map bs (at + 2) r next small t found in
       go r next l
       (λ kx row. decoded bs kx at i r ok (rw e at (written_sound p k (stands 0 map) bs (at + 2) ok)) (few_removals p bs ok (at + 2) (stands 0 map) k r e (omega arith) removing) (omega arith) row)
       is (omega (arith, w.high))
       (rw is (record_spans p bs at (i + 1) next (fields_of bs r) ok inside t w.low w.inside read)))
-      (λ m read found. refuses m ix) refl refl))
-      (λ t. rw t (refuses wrong_map ix))))
-      (λ l. rw (le-ltb i most_records l) (refuses too_deep ix))
+      (λ why read found. refuses why ix) refl refl))
+      (λ t. rw t (refuses WrongMap ix))))
+      (λ l. rw (le-ltb i most_records l) (refuses TooDeep ix))
 
   -- a record's map and kind
   opening_agrees :
-      {K : Type 0} (tests : Bool) (sort : ℕ → Option K) (f : ℕ → ℕ → K → Input → Parsed A) (x : Ran) →
+      {K : Type 0} (tests : Bool) (sort : ℕ → Option K) (f : ℕ → ℕ → K → Input → Parsed A) (x : ℕ → ℕ → Ran) →
       ((k : ℕ) → Sorted tests sort k) →
       ((what : K) → sort (byte_at bs (at + 1)) ≡ some what → at + 2 ≤ length bs → byte_at bs (at + 1) < kind_count →
-      Agree bs i ix Found (f (byte_at bs at) (byte_at bs (at + 1)) what (input_at bs (at + 2) i)) x) →
+      Agree bs i ix Found (f (byte_at bs at) (byte_at bs (at + 1)) what (input_at bs (at + 2) i)) (x (byte_at bs at) (byte_at bs (at + 1)))) →
       Agree bs i ix Found (opening sort (input_at bs at i) f) (opened tests bs at ix x)
   unfolding opening and_then known
   opening_agrees tests sort f x sorted go =
       by_lt at (length bs)
       (λ h. rw (lt-ltb at (length bs) h, byte_there bs at i h)
       (by_lt (at + 1) (length bs)
-      (λ l. rw (le-leb (at + 2) (length bs) (omega arith), byte_next l)
+      (λ l. rw (lt-ltb (at + 1) (length bs) l, byte_next l)
       (by_bool (wanted tests (byte_at bs (at + 1)))
       (λ w. rw w (by (sort (byte_at bs (at + 1))) refl l w))
-      (λ w. rw (w, (sorted (byte_at bs (at + 1))).lacks w) (refuses wrong_kind ix))))
-      (λ l. rw (lt-leb (at + 2) (length bs) (omega arith), byte_past bs (at + 1) i l) (refuses table_stops ix))))
-      (λ h. rw (le-ltb at (length bs) h, byte_past bs at i h) (refuses table_stops ix))
+      (λ w. rw (w, (sorted (byte_at bs (at + 1))).lacks w) (refuses WrongKind ix))))
+      (λ l. rw (le-ltb (at + 1) (length bs) l, byte_past bs (at + 1) i l) (refuses TableStops ix))))
+      (λ h. rw (le-ltb at (length bs) h, byte_past bs at i h) (refuses TableStops ix))
     where
       byte_next : at + 1 < length bs → model.byte (input_at bs (at + 1) i) ≡ parsed (byte_at bs (at + 1)) (input_at bs (at + 2) i)
       byte_next l = let e : at + 1 + 1 ≡ at + 2 = omega arith in rw (← e) (byte_there bs (at + 1) i l)
 
       by : (o : _) → sort (byte_at bs (at + 1)) ≡ o → at + 1 < length bs → wanted tests (byte_at bs (at + 1)) ≡ true →
-          Agree bs i ix Found (known o (λ what. f (byte_at bs at) (byte_at bs (at + 1)) what (input_at bs (at + 2) i))) x
+          Agree bs i ix Found (known o (λ what. f (byte_at bs at) (byte_at bs (at + 1)) what (input_at bs (at + 2) i))) (x (byte_at bs at) (byte_at bs (at + 1)))
       by none e l w = absurd ((sorted (byte_at bs (at + 1))).there w e)
       by (some what) e l w = go what e (omega arith) ((sorted (byte_at bs (at + 1))).small w)
 
@@ -533,7 +536,7 @@ settled bs i ix Found sort f x k j what q e go =
 pub condition_agrees : (p : ℕ) (bs : List ℕ) → Bytes bs → (depth : ℕ) → Tests p bs depth
 unfolding condition tree_at
 condition_agrees p bs ok zero at i ix near n =
-    opening_agrees p bs ok at i ix _ true condition_kind _ _ conditions_sorted λ what e inside small. refuses too_deep ix
+    opening_agrees p bs ok at i ix _ true condition_kind _ _ conditions_sorted λ what e inside small. refuses TooDeep ix
 condition_agrees p bs ok (suc depth) at i ix near n =
     opening_agrees p bs ok at i ix _ true condition_kind _ _ conditions_sorted λ what e inside small.
     contents_agree p bs ok at i ix _ _ _ inside small near λ r next h f q close spans.
@@ -545,7 +548,7 @@ condition_agrees p bs ok (suc depth) at i ix near n =
 pub statement_agrees : (p : ℕ) (bs : List ℕ) → Bytes bs → (depth : ℕ) → Bodies p bs depth
 unfolding statement tree_at
 statement_agrees p bs ok zero at i ix near n =
-    opening_agrees p bs ok at i ix _ false statement_kind _ _ statements_sorted λ what e inside small. refuses too_deep ix
+    opening_agrees p bs ok at i ix _ false statement_kind _ _ statements_sorted λ what e inside small. refuses TooDeep ix
 statement_agrees p bs ok (suc depth) at i ix near n =
     opening_agrees p bs ok at i ix _ false statement_kind _ _ statements_sorted λ what e inside small.
     contents_agree p bs ok at i ix _ _ _ inside small near λ r next h f q close spans.

@@ -6,11 +6,14 @@ use mathlib.Core.Path.{◌≡◌, refl, sym, ap, ◌∙◌}
 use mathlib.Core.List.{List, [], ◌∷◌, map}
 use mir.Syntax.{w8}
 use mir.Val.{Fits}
-use borrow.Author.Rules.{rules}
 use borrow.Author.Tests.{lt-ltb, le-ltb, lt-leb, le-leb, eq-eqb, ne_eqb}
 use lib.Dec.{leb, eqb}
 use lib.ListN.{length, get_or, length-drop}
+use Rattle.std.specs.Prelude.{Result, Ok, Err}
 use Rattle.limits.specs.Sizes.{body_count}
+use Rattle.limits.specs.Refusals.{number_of}
+use Rattle.limits.specs.declared.Refusal.{Refusal}
+use Rattle.limits.specs.declared.Refusal.TheVariants.{TableStops, WrongEdition, ManyProcedures, BytesLeft}
 use Rattle.decoded.specs.Layout.{program_length}
 use Rattle.model.proofs.BooleanLaws.{by_eq, by_lt}
 use Rattle.model.proofs.ReadingLaws.{longest_record}
@@ -20,14 +23,11 @@ use Rattle.model.specs.Syntax.{Statement, Program}
 use Rattle.model.specs.Reading as model
 use Rattle.model.specs.Reading.{Input, input_at, Parsed, parsed, refused, and_then, provided, statement, statements, read_table}
 use Rattle.model.specs.Lists.{range}
-use Rattle.model.specs.Answers as answers
 use Rattle.model.specs.Answers.{outcome}
-use Rattle.table.specs.declared.Tree.{Tree}
-use Rattle.table.specs.declared.Tree.TheVariants as tree
-use Rattle.table.specs.declared.Table.TheVariants as answer
+use Rattle.table.specs.declared.Come.{Come}
 use Rattle.decoded.specs.DecodedTable.{start_of, end_of, root_of, procedure_count, body_at, with_root}
 use Rattle.table.specs.ReadTable.{outcome_read, Placed, BodiesPlaced, Numbered, BodiesNumbered, PlacedRead}
-use Rattle.table.specs.TreeReading.{come, tree_outcome, Ran, ran, and_then_tree, bodies_at}
+use Rattle.table.specs.TreeReading.{come, Ran, ran, and_then_tree, bodies_at}
 use Rattle.decoded.proofs.KeptRecords.{
   Same,
   same_then,
@@ -64,8 +64,8 @@ record Reached-bodies (p : ℕ) (bs : List ℕ) (n f from i : ℕ) (ix : List �
 -- both read them, up to the same place and record, or both refuse with the same number
 data Agree-bodies (p : ℕ) (bs : List ℕ) (n f from i : ℕ) (ix : List ℕ) : Parsed (List Statement) → Ran → Type 0 where
   reads : (ss : List Statement) (at j : ℕ) (jx : List ℕ) → Reached-bodies p bs n f from i ix ss at jx →
-      Agree-bodies p bs n f from i ix (parsed ss (input_at bs at j)) (ran (answers.gives (come at j)) jx)
-  refuses : (k : ℕ) (jx : List ℕ) → Agree-bodies p bs n f from i ix (refused k) (ran (answers.refuses k) jx)
+      Agree-bodies p bs n f from i ix (parsed ss (input_at bs at j)) (ran (Ok (come at j)) jx)
+  refuses : (why : Refusal) (jx : List ℕ) → Agree-bodies p bs n f from i ix (refused (number_of why)) (ran (Err why) jx)
 
 -- a body, whose root is noted, and then the others
 module _ (p : ℕ) (bs : List ℕ) (n f from i : ℕ) (ix : List ℕ) (l : f ≤ most_procedures) (m : i ≤ most_records) (full : length ix ≡ program_length) where
@@ -77,7 +77,7 @@ module _ (p : ℕ) (bs : List ℕ) (n f from i : ℕ) (ix : List ℕ) (l : f ≤
       Reached i rooted (StatementFound p bs most_depth from i) s end j jx → Agree-bodies p bs n (f + 1) end j jx q r →
       Agree-bodies p bs (suc n) f from i ix (and_then q (λ ss k. parsed (s ∷ ss) k)) r
   unfolding and_then range
-  others s end j jx _ _ a (refuses k kx) = refuses k kx
+  others s end j jx _ _ a (refuses why kx) = refuses why kx
   others s end j jx _ _ a (reads ss at o ox b) =
       let more : i < j = a.more in
       reads (s ∷ ss) at o ox
@@ -127,7 +127,7 @@ module _ (p : ℕ) (bs : List ℕ) (n f from i : ℕ) (ix : List ℕ) (l : f ≤
       Agree-bodies p bs n (f + 1) end j jx (g (input_at bs end j)) (h end j jx)) →
       Agree-bodies p bs (suc n) f from i ix (and_then q (λ s j. and_then (g j) (λ ss k. parsed (s ∷ ss) k))) (and_then_tree r h)
   unfolding and_then and_then_tree
-  body_and_others _ _ g h (trees.refuses k kx) go = refuses k kx
+  body_and_others _ _ g h (trees.refuses why kx) go = refuses why kx
   body_and_others _ _ g h (trees.reads s end j jx a) go =
       others s end j jx _ _ a (go end j jx a.few a.near (a.kept.long ∙ root_long f i ix ∙ full))
 
@@ -160,20 +160,20 @@ bodies_agree p bs ok (suc n) f at i ix l m near full =
 
 -- what the model reads where the bodies were read so
 told : ℕ → List ℕ → ℕ → ℕ → Ran → Parsed (List Statement)
-told p bs n f (ran (answers.gives (come at j)) jx) = parsed (map (body_at jx) (range n f)) (input_at bs at j)
-told p bs n f (ran (answers.refuses k) jx) = refused k
+told p bs n f (ran (Ok c) jx) = parsed (map (body_at jx) (range n f)) (input_at bs c.at c.records)
+told p bs n f (ran (Err why) jx) = refused (number_of why)
 
 is_told :
     (p : ℕ) (bs : List ℕ) (n f from i : ℕ) (ix : List ℕ) (q : Parsed (List Statement)) (r : Ran) → Agree-bodies p bs n f from i ix q r →
     q ≡ told p bs n f r
 unfolding told
 is_told p bs n f from i ix _ _ (reads ss at j jx b) = ap (λ t. parsed t (input_at bs at j)) b.finds
-is_told p bs n f from i ix _ _ (refuses k jx) = refl
+is_told p bs n f from i ix _ _ (refuses why jx) = refl
 
 -- where they were read, all bodies of a table of p procedures, the number of procedures is still there, and each body is placed: up to the next, or up to the end
 ReadTo : ℕ → List ℕ → List ℕ → Ran → Type 0
-ReadTo p bs ix (ran (answers.gives (come at j)) jx) = (procedure_count jx ≡ procedure_count ix) × (p ≤ most_procedures → procedure_count jx ≡ p → length bs ≤ at → BodiesPlaced bs jx × BodiesNumbered jx)
-ReadTo p bs ix (ran (answers.refuses k) jx) = Unit {0}
+ReadTo p bs ix (ran (Ok c) jx) = (procedure_count jx ≡ procedure_count ix) × (p ≤ most_procedures → procedure_count jx ≡ p → length bs ≤ c.at → BodiesPlaced bs jx × BodiesNumbered jx)
+ReadTo p bs ix (ran (Err why) jx) = Unit {0}
 
 are_read :
     (p : ℕ) (bs : List ℕ) (from i : ℕ) (ix : List ℕ) (q : Parsed (List Statement)) (r : Ran) → Agree-bodies p bs (suc p) 0 from i ix q r →
@@ -198,7 +198,7 @@ are_read p bs from i ix _ _ (reads ss at j jx b) = (
     },
   ),
 )
-are_read p bs from i ix _ _ (refuses k jx) = tt
+are_read p bs from i ix _ _ (refuses why jx) = tt
 
 -- a program is its main statement and its bodies, with no byte left
 whole : Parsed (List Statement) → Parsed Program
@@ -243,57 +243,56 @@ header (a ∷ b ∷ bs) h = refl
 -- what is said of each answer
 module _ (bs : List ℕ) (jx : List ℕ) where
   -- nothing is placed where the table is refused
-  pub placed_none : (k : ℕ) → PlacedRead (answer.Refused k) bs jx
+  pub placed_none : (why : Refusal) → PlacedRead (Err why) bs jx
   unfolding PlacedRead
-  placed_none k = tt
+  placed_none why = tt
 
   -- 1 where there are fewer than two bytes
-  pub outcome_short : length bs < 2 → outcome_read (answer.Refused table_stops) jx ≡ outcome (read_table bs)
+  pub outcome_short : length bs < 2 → outcome_read (Err TableStops) jx ≡ outcome (read_table bs)
   unfolding outcome_read outcome
   outcome_short h = rw (short_table bs h)
 
   module _ (h : 2 ≤ length bs) where
     -- 2 where the edition is not 1
-    pub outcome_edition : (get_or bs 0 0 ≡ 1 → ⊥) → outcome_read (answer.Refused wrong_edition) jx ≡ outcome (read_table bs)
+    pub outcome_edition : (get_or bs 0 0 ≡ 1 → ⊥) → outcome_read (Err WrongEdition) jx ≡ outcome (read_table bs)
     unfolding outcome_read outcome provided
     outcome_edition f = rw (header bs h, ne_eqb (get_or bs 0 0) 1 f)
 
     module _ (e : get_or bs 0 0 ≡ 1) where
       -- 3 where there are too many procedures
-      pub outcome_many : most_procedures < get_or bs 1 0 → outcome_read (answer.Refused many_procedures) jx ≡ outcome (read_table bs)
+      pub outcome_many : most_procedures < get_or bs 1 0 → outcome_read (Err ManyProcedures) jx ≡ outcome (read_table bs)
       unfolding outcome_read outcome provided
       outcome_many m = rw (header bs h, eq-eqb (get_or bs 0 0) 1 e, lt-leb (get_or bs 1 0) most_procedures m)
 
       module _
-          (m : get_or bs 1 0 ≤ most_procedures) (ix : List ℕ) (t : Tree) (read : ran (tree_outcome t) jx ≡ bodies_at (get_or bs 1 0) bs (get_or bs 1 0 + 1 - 0) 0 2 0 ix)
+          (m : get_or bs 1 0 ≤ most_procedures) (ix : List ℕ) (t : Result Come Refusal) (read : ran t jx ≡ bodies_at (get_or bs 1 0) bs (get_or bs 1 0 + 1) 0 2 0 ix)
           (counts : procedure_count ix ≡ get_or bs 1 0) (full : length ix ≡ program_length) (slice : (k : ℕ) → Fits w8 (get_or bs k 0)) where
         agreed : Agree-bodies (get_or bs 1 0) bs (suc (get_or bs 1 0)) 0 2 0 ix (statements (get_or bs 1 0) (suc (get_or bs 1 0)) (input_at bs 2 0))
             (bodies_at (get_or bs 1 0) bs (suc (get_or bs 1 0)) 0 2 0 ix)
         agreed = bodies_agree (get_or bs 1 0) bs (λ k. (slice k).fits) (suc (get_or bs 1 0)) 0 2 0 ix (omega arith) (omega arith) (omega arith) full
 
-        read_is : ran (tree_outcome t) jx ≡ bodies_at (get_or bs 1 0) bs (suc (get_or bs 1 0)) 0 2 0 ix
-        read_is = let n : get_or bs 1 0 + 1 - 0 ≡ suc (get_or bs 1 0) = omega arith in rw n at read
+        read_is : ran t jx ≡ bodies_at (get_or bs 1 0) bs (suc (get_or bs 1 0)) 0 2 0 ix
+        read_is = rw add-one at read
 
         -- what the model reads, where the bodies were read so
-        read_on : outcome (read_table bs) ≡ outcome (whole (told (get_or bs 1 0) bs (suc (get_or bs 1 0)) 0 (ran (tree_outcome t) jx)))
+        read_on : outcome (read_table bs) ≡ outcome (whole (told (get_or bs 1 0) bs (suc (get_or bs 1 0)) 0 (ran t jx)))
         unfolding provided
         read_on =
             rw (header bs h, eq-eqb (get_or bs 0 0) 1 e, le-leb (get_or bs 1 0) most_procedures m, is_whole, read_is)
             (ap (λ q. outcome (whole q)) (is_told (get_or bs 1 0) bs (suc (get_or bs 1 0)) 0 2 0 ix _ _ agreed))
 
         -- the refusal of a body
-        pub outcome_refused : (k : ℕ) → t ≡ tree.Refused k → outcome_read (answer.Refused k) jx ≡ outcome (read_table bs)
-        unfolding outcome_read outcome whole told tree_outcome
-        outcome_refused k z = rw (read_on, z)
+        pub outcome_refused : (why : Refusal) → t ≡ Err why → outcome_read (Err why) jx ≡ outcome (read_table bs)
+        unfolding outcome_read outcome whole told
+        outcome_refused why z = rw (read_on, z)
 
-        module _ (end j : ℕ) (z : t ≡ tree.Read end j) where
+        module _ (end : Come) (z : t ≡ Ok end) where
           -- 8 where bytes are left
-          pub outcome_left : end < length bs → outcome_read (answer.Refused bytes_left) jx ≡ outcome (read_table bs)
-          unfolding outcome_read outcome whole told tree_outcome range provided
-          outcome_left l = rw (read_on, z, length-drop end bs, ne_eqb (length bs - end) 0 (omega arith))
+          pub outcome_left : end.at < length bs → outcome_read (Err BytesLeft) jx ≡ outcome (read_table bs)
+          unfolding outcome_read outcome whole told range provided
+          outcome_left l = rw (read_on, z, length-drop end.at bs, ne_eqb (length bs - end.at) 0 (omega arith))
 
-          read_to : ReadTo (get_or bs 1 0) bs ix (ran (answers.gives (come end j)) jx)
-          unfolding tree_outcome
+          read_to : ReadTo (get_or bs 1 0) bs ix (ran (Ok end) jx)
           read_to = rw (← read_is, z) at (are_read (get_or bs 1 0) bs 2 0 ix _ _ agreed)
 
           counted : procedure_count jx ≡ get_or bs 1 0
@@ -301,13 +300,11 @@ module _ (bs : List ℕ) (jx : List ℕ) where
           counted = read_to.0 ∙ counts
 
           -- else the program that was decoded
-          pub outcome_read_whole : length bs ≤ end → outcome_read answer.Read jx ≡ outcome (read_table bs)
-          unfolding outcome_read outcome whole told tree_outcome range provided
-          outcome_read_whole l = rw (read_on, z, length-drop end bs, eq-eqb (length bs - end) 0 (omega arith), counted)
+          pub outcome_read_whole : length bs ≤ end.at → outcome_read (Ok tt) jx ≡ outcome (read_table bs)
+          unfolding outcome_read outcome whole told range provided
+          outcome_read_whole l = rw (read_on, z, length-drop end.at bs, eq-eqb (length bs - end.at) 0 (omega arith), counted)
 
           -- and places
-          pub placed_whole : length bs ≤ end → PlacedRead answer.Read bs jx
+          pub placed_whole : length bs ≤ end.at → PlacedRead (Ok tt) bs jx
           unfolding PlacedRead ReadTo
           placed_whole l = read_to.1 m counted l
-
-pub ruleset tables = (rules, outcome_short, outcome_edition, outcome_many, outcome_refused, outcome_left, outcome_read_whole, placed_none, placed_whole)

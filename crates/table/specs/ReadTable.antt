@@ -1,18 +1,18 @@
 -- What the reader's answers say, with the program that it leaves: what was read, and where in the table each statement stands.
-use Rattle.std.specs.Prelude.{ℕ, ◌+◌, ◌-◌, ◌≤◌, ◌<◌, ◌≡◌, cond, List, length, take, drop, ltb}
+use Rattle.std.specs.Prelude.{ℕ, ◌+◌, ◌-◌, ◌≤◌, ◌<◌, ◌≡◌, cond, List, length, take, drop, ltb, Result, Ok, Err, ⊤}
 use Rattle.decoded.specs.Layout.{record_count, program_length}
 use Rattle.model.specs.Limits.{most_records, most_procedures}
 use Rattle.model.specs.Syntax.{Statement, skip, NOT, sequence, if, qcase, call, Program}
 use Rattle.model.specs.Writing.{head_bytes}
 use Rattle.model.specs.Answers.{Outcome, gives, refuses}
 use Rattle.decoded.specs.DecodedTable.{start_of, end_of, root_of, procedure_count, body_at, program_at}
-use Rattle.table.specs.declared.Table.{Table}
-use Rattle.table.specs.declared.Table.TheVariants as answer
+use Rattle.limits.specs.Refusals.{number_of}
+use Rattle.limits.specs.declared.Refusal.{Refusal}
 
 -- what an answer of the reader says, with the program that it left
-unfoldable pub outcome_read : Table → List ℕ → Outcome Program
-outcome_read answer.Read g = gives (program_at g)
-outcome_read (answer.Refused k) g = refuses k
+unfoldable pub outcome_read : Result ⊤ Refusal → List ℕ → Outcome Program
+outcome_read (Ok done) g = gives (program_at g)
+outcome_read (Err why) g = refuses (number_of why)
 
 -- the bytes of a table from one place up to another
 abbrev pub piece : List ℕ → ℕ → ℕ → List ℕ
@@ -61,6 +61,6 @@ pub record BodiesNumbered (g : List ℕ) : Type 0 where
   pub long : length g ≡ program_length
 
 -- where an answer of the reader says that the table was read, the program that it left places its bodies and has their records in order
-unfoldable pub PlacedRead : Table → List ℕ → List ℕ → Type 0
-PlacedRead answer.Read bs g = BodiesPlaced bs g × BodiesNumbered g
-PlacedRead (answer.Refused k) bs g = Unit {0}
+unfoldable pub PlacedRead : Result ⊤ Refusal → List ℕ → List ℕ → Type 0
+PlacedRead (Ok done) bs g = BodiesPlaced bs g × BodiesNumbered g
+PlacedRead (Err why) bs g = Unit {0}

@@ -3,46 +3,30 @@ use mathlib.Core.Path.{◌≡◌, refl, ap, ◌∙◌}
 use mathlib.Core.List.{List, [], ◌∷◌, ◌++◌}
 use Prim.Native.Nat.{ℕ, zero, suc, ◌+◌, ◌^◌, ◌≤◌, ◌<◌}
 use native.Mathlib.Nat.{add-zero, zero-add}
+use native.Mathlib.Numerals.{add-one}
 use native.Mathlib.Omega.{arith}
 use borrow.Author.Rules.{rules}
-use lib.ListN.{length, drop, set}
-use lib.Seq.{sets, sets-eq}
-use Rattle.text.specs.AppendedBytes.{Written, written, last_place, place_after, next_place, puts}
+use lib.ListN.{length, get_or, drop, set, drop_of_length-le}
+use lib.Seq.{sets, sets-eq, drop-cons}
+use Rattle.text.specs.declared.Writer.{Writer}
+use Rattle.text.specs.AppendedBytes.{last_place, place_after, next_place, nothing_put, put_one, puts}
 
--- what is put behind what was written
-unfoldable behind : Written → List ℕ → Written
-behind (written text at) bytes = puts bytes text at
-
-puts_append : (xs ys text : List ℕ) (at : ℕ) → puts (xs ++ ys) text at ≡ behind (puts xs text at) ys
-unfolding behind puts
-puts_append [] ys text at = refl
-puts_append (x ∷ xs) ys text at = puts_append xs ys (set text at x) (next_place at)
+pub puts_append : (xs ys : List ℕ) (w : Writer) → puts (xs ++ ys) w ≡ puts ys (puts xs w)
+unfolding puts
+puts_append [] ys w = refl
+puts_append (x ∷ xs) ys w = puts_append xs ys (put_one x w)
 
 -- all the bytes are counted, and a text takes those that it reaches
-puts_all : (bytes text : List ℕ) (at : ℕ) → at + length bytes ≤ last_place → puts bytes text at ≡ written (sets text at bytes) (at + length bytes)
+abbrev pub moved : Writer → List ℕ → ℕ → Writer
+moved w text at = record { text = record w.text { now = text }; at = at }
+
+puts_all : (bytes : List ℕ) (w : Writer) → w.at + length bytes ≤ last_place → puts bytes w ≡ moved w (sets w.text.now w.at bytes) (w.at + length bytes)
 unfolding puts
-puts_all [] text at h = rw (add-zero at)
-puts_all (b ∷ bytes) text at h =
-    let next : next_place at ≡ suc at = omega arith in
-    let e : suc at + length bytes ≡ at + suc (length bytes) = omega arith in
-    rw (next, ← e) (puts_all bytes (set text at b) (suc at) (omega arith))
-
--- in front of a text that is long enough stands the whole of them
-pub puts_front : (bytes text end : List ℕ) (last : ℕ) → length bytes ≤ length text → length text ≤ last_place → written end last ≡ puts bytes text 0 →
-    (last ≡ length bytes) × (end ≡ bytes ++ drop last text)
-puts_front bytes text end last h few p =
-    let whole : puts bytes text 0 ≡ written (bytes ++ drop (length bytes) text) (length bytes) =
-    rw (puts_all bytes text 0 (omega arith), sets-eq bytes text 0 (omega arith), zero-add) in
-    let size : last ≡ length bytes = cc (p, whole) in
-    let front : end ≡ bytes ++ drop (length bytes) text = cc (p, whole) in
-    (size, rw size front)
-
--- their number, whatever the text
-pub puts_count : (bytes text end : List ℕ) (last : ℕ) → length bytes ≤ last_place → written end last ≡ puts bytes text 0 → last ≡ length bytes
-puts_count bytes text end last few p =
-    let whole : written end last ≡ written (sets text 0 bytes) (0 + length bytes) = p ∙ puts_all bytes text 0 (omega arith) in
-    let same : last ≡ 0 + length bytes = cc in
-    omega arith
+puts_all [] w h = rw (add-zero w.at)
+puts_all (b ∷ bytes) w h =
+    let next : next_place w.at ≡ suc w.at = omega arith in
+    let e : suc w.at + length bytes ≡ w.at + suc (length bytes) = omega arith in
+    rw (puts_all bytes (put_one b w) (omega arith), next, e)
 
 -- nothing is written past the end
 set_past : (text : List ℕ) (at b : ℕ) → length text ≤ at → set text at b ≡ text
@@ -50,40 +34,78 @@ set_past [] at b h = refl
 set_past (x ∷ text) zero b h = absurd (omega arith)
 set_past (x ∷ text) (suc at) b h = ap (λ (l : List ℕ). x ∷ l) (set_past text at b (omega arith))
 
+-- the ways out of `put`
+pub put_there : (b at : ℕ) (w : Writer) → at ≡ next_place w.at → moved w (set w.text.now w.at b) at ≡ puts (b ∷ []) w
+unfolding puts
+put_there b at w e = rw e
+
+pub put_past : (b at : ℕ) (w : Writer) → length w.text.now ≤ w.at → at ≡ next_place w.at → moved w w.text.now at ≡ puts (b ∷ []) w
+unfolding puts
+put_past b at w h e = rw (set_past w.text.now w.at b h, e)
+
 -- where the text has ended they are only counted
-pub puts_past : (bytes text : List ℕ) (at : ℕ) → length text ≤ at → at < 2 ^ 64 → puts bytes text at ≡ written text (place_after at (length bytes))
+pub puts_past : (bytes : List ℕ) (w : Writer) → length w.text.now ≤ w.at → w.at < 2 ^ 64 → puts bytes w ≡ moved w w.text.now (place_after w.at (length bytes))
 unfolding puts
-puts_past [] text at h l = let stays : place_after at 0 ≡ at = omega arith in rw stays
-puts_past (b ∷ bytes) text at h l =
-    let on : place_after (next_place at) (length bytes) ≡ place_after at (suc (length bytes)) = omega arith in
-    rw (set_past text at b h, ← on) (puts_past bytes text (next_place at) (omega arith) (omega arith))
-
--- the ways out of `next_place` and `put`
-pub next_last : (at : ℕ) → at ≡ last_place → at ≡ next_place at
-next_last at e = omega arith
-
-pub next_more : (at : ℕ) → (at ≡ last_place → ⊥) → at < 2 ^ 64 → at + 1 ≡ next_place at
-next_more at f h = omega (arith, f)
-
-pub put_past : (b : ℕ) (text : List ℕ) (at next : ℕ) → length text ≤ at → next ≡ next_place at → written text next ≡ puts (b ∷ []) text at
-unfolding puts
-put_past b text at next h e = rw (set_past text at b h, e)
-
-pub put_there : (b : ℕ) (text : List ℕ) (at : ℕ) → at < length text → length text < 2 ^ 64 → written (set text at b) (at + 1) ≡ puts (b ∷ []) text at
-unfolding puts
-put_there b text at h long = let next : at + 1 ≡ next_place at = omega arith in ap (λ (k : ℕ). written (set text at b) k) next
+puts_past [] w h l = let stays : place_after w.at 0 ≡ w.at = omega arith in rw stays
+puts_past (b ∷ bytes) w h l =
+    let on : place_after (next_place w.at) (length bytes) ≡ place_after w.at (suc (length bytes)) = omega arith in
+    let past = set_past w.text.now w.at b h in
+    let more : length (set w.text.now w.at b) ≤ next_place w.at = rw past (omega arith) in
+    rw (puts_past bytes (put_one b w) more (omega arith), past, on)
 
 -- first these bytes, then those
-pub put_after : (xs ys text middle : List ℕ) (at mid : ℕ) → written middle mid ≡ puts xs text at → puts (xs ++ ys) text at ≡ puts ys middle mid
-unfolding behind
-put_after xs ys text middle at mid p = rw (puts_append xs ys text at, ← p)
+pub put_after : (xs ys : List ℕ) (w₀ w₁ : Writer) → w₁ ≡ puts xs w₀ → puts (xs ++ ys) w₀ ≡ puts ys w₁
+put_after xs ys w₀ w₁ p = rw (puts_append xs ys w₀, ← p)
 
-pub put_then : (xs ys text middle end : List ℕ) (at mid last : ℕ) → written middle mid ≡ puts xs text at →
-    written end last ≡ puts ys middle mid → written end last ≡ puts (xs ++ ys) text at
-put_then xs ys text middle end at mid last p q = rw (put_after xs ys text middle at mid p) q
+pub put_then : (xs ys : List ℕ) (w₀ w₁ w₂ : Writer) → w₁ ≡ puts xs w₀ → w₂ ≡ puts ys w₁ → w₂ ≡ puts (xs ++ ys) w₀
+put_then xs ys w₀ w₁ w₂ p q = rw (put_after xs ys w₀ w₁ p) q
 
-pub put_next : (x : ℕ) (ys text middle end : List ℕ) (at mid last : ℕ) → written middle mid ≡ puts (x ∷ []) text at →
-    written end last ≡ puts ys middle mid → written end last ≡ puts (x ∷ ys) text at
-put_next x ys text middle end at mid last p q = put_then (x ∷ []) ys text middle end at mid last p q
+pub put_next : (x : ℕ) (ys : List ℕ) (w₀ w₁ w₂ : Writer) → w₁ ≡ puts (x ∷ []) w₀ → w₂ ≡ puts ys w₁ → w₂ ≡ puts (x ∷ ys) w₀
+put_next x ys w₀ w₁ w₂ p q = put_then (x ∷ []) ys w₀ w₁ w₂ p q
 
-pub ruleset putting = (rules, next_last, next_more, put_past, put_there, put_then, put_next)
+pub ruleset putting = (rules, put_then, put_next)
+
+-- what the loop of `put_all` keeps
+module _ (bytes : List ℕ) (i : ℕ) (w whole : Writer) (inv : whole ≡ puts (drop i bytes) w) where
+  pub all_end : length bytes ≤ i → w ≡ whole
+  unfolding puts
+  all_end h = rw (inv, drop_of_length-le bytes h)
+
+  pub all_next : i < length bytes → (w₁ : Writer) → w₁ ≡ puts (get_or bytes i 0 ∷ []) w → whole ≡ puts (drop (i + 1) bytes) w₁
+  all_next h w₁ p = rw (inv, add-one, drop-cons bytes i 0) (put_after (get_or bytes i 0 ∷ []) (drop (suc i) bytes) w w₁ p)
+
+-- the text stays the same one
+same_text : (bytes : List ℕ) (w : Writer) → (puts bytes w).text.ghost_name ≡ w.text.ghost_name
+unfolding puts
+same_text [] w = refl
+same_text (b ∷ bytes) w = same_text bytes (put_one b w)
+
+-- as many places behind the first as there are bytes
+places : (bytes : List ℕ) (w : Writer) → w.at < 2 ^ 64 → (puts bytes w).at ≡ place_after w.at (length bytes)
+unfolding puts
+places [] w h = omega arith
+places (b ∷ bytes) w h =
+    let on : place_after (next_place w.at) (length bytes) ≡ place_after w.at (suc (length bytes)) = omega arith in
+    rw (places bytes (put_one b w) (omega arith), on)
+
+-- What a function knows that made a writer of its text, at its return: how many bytes were put, that the text is still the one that was lent, and
+-- what stands in it.
+module _ (bytes : List ℕ) {place : ℕ × ℕ} {name : ℕ} {text : List ℕ} {w₀ w : Writer} (p : w ≡ puts bytes w₀)
+    (starts : w₀ ≡ nothing_put (record { ref_ptr = place; ghost_name = name; now = text })) where
+  pub puts_place : w.at ≡ place_after 0 (length bytes)
+  puts_place = rw (p, places bytes w₀ (rw starts (omega arith)), starts)
+
+  pub puts_count : length bytes ≤ last_place → w.at ≡ length bytes
+  puts_count few = let place = puts_place in omega arith
+
+  pub name_kept : name ≡ w.text.ghost_name
+  name_kept = rw (p, same_text bytes w₀, starts)
+
+  -- in front of a text that is long enough stands the whole of them
+  module _ (h : length bytes ≤ length text) (few : length text ≤ last_place) where
+    pub puts_front : w.text.now ≡ bytes ++ drop (length bytes) text
+    puts_front = rw (p, puts_all bytes w₀ (rw starts (omega arith)), starts, sets-eq bytes text 0 (omega arith), zero-add)
+
+    -- where the text itself was handed on, it is the writer's last one if that is still the one that was lent
+    pub left_front : {end : List ℕ} → (name ≡ w.text.ghost_name → end ≡ w.text.now) → end ≡ bytes ++ drop (length bytes) text
+    left_front last = last name_kept ∙ puts_front

@@ -1,4 +1,3 @@
 -- What the proofs of several functions, and of callers, use.
 pub mod AppendLaws
 pub mod DecimalText
-mod RefusalText

@@ -1,11 +1,9 @@
 -- Bytes put into a text one behind the other. Where the text has ended nothing is written, but they are counted on: the place behind the last of them says
 -- how long a text takes them all.
 use Rattle.std.specs.Prelude.{ℕ, ◌+◌, ◌-◌, ◌/◌, ◌%◌, ◌^◌, min, List, [], ◌∷◌, set}
+use Rattle.std.specs.Borrow.{MutBor}
 use Rattle.model.specs.Listing.{digit_zero}
-
--- a text, and the place behind what was put into it
-pub data Written : Type 0 where
-  written : List ℕ → ℕ → Written
+use Rattle.text.specs.declared.Writer.{Writer}
 
 -- a place has 64 bits: the last number stands for every place from there on, which no text reaches
 abbrev pub last_place : ℕ
@@ -17,10 +15,18 @@ place_after at count = min (at + count) last_place
 abbrev pub next_place : ℕ → ℕ
 next_place at = place_after at 1
 
--- these bytes, into a text, from a place on
-unfoldable pub puts : List ℕ → List ℕ → ℕ → Written
-puts [] text at = written text at
-puts (b ∷ bytes) text at = puts bytes (set text at b) (next_place at)
+-- a writer that has put nothing yet
+abbrev pub nothing_put : MutBor (List ℕ) → Writer
+nothing_put text = record { text = text; at = 0 }
+
+-- one byte more
+abbrev pub put_one : ℕ → Writer → Writer
+put_one b w = record { text = record w.text { now = set w.text.now w.at b }; at = next_place w.at }
+
+-- these bytes, one behind the other
+unfoldable pub puts : List ℕ → Writer → Writer
+puts [] w = w
+puts (b ∷ bytes) w = puts bytes (put_one b w)
 
 -- the last two digits of a number, the higher first
 abbrev pub last_two : ℕ → List ℕ

@@ -1,77 +1,95 @@
-// Bytes put into a text one behind the other: what the listing and the page are made of. Each function takes the place from which it puts its
-// bytes and gives the place behind them. Where the text has ended it writes nothing but counts on, so an empty text measures.
+// Bytes put into a text one behind the other: what the listing and the page are made of.
 #![tactic(auto)]
 
 ghost use Rattle.std.specs.Prelude.{◌≡◌, [], ◌∷◌, length};
 ghost use Rattle.model.specs.Listing.{decimal, refusal_line};
-ghost use Rattle.text.specs.AppendedBytes.{written, next_place, place_after, last_two, puts};
+ghost use Rattle.text.specs.AppendedBytes.{nothing_put, last_two, puts};
 
-// The last place that a number can say.
-const LAST_PLACE: usize = 18446744073709551615;
-
-// The place behind a byte past the text's end.
-fn next_place(at: usize) -> usize
-    ensures { result ≡ next_place at }
+// How many decimal digits a number has.
+#[tactic(auto, using(crate::proofs::DecimalText::digits_between, crate::proofs::DecimalText::decimal_low))]
+fn digit_count(number: u64) -> u32
+    ensures { result ≡ length (decimal number) }
 {
-    if at == LAST_PLACE {
-        return at;
-    }
-    at + 1
+    number.checked_ilog10().map_or(1, |power| power + 1)
 }
 
-// One byte.
-pub fn put(text: &mut [u8], at: usize, byte: u8) -> usize
-    ensures { written text.new result ≡ puts (byte ∷ []) text.old at }
-{
-    if text.len() <= at {
-        return next_place(at);
-    }
-    text[at] = byte;
-    at + 1
+// A text and the place behind the bytes that were put into it. Where the text has ended nothing is written, but the bytes are counted on, so an
+// empty text measures.
+#[derive(Drop)]
+pub struct Writer<'a> {
+    text: &'a mut [u8],
+    at: usize,
 }
 
-// The last two digits of a number, the higher first.
-fn put_two(text: &mut [u8], at: usize, number: u64) -> usize
-    ensures { written text.new result ≡ puts (last_two number) text.old at }
-{
-    let tens_end = put(text, at, 48 + (number / 10 % 10) as u8);
-    put(text, tens_end, 48 + (number % 10) as u8)
-}
+impl<'a> Writer<'a> {
+    // A writer that puts its first byte at the text's beginning.
+    pub fn new(text: &'a mut [u8]) -> Writer<'a>
+        ensures { result ≡ nothing_put text.entry }
+    {
+        Writer { text, at: 0 }
+    }
 
-// The place behind the digits of a number, counted where the text has ended.
-fn count_decimal(at: usize, number: u64) -> usize
-    ensures { result ≡ place_after at (length (decimal number)) }
-{
-    let mut place = next_place(at);
-    let mut rest = number;
-    while 10 <= rest {
-        rest = rest / 10;
-        place = next_place(place);
+    // How many bytes were put: how long a text takes them all.
+    pub fn length(&self) -> usize
+        ensures { result ≡ self.now.at }
+    {
+        self.at // those past the text's end too
     }
-    place
-}
 
-// The decimal digits of a number, the highest first.
-pub fn put_decimal(text: &mut [u8], at: usize, number: u64) -> usize
-    ensures { written text.new result ≡ puts (decimal number) text.old at }
-{
-    if text.len() <= at {
-        return count_decimal(at, number);
+    // One byte.
+    #[tactic(auto, using(crate::proofs::AppendLaws::put_there, crate::proofs::AppendLaws::put_past))]
+    pub fn put(&mut self, byte: u8)
+        ensures { self.new ≡ puts (byte ∷ []) self.old }
+    {
+        if self.at < self.text.len() {
+            self.text[self.at] = byte;
+            self.at += 1;
+        } else {
+            self.at = self.at.saturating_add(1);
+        }
     }
-    if number < 10 {
-        return put(text, at, 48 + number as u8);
-    }
-    if number < 100 {
-        return put_two(text, at, number);
-    }
-    let hundreds_end = put_decimal(text, at, number / 100);
-    put_two(text, hundreds_end, number)
-}
 
-// "A refusal prints its number alone."
-pub fn refusal_line(text: &mut [u8], at: usize, number: u32) -> usize
-    ensures { written text.new result ≡ puts (refusal_line number) text.old at }
-{
-    let number_end = put_decimal(text, at, number as u64);
-    put(text, number_end, b'\n')
+    // These bytes, in their order.
+    pub fn put_all(&mut self, bytes: &[u8])
+        ensures { self.new ≡ puts bytes.now self.old }
+    {
+        for &byte in bytes {
+            self.put(byte);
+        }
+    }
+
+    // The last two digits of a number, the higher first.
+    #[tactic(auto, using(crate::proofs::AppendLaws::put_next))]
+    fn put_two(&mut self, number: u64)
+        ensures { self.new ≡ puts (last_two number) self.old }
+    {
+        self.put(b'0' + (number / 10 % 10) as u8);
+        self.put(b'0' + (number % 10) as u8);
+    }
+
+    // The decimal digits of a number, the highest first.
+    #[tactic(auto, using(crate::proofs::DecimalText::digits))]
+    pub fn put_decimal(&mut self, number: u64)
+        ensures { self.new ≡ puts (decimal number) self.old }
+    {
+        if self.text.len() <= self.at {
+            self.at = self.at.saturating_add(digit_count(number) as usize);
+        } else if number < 10 {
+            self.put(b'0' + number as u8);
+        } else if number < 100 {
+            self.put_two(number);
+        } else {
+            self.put_decimal(number / 100);
+            self.put_two(number);
+        }
+    }
+
+    // "A refusal prints its number alone."
+    #[tactic(auto, using(crate::proofs::AppendLaws::put_then))]
+    pub fn put_refusal(&mut self, number: u32)
+        ensures { self.new ≡ puts (refusal_line number) self.old }
+    {
+        self.put_decimal(number as u64);
+        self.put(b'\n');
+    }
 }

@@ -2,8 +2,7 @@
 use mathlib.Core.Path.{◌≡◌, refl, sym, ap, ◌∙◌, subst}
 use mathlib.Core.Bool.{Bool, false, not, cond}
 use mathlib.Core.List.{List}
-use Prim.Native.Nat.{ℕ, zero, suc, ◌≤◌, ◌<◌}
-use native.Mathlib.Nat.{not-suc-le-zero}
+use Prim.Native.Nat.{ℕ, suc, ◌≤◌, ◌<◌}
 use native.Mathlib.Omega.{arith}
 use borrow.Author.Tests.{le-leb, lt-leb}
 use lib.Dec.{ltb}
@@ -28,16 +27,17 @@ use Rattle.decoded.proofs.UnseenWidths.{same_count, same_program}
 use Rattle.widths.proofs.TooWide.{refusal_eleven}
 use Rattle.faults.specs.RowTable.{faults_at}
 use Rattle.faults.proofs.Refusal12.{faults_is}
-use Rattle.verdict.specs.VerdictAnswers.{refusal_at, outcome_of}
+use Rattle.answers.specs.Structs.{outcome_as}
+use Rattle.verdict.specs.VerdictAnswers.{refusal_at, checked_outcome}
 
 -- n out of range
-pub few_qubits : (bs : List ℕ) (n : ℕ) (P : Program) → n ≡ 0 → outcome_of wrong_qubits P ≡ accepted bs n
-unfolding outcome_of accepted require
-few_qubits bs n P e = rw e
+pub few_qubits : (bs : List ℕ) (n : ℕ) → n ≡ 0 → refuses wrong_qubits ≡ accepted bs n
+unfolding accepted require
+few_qubits bs n e = rw e
 
-pub many_qubits : (bs : List ℕ) (n : ℕ) (P : Program) → most_qubits < n → outcome_of wrong_qubits P ≡ accepted bs n
-unfolding outcome_of accepted require
-many_qubits bs n P h = rw (le-leb 1 n (omega arith), lt-leb n most_qubits h)
+pub many_qubits : (bs : List ℕ) (n : ℕ) → most_qubits < n → refuses wrong_qubits ≡ accepted bs n
+unfolding accepted require
+many_qubits bs n h = rw (le-leb 1 n (omega arith), lt-leb n most_qubits h)
 
 -- n in range: the table decides
 in_range : (bs : List ℕ) (n : ℕ) → (n ≡ 0 → ⊥) → n ≤ most_qubits → accepted bs n ≡ after (outcome (read_table bs)) (λ P.
@@ -49,10 +49,9 @@ unfolding accepted require
 in_range bs n z h = rw (le-leb 1 n (omega arith), le-leb n most_qubits h)
 
 -- a table that the reader refuses
-pub refused_table : (bs : List ℕ) (n k : ℕ) (P : Program) → (n ≡ 0 → ⊥) → n ≤ most_qubits → refuses k ≡ outcome (read_table bs) → outcome_of k P ≡ accepted bs n
-unfolding after outcome_of
-refused_table bs n zero P z h e = absurd (not-suc-le-zero (rw (← e) at (outcome_read_lem bs)).0)
-refused_table bs n (suc k) P z h e = rw (in_range bs n z h, ← e)
+pub refused_table : (bs : List ℕ) (n k : ℕ) → (n ≡ 0 → ⊥) → n ≤ most_qubits → refuses k ≡ outcome (read_table bs) → refuses k ≡ accepted bs n
+unfolding after
+refused_table bs n k z h e = rw (in_range bs n z h, ← e)
 
 -- a table that is read: refusals 10, 11 and 12 of its program
 module _ (g h : List ℕ) (u : Unseen g h) (n : ℕ) (few : procedure_count g ≤ most_procedures) (names : Named (program_at g)) (low : n ≤ most_qubits) where
@@ -76,9 +75,9 @@ module _ (g h : List ℕ) (u : Unseen g h) (n : ℕ) (few : procedure_count g �
       ap (λ (m : List ℕ). faults_at h m n) (sym same_reach)
       ∙ faults_is h few_left names_left (ap any_lacks_removal (same_program g h u) ∙ e) n low ∙ ap (λ (Q : Program). program_faults Q n) (same_program g h u)
 
-  decided : outcome_of (refusal_at g h n) P ≡
+  decided : checked_outcome (refusal_at g h n) g ≡
       require (not (any_lacks_removal P)) no_removal (require (not (any_too_wide P)) too_wide (require (not (program_faults P n)) access_fault (gives P)))
-  unfolding refusal_at outcome_of require
+  unfolding refusal_at require
   decided = rw (refusal_ten g few names, refusal_eleven g few names) (by_bool (any_lacks_removal P)
       (λ e. rw e)
       (λ e. rw e (by_bool (any_too_wide P)
@@ -98,10 +97,10 @@ named_read bs P e = by (read_table bs) refl e
     by (refused k) r z = not_both (sym z)
 
 module _ (bs g h : List ℕ) (u : Unseen g h) (n : ℕ) (e : gives (program_at g) ≡ outcome (read_table bs)) where
-  pub read_table_checked : (n ≡ 0 → ⊥) → n ≤ most_qubits → outcome_of (refusal_at g h n) (program_at h) ≡ accepted bs n
+  pub read_table_checked : (n ≡ 0 → ⊥) → n ≤ most_qubits → checked_outcome (refusal_at g h n) h ≡ accepted bs n
   unfolding after
   read_table_checked z l =
-      ap (outcome_of (refusal_at g h n)) (same_program g h u)
+      ap (λ (Q : Program). outcome_as (λ a. Q) (refusal_at g h n)) (same_program g h u)
       ∙ decided g h u n (few_read bs g e) (named_read bs (program_at g) e) l ∙ sym (rw (in_range bs n z l, ← e))
 
   -- the widths that are known by the matrix are those of the program

@@ -1,15 +1,17 @@
--- The buffer is long enough: a buffer that is full gives the parts of the whole input too.
-use Rattle.page.proofs.PartLaws.{all_length, all_next, all_text}
+-- The buffer is long enough: what was read into it gives the parts of the whole input.
+use Rattle.std.proofs.Common.{length, drop, ap, ◌∙◌, ◌++◌}
+use Rattle.model.specs.Page.{Band}
+use Rattle.page.proofs.PartLaws.{part_same}
 use Rattle.page.proofs.put_part_read.Goals as goal
 
 pub returns-clause-by_index : goal.returns-clause-by_index
-returns-clause-by_index c = all_length _ c.args.text.now c.put_part-2.new.text _ _ _ c.put_part-2.result.next c.told-buffer
-    c.if-count-lt-INPUT_LENGTH.false c.put_part-2.ensures.length_value
+returns-clause-by_index c = λ whole h.
+    c.put_part.ensures.length_value ∙ ap (λ (b : Band). length b.text) (part_same whole _ _ _ _ c.min.ensures c.told-buffer h)
 
 pub returns-clause-by_index_2 : goal.returns-clause-by_index_2
-returns-clause-by_index_2 c = all_next _ c.args.text.now c.put_part-2.new.text _ _ c.put_part-2.result.length _ c.told-buffer
-    c.if-count-lt-INPUT_LENGTH.false c.put_part-2.ensures.next_value
+returns-clause-by_index_2 c = λ whole h.
+    c.put_part.ensures.next_value ∙ ap (λ (b : Band). b.next) (part_same whole _ _ _ _ c.min.ensures c.told-buffer h)
 
 pub returns-clause-by_index_3 : goal.returns-clause-by_index_3
-returns-clause-by_index_3 c = all_text _ c.args.text.now _ _ _ c.put_part-2.result.length c.put_part-2.result.next c.told-buffer
-    c.if-count-lt-INPUT_LENGTH.false c.put_part-2.ensures.text_after
+returns-clause-by_index_3 c = λ whole h.
+    c.put_part.ensures.text_after ∙ ap (λ (b : Band). b.text ++ drop c.put_part.result.length c.args.text.now) (part_same whole _ _ _ _ c.min.ensures c.told-buffer h)
