@@ -12,7 +12,7 @@ ghost use Rattle.answers.specs.Structs.{header_of, refused_header};
 ghost use Rattle.model.specs.Limits.{not_well_formed};
 
 use answers::CircuitHeader;
-use limits::{CIRCUIT_EDITION, MOST_CIRCUIT, MOST_QUBITS, MOST_WIRES, NOT_WELL_FORMED, WIRE_COUNT};
+use limits::{CIRCUIT_EDITION, MOST_CIRCUIT, MOST_QUBITS, MOST_WIRES, Refusal, WIRE_COUNT};
 
 pub mod write;
 
@@ -244,7 +244,7 @@ pub fn refused() -> CircuitHeader
     ensures { result ≡ refused_header not_well_formed }
 {
     CircuitHeader {
-        number: NOT_WELL_FORMED as u32,
+        number: u32::from(Refusal::NotWellFormed),
         qubits: 0,
         ancillas: 0,
         gates: 0,

@@ -1,22 +1,9 @@
 // Bytes of a circuit, written into a room: one by one, and its header.
-ghost use Rattle.std.specs.Prelude.{◌≡◌, [], ◌∷◌, min, max, set};
+ghost use Rattle.std.specs.Prelude.{◌≡◌, [], ◌∷◌, set};
 ghost use Rattle.std.proofs.lemmas.List.Edits.{sets};
 ghost use Rattle.circuit.specs.GatesToWrite.{header_bytes};
 
 use limits::CIRCUIT_EDITION;
-
-// The lower of two wires, and the higher.
-pub fn lower(a: u8, b: u8) -> u8
-    ensures { result ≡ min a b }
-{
-    a.min(b)
-}
-
-pub fn higher(a: u8, b: u8) -> u8
-    ensures { result ≡ max a b }
-{
-    a.max(b)
-}
 
 // A byte at a place, if the room reaches there. (No `get_mut`, which says nothing of what the room ends as.)
 pub fn put(room: &mut [u8], at: usize, byte: u8)

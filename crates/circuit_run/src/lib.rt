@@ -8,11 +8,12 @@ ghost use Rattle.model.specs.Answers.{circuit_run};
 ghost use Rattle.wires.specs.StateOfABlock.{state_in, in_state};
 ghost use Rattle.circuit.specs.GatesInBytes.{input_of, gate_in, controls_in};
 ghost use Rattle.circuit_run.specs.RunAnswers.{all_hold, wires_at_end, ran_of, end_answer};
+ghost use Rattle.limits.specs.Refusals.{number_of};
 ghost use Rattle.answers.specs.Structs.{refused_block, block_answer};
 
 use answers::CircuitBlock;
 use circuit::{Action, Gate};
-use limits::{BLOCK_LENGTH, HIGH_BIT, NOT_WELL_FORMED};
+use limits::{BLOCK_LENGTH, Refusal};
 use wires::{Wires, fits};
 
 // Does each wire of a list hold the bit asked for? No test ends the loop.
@@ -61,11 +62,11 @@ fn run_gates(input: &[u8], most: u8, count: u32, wires: Wires) -> Option<Wires>
 }
 
 // "A refusal gives its number and otherwise zeros."
-fn refused(number: u8) -> CircuitBlock
-    ensures { result ≡ refused_block number }
+fn refused(why: Refusal) -> CircuitBlock
+    ensures { result ≡ refused_block (number_of why) }
 {
     CircuitBlock {
-        number: number as u32,
+        number: u32::from(why),
         data: 0,
         ancillas: 0,
         bits: [0u8; BLOCK_LENGTH],
@@ -78,7 +79,7 @@ fn answer(ended: Option<Wires>, word: u64) -> CircuitBlock
     ensures { result ≡ end_answer word (wires_at_end ended) }
 {
     match ended {
-        None => refused(NOT_WELL_FORMED),
+        None => refused(Refusal::NotWellFormed),
         Some(wires) if fits(word, wires.data) => {
             let bits = wires.bits;
             CircuitBlock {
@@ -88,7 +89,7 @@ fn answer(ended: Option<Wires>, word: u64) -> CircuitBlock
                 bits,
             }
         }
-        Some(_) => refused(HIGH_BIT),
+        Some(_) => refused(Refusal::HighBit),
     }
 }
 
@@ -97,7 +98,7 @@ pub fn run_circuit(bytes: &[u8], word: u64) -> CircuitBlock
     ensures { result ≡ block_answer (circuit_run bytes.now word) }
 {
     let Some((header, gates)) = circuit::read_header(bytes) else {
-        return refused(NOT_WELL_FORMED);
+        return refused(Refusal::NotWellFormed);
     };
     let wires = wires::start(header.qubits, header.ancillas, word);
     answer(run_gates(gates, header.wires, header.gates, wires), word)

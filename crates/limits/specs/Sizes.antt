@@ -19,10 +19,6 @@ most_constant = 32767
 abbrev pub body_count : ℕ
 body_count = most_procedures + 1
 
--- which procedure reaches which: a row of bytes for each body, a byte for each body in it
-abbrev pub matrix_length : ℕ
-matrix_length = body_count * body_count
-
 -- the lengths of a list of qubits: 0 to the most
 abbrev pub length_count : ℕ
 length_count = most_qubits + 1
@@ -39,22 +35,6 @@ row_count = body_count * length_count
 abbrev pub place_count : ℕ
 place_count = 2 ^ 16
 
--- where a statement that is emitted stands, in words: the wires up to 64 asked for 1, those asked for 0, a wire above 64 asked for 1, and its list
-abbrev pub ones_word : ℕ
-ones_word = 0
-
-abbrev pub zeros_word : ℕ
-zeros_word = 1
-
-abbrev pub high_word : ℕ
-high_word = 2
-
-abbrev pub list_word : ℕ
-list_word = 3
-
-abbrev pub site_length : ℕ
-site_length = 4
-
 -- a swap under one control: map, target, count, control, second wire
 abbrev pub swap_length : ℕ
 swap_length = 5
@@ -62,40 +42,6 @@ swap_length = 5
 -- the numbers of wires, 0 among them, which is none
 abbrev pub wire_count : ℕ
 wire_count = most_wires + 1
-
--- where an emission is, in words: the number that refused it, bytes used, gates placed, the next wire, the highest wire taken, and the number of qubits
-abbrev pub status_word : ℕ
-status_word = 0
-
-abbrev pub used_word : ℕ
-used_word = 1
-
-abbrev pub gates_word : ℕ
-gates_word = 2
-
-abbrev pub next_word : ℕ
-next_word = 3
-
-abbrev pub highest_word : ℕ
-highest_word = 4
-
-abbrev pub qubits_word : ℕ
-qubits_word = 5
-
-abbrev pub state_length : ℕ
-state_length = 6
-
--- what an ancilla keeps of the call that took it, in words: the procedure and the length of its list, then the list
-abbrev pub slot_length : ℕ
-slot_length = 2
-
--- the slots of all wires
-abbrev pub slots_length : ℕ
-slots_length = slot_length * wire_count
-
--- document 02, S-3: the lookup of an entry's swaps has an entry for each qubit and one for each wire
-abbrev pub lookup_length : ℕ
-lookup_length = wire_count + wire_count
 
 -- the entries of a lookup that are read and written are counted in 16 bits, and no further
 abbrev pub most_count : ℕ
@@ -108,7 +54,3 @@ block_bits = 8 * block_length
 -- "nineteen gates fill a line of 80": the wire number's columns and four for each gate
 abbrev pub line_columns : ℕ
 line_columns = number_columns + 4 * band_gates
-
--- the marks of a band as the code keeps them: a column for each gate, a byte for each number of a wire
-abbrev pub marks_length : ℕ
-marks_length = band_gates * wire_count

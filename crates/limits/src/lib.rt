@@ -18,58 +18,20 @@ ghost use Rattle.model.specs.Limits.{
   block_length,
   least_workspace,
 };
-ghost use Rattle.model.specs.Limits.{
-  table_stops,
-  wrong_edition,
-  many_procedures,
-  wrong_kind,
-  wrong_map,
-  wrong_field,
-  too_deep,
-  bytes_left,
-  wrong_qubits,
-  no_removal,
-  too_wide,
-  access_fault,
-  high_bit,
-  not_well_formed,
-  short_workspace,
-  many_wires,
-  no_room,
-  short_table_room,
-};
 ghost use Rattle.limits.specs.Refusals.{number_of};
 ghost use Rattle.model.specs.Reading.{most_base};
 ghost use Rattle.model.specs.Page.{band_gates};
 ghost use Rattle.limits.specs.Sizes.{
   body_count,
-  matrix_length,
   length_count,
   row_count,
   place_count,
   set_length,
-  ones_word,
-  zeros_word,
-  high_word,
-  list_word,
-  site_length,
-  status_word,
-  used_word,
-  gates_word,
-  next_word,
-  highest_word,
-  qubits_word,
-  state_length,
-  slot_length,
-  slots_length,
   kind_count,
   first_condition,
   most_constant,
   wire_count,
-  marks_length,
   line_columns,
-  lookup_length,
-  most_count,
   swap_length,
 };
 
@@ -90,9 +52,7 @@ pub const MOST_REMOVALS: u8 = 8;
 pub const MOST_BASE: u8 = 2;
 
 // "Kinds: 0 skip; .. 5 call, procedure; 6 a > b; .. 11 not, one condition"
-pub const KINDS: u8 = 12;
-
-pub const KIND_COUNT: usize = KINDS as usize;
+pub const KIND_COUNT: usize = 12;
 
 pub const FIRST_CONDITION: u8 = 6;
 
@@ -165,51 +125,10 @@ impl From<Refusal> for u32 {
     }
 }
 
-// "Refusals from the input"
-pub const TABLE_STOPS: u8 = 1;
-
-pub const WRONG_EDITION: u8 = 2;
-
-pub const MANY_PROCEDURES: u8 = 3;
-
-pub const WRONG_KIND: u8 = 4;
-
-pub const WRONG_MAP: u8 = 5;
-
-pub const WRONG_FIELD: u8 = 6;
-
-pub const TOO_DEEP: u8 = 7;
-
-pub const BYTES_LEFT: u8 = 8;
-
-pub const WRONG_QUBITS: u8 = 9;
-
-pub const NO_REMOVAL: u8 = 10;
-
-pub const TOO_WIDE: u8 = 11;
-
-pub const ACCESS_FAULT: u8 = 12;
-
-pub const HIGH_BIT: u8 = 13;
-
-pub const NOT_WELL_FORMED: u8 = 14;
-
-// "Refusals from the state"
-pub const SHORT_WORKSPACE: u8 = 21;
-
-pub const MANY_WIRES: u8 = 22;
-
-pub const NO_ROOM: u8 = 23;
-
-pub const SHORT_TABLE_ROOM: u8 = 24;
-
 // The bodies of a table: main and each procedure.
 pub const BODIES: u8 = MOST_PROCEDURES + 1;
 
 pub const BODY_COUNT: usize = BODIES as usize;
-
-// Which procedure reaches which: a row of bytes for each body.
-pub const MATRIX_LENGTH: usize = BODY_COUNT * BODY_COUNT;
 
 // As many entries as a list of qubits has room for.
 pub const LIST_LENGTH: usize = MOST_QUBITS as usize;
@@ -228,40 +147,8 @@ pub const ROW_COUNT: usize = BODY_COUNT * LENGTH_COUNT;
 // A place in a table is kept in 16 bits.
 pub const PLACE_COUNT: usize = 65536;
 
-// Where a statement that is emitted stands, in words: the wires up to 64 asked for 1, those asked for 0, a wire above 64 asked for 1, and its list.
-pub const ONES_WORD: usize = 0;
-
-pub const ZEROS_WORD: usize = 1;
-
-pub const HIGH_WORD: usize = 2;
-
-pub const LIST_WORD: usize = 3;
-
-pub const SITE_LENGTH: usize = 4;
-
 // A swap under one control: map, target, count, control, second wire.
 pub const SWAP_LENGTH: usize = 5;
-
-// Where an emission is, in words: the number that refused it, bytes used, gates placed, the next wire, the highest wire taken, and the number of qubits.
-pub const STATUS_WORD: usize = 0;
-
-pub const USED_WORD: usize = 1;
-
-pub const GATES_WORD: usize = 2;
-
-pub const NEXT_WORD: usize = 3;
-
-pub const HIGHEST_WORD: usize = 4;
-
-pub const QUBITS_WORD: usize = 5;
-
-pub const STATE_LENGTH: usize = 6;
-
-// What an ancilla keeps of the call that took it, in words: the procedure and the length of its list, then the list.
-pub const SLOT_LENGTH: usize = 2;
-
-// The slots of all wires.
-pub const SLOTS_LENGTH: usize = SLOT_LENGTH * WIRE_COUNT;
 
 // No listing has more bytes than this for each byte of its circuit, so a text of MOST_LISTING bytes is long enough for every listing.
 pub const LISTING_FACTOR: usize = 6;
@@ -278,15 +165,6 @@ pub const MOST_BAND: usize = MOST_WIRES as usize * (LINE_COLUMNS + 1);
 
 // The numbers of wires, 0 among them, which is none.
 pub const WIRE_COUNT: usize = MOST_WIRES as usize + 1;
-
-// Document 02, S-3: the lookup of an entry's swaps has an entry for each qubit and one for each wire.
-pub const LOOKUP_LENGTH: usize = WIRE_COUNT + WIRE_COUNT;
-
-// The entries of a lookup that are read and written are counted in 16 bits, and no further.
-pub const MOST_COUNT: u16 = 65535;
-
-// The marks of a band: a column for each gate, a byte for each number of a wire.
-pub const MARKS_LENGTH: usize = BAND_GATES as usize * WIRE_COUNT;
 
 // Each limit is the definition's.
 fn limits() -> [usize; 16]
@@ -313,77 +191,23 @@ fn limits() -> [usize; 16]
     ]
 }
 
-// Each refusal's number is the definition's.
-fn numbers() -> [u8; 18]
-    ensures { result ≡ table_stops ∷ wrong_edition ∷ many_procedures ∷ wrong_kind ∷ wrong_map ∷ wrong_field ∷ too_deep ∷ bytes_left ∷ wrong_qubits ∷
-        no_removal ∷ too_wide ∷ access_fault ∷ high_bit ∷ not_well_formed ∷ short_workspace ∷ many_wires ∷ no_room ∷ short_table_room ∷ [] }
-{
-    [
-        TABLE_STOPS,
-        WRONG_EDITION,
-        MANY_PROCEDURES,
-        WRONG_KIND,
-        WRONG_MAP,
-        WRONG_FIELD,
-        TOO_DEEP,
-        BYTES_LEFT,
-        WRONG_QUBITS,
-        NO_REMOVAL,
-        TOO_WIDE,
-        ACCESS_FAULT,
-        HIGH_BIT,
-        NOT_WELL_FORMED,
-        SHORT_WORKSPACE,
-        MANY_WIRES,
-        NO_ROOM,
-        SHORT_TABLE_ROOM,
-    ]
-}
-
 // Each size is the one that follows from the definitions' limits.
-fn sizes() -> [usize; 11]
-    ensures { result ≡ body_count ∷ matrix_length ∷ length_count ∷ row_count ∷ place_count ∷ set_length ∷ slot_length ∷ slots_length ∷ lookup_length ∷ most_count ∷
-        swap_length ∷ [] }
+fn sizes() -> [usize; 6]
+    ensures { result ≡ body_count ∷ length_count ∷ row_count ∷ place_count ∷ set_length ∷ swap_length ∷ [] }
 {
     [
         BODY_COUNT,
-        MATRIX_LENGTH,
         LENGTH_COUNT,
         ROW_COUNT,
         PLACE_COUNT,
         SET_LENGTH,
-        SLOT_LENGTH,
-        SLOTS_LENGTH,
-        LOOKUP_LENGTH,
-        MOST_COUNT as usize,
         SWAP_LENGTH,
     ]
 }
 
-// Each place in the words of an emission is the definition's.
-fn emission_places() -> [usize; 12]
-    ensures { result ≡ ones_word ∷ zeros_word ∷ high_word ∷ list_word ∷ site_length ∷ status_word ∷ used_word ∷ gates_word ∷ next_word ∷ highest_word ∷ qubits_word ∷
-        state_length ∷ [] }
-{
-    [
-        ONES_WORD,
-        ZEROS_WORD,
-        HIGH_WORD,
-        LIST_WORD,
-        SITE_LENGTH,
-        STATUS_WORD,
-        USED_WORD,
-        GATES_WORD,
-        NEXT_WORD,
-        HIGHEST_WORD,
-        QUBITS_WORD,
-        STATE_LENGTH,
-    ]
-}
-
 // Each number of a listing or a page is the definition's, or follows from it.
-fn text_sizes() -> [usize; 6]
-    ensures { result ≡ most_listing ∷ band_gates ∷ line_columns ∷ most_band ∷ wire_count ∷ marks_length ∷ [] }
+fn text_sizes() -> [usize; 5]
+    ensures { result ≡ most_listing ∷ band_gates ∷ line_columns ∷ most_band ∷ wire_count ∷ [] }
 {
     [
         MOST_LISTING,
@@ -391,6 +215,5 @@ fn text_sizes() -> [usize; 6]
         LINE_COLUMNS,
         MOST_BAND,
         WIRE_COUNT,
-        MARKS_LENGTH,
     ]
 }
