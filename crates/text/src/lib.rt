@@ -67,7 +67,8 @@ impl<'a> Writer<'a> {
         self.put(b'0' + (number % 10) as u8);
     }
 
-    // The decimal digits of a number, the highest first.
+    // The decimal digits of a number, the highest first. Not by Display: of what `write!` writes std says something only where it gives Ok, and
+    // nothing says that it does.
     #[tactic(auto, using(crate::proofs::DecimalText::digits))]
     pub fn put_decimal(&mut self, number: u64)
         ensures { self.new ≡ puts (decimal number) self.old }
