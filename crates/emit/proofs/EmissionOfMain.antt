@@ -5,7 +5,7 @@ use Prim.Native.Nat.{ℕ, suc, ◌+◌, ◌≤◌, min}
 use native.Mathlib.Omega.{arith}
 use borrow.Author.Rules.{rules}
 use native.Mathlib.Nat.{le_refl}
-use lib.ListN.{length, replicate, length-replicate}
+use lib.ListN.{replicate, length-replicate}
 use Rattle.limits.specs.Sizes.{wire_count}
 use Rattle.model.specs.Limits.{most_qubits, most_depth}
 use Rattle.model.specs.Lists.{qubits}

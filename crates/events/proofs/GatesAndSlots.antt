@@ -3,14 +3,13 @@ use mathlib.Core.Path.{◌≡◌, refl, sym, ◌∙◌}
 use mathlib.Core.Bool.{Bool, true, false, not}
 use mathlib.Core.List.{List, [], ◌∷◌}
 use Prim.Native.Nat.{ℕ, suc, ◌+◌, ◌-◌, ◌*◌, ◌≤◌, ◌<◌, max}
-use native.Mathlib.Numerals.{add-one}
 use native.Mathlib.Omega.{arith}
 use mir.Syntax.{w64}
 use mir.Val.{Fits}
 use borrow.Author.Rules.{rules}
 use borrow.Author.Tests.{lt-ltb, le-ltb, le-leb, lt-leb, eq-eqb, ne_eqb, leb-true}
-use lib.ListN.{length, get_or, set, drop, drop_of_length-le}
-use lib.Seq.{sets, drop-cons}
+use lib.ListN.{length, set}
+use lib.Seq.{sets}
 use lib.Dec.{leb}
 use Rattle.std.specs.Prelude.{Option, Some, None, is_some}
 use Rattle.limits.specs.declared.Refusal.{Refusal}
@@ -41,7 +40,6 @@ use Rattle.model.specs.Emission.{Event, places, under}
 use Rattle.model.specs.Circuit.{encode, control_bytes}
 use Rattle.model.specs.Answers.{usable}
 use Rattle.model.proofs.BooleanLaws.{by_bool, by_lt}
-use Rattle.circuit.proofs.GateBytes.{sets_past}
 use Rattle.controls.specs.declared.Site.{Site}
 use Rattle.controls.specs.ControlWords.{controls_from}
 use Rattle.controls.proofs.ControlBytes.{flip_long, swap_long}
@@ -208,25 +206,6 @@ pub ruleset takings = (rules, back_stopped, back_given, stopped_state, stopped_s
 pub slot_filled : (slots : List Slot) (a f w n : ℕ) → n ≡ length (members_of w) →
     set slots a (record { precedence = 256 * n + (255 - f); list = w }) ≡ filled slots a f w
 slot_filled slots a f w n is = rw is
-
--- bytes that are stored one by one, so far: what is still to be stored makes of the slice what all of it makes
-pub data Storing (room₀ : List ℕ) (at : ℕ) (l room : List ℕ) (place i : ℕ) : Type 0 where
-  still : sets room place (drop i l) ≡ sets room₀ at l → Storing room₀ at l room place i
-
-pub storing_starts : (room : List ℕ) (at : ℕ) (l : List ℕ) → Storing room at l room at 0
-storing_starts room at l = still refl
-
-module _ (room₀ : List ℕ) (at : ℕ) (l room : List ℕ) (place i n : ℕ) (is : n ≡ length l) where
-  pub storing_next : (x : ℕ) → Storing room₀ at l room place i → i < n → x ≡ get_or l i 0 → Storing room₀ at l (set room place x) (place + 1) (i + 1)
-  storing_next x (still e) h p =
-      let k : i < length l = omega arith in
-      still (sym (rw (p, add-one place, add-one i, drop-cons l i 0 k)) ∙ e)
-
-  pub stored_all : Storing room₀ at l room place i → n ≤ i → room ≡ sets room₀ at l
-  stored_all (still e) h = let k : length l ≤ i = omega arith in sym (rw (drop_of_length-le l k)) ∙ e
-
-  pub stored_full : Storing room₀ at l room place i → length room ≤ place → room ≡ sets room₀ at l
-  stored_full (still e) h = sets_past room place (drop i l) h ∙ e
 
 pub further : (n e : ℕ) → e < n → n - e ≡ suc (n - (e + 1))
 further n e h = omega arith

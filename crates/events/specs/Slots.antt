@@ -1,5 +1,5 @@
 -- What the code does with the slots of ancillas: they are filled, compared, and sought for the next body.
-use Rattle.std.specs.Prelude.{ℕ, zero, suc, ◌+◌, ◌-◌, ◌*◌, ◌≤◌, ◌<◌, ◌≡◌, Bool, true, false, cond, List, [], ◌∷◌, ◌++◌, reverse, length, get_or, set, eqb, ltb}
+use Rattle.std.specs.Prelude.{ℕ, zero, suc, ◌+◌, ◌-◌, ◌*◌, ◌≤◌, ◌<◌, ◌≡◌, Bool, true, false, cond, List, [], ◌++◌, reverse, length, set, eqb, ltb}
 use Rattle.sets.specs.Sets.{members_of}
 use Rattle.model.specs.Limits.{most_wires, many_wires}
 use Rattle.model.specs.Emission.{Event, entry_gates}
