@@ -28,8 +28,7 @@ use Rattle.circuit.proofs.GateBytes.{sets_past}
 use Rattle.circuit.specs.GatesToWrite.{header_bytes}
 use Rattle.sets.proofs.Members.{members_empty}
 use Rattle.decoded.specs.DecodedTable.{program_at}
-use Rattle.events.specs.declared.Slot.{Slot}
-use Rattle.events.specs.Scan.{Emit, refusal_number, Tallied, slot_in, Progress, progress, emit_of, room_of, emission_end, wire_of}
+use Rattle.events.specs.Scan.{Emit, refusal_number, Progress, progress, emit_of, room_of, emission_end, wire_of}
 use Rattle.events.proofs.ScanOfEvents.{emission_status, emission_ends, emission_within}
 use Rattle.events.proofs.GatesAndSlots.{some_refused}
 use Rattle.emit.specs.WalkPromises.{Checked, Emits}
@@ -121,9 +120,9 @@ given_answer P n room header e = rw (le-leb header_length (usable (length room))
 
 -- an emission into a text, of which as much is used as the room has of use: its number is that of the definitions, and where that is 0 the circuit
 -- stands in the text
-module _ {prog : List ℕ} {n : ℕ} (room text : List ℕ) {slots : List Slot} {a : Emit} (text₁ : List ℕ) {slots₁ : List Slot} (long : length text ≡ most_circuit)
-    (A : Emits prog n (take (usable (length room)) text) slots a (take (usable (length room)) text₁) slots₁)
-    (checked : Checked prog) (small : n ≤ most_qubits) (space : wire_count ≤ length slots) (tallied : Tallied n slots)
+module _ {prog : List ℕ} {n : ℕ} (room text : List ℕ) {a : Emit} (text₁ : List ℕ) (long : length text ≡ most_circuit)
+    (A : Emits prog n (take (usable (length room)) text) a (take (usable (length room)) text₁))
+    (checked : Checked prog) (small : n ≤ most_qubits)
     (header : header_length ≤ usable (length room)) where
   abbrev P : Program
   P = program_at prog
@@ -141,7 +140,7 @@ module _ {prog : List ℕ} {n : ℕ} (room text : List ℕ) {slots : List Slot} 
   front_header = let e = same_room in omega arith
 
   emitted_status : a.status ≡ fit end header_length (emission P n)
-  emitted_status = ap (λ (x : Progress). (emit_of x).status) (use_main A checked small space tallied).0 ∙ emission_status P n (take end text) front_header
+  emitted_status = ap (λ (x : Progress). (emit_of x).status) (use_main A checked small) ∙ emission_status P n (take end text) front_header
       ∙ ap (λ (v : ℕ). fit v header_length (emission P n)) same_room
 
   module _ (ok : a.status ≡ 0) where
@@ -152,7 +151,7 @@ module _ {prog : List ℕ} {n : ℕ} (room text : List ℕ) {slots : List Slot} 
     front_fits = rw same_room emitted_fits
 
     emitted_all : progress a (take end text₁) ≡ progress (emission_end P n) (sets (take end text) header_length (bytes P n))
-    emitted_all = (use_main A checked small space tallied).0 ∙ emission_ends P n (take end text) front_header front_fits
+    emitted_all = (use_main A checked small) ∙ emission_ends P n (take end text) front_header front_fits
 
     emitted_end : a ≡ emission_end P n
     emitted_end = ap emit_of emitted_all
@@ -227,36 +226,18 @@ pub circuit_put : (n : ℕ) (st : Emit) (text room : List ℕ) (a : ℕ) (text�
 circuit_put n st text room a text₁ room₁ low put copied = rw (copied, put, low)
 
 -- the way out of `emit_front`: what was lent comes back at its place
-pub front_emitted : {prog : List ℕ} {n : ℕ} (end : ℕ) (text : List ℕ) {slots : List Slot} {a : Emit} (back rest : List ℕ) {slots₁ : List Slot} →
-    end ≤ length text → length back ≡ length (take (end - 0) text) → Emits prog n (take (end - 0) text) slots a back slots₁ →
-    Emits prog n (take end text) slots a (take end (back ++ rest)) slots₁
+pub front_emitted : {prog : List ℕ} {n : ℕ} (end : ℕ) (text : List ℕ) {a : Emit} (back rest : List ℕ) →
+    end ≤ length text → length back ≡ length (take (end - 0) text) → Emits prog n (take (end - 0) text) a back →
+    Emits prog n (take end text) a (take end (back ++ rest))
 front_emitted end text back rest h same A =
     let none : end - 0 ≡ end = omega arith in
     let long : length back ≡ end = same ∙ ap (λ (v : ℕ). length (take v text)) none ∙ length-take-le end text h in
     rw (take_at back rest end long) (rw none at A)
 
--- slots of no calls have the lengths of their lists, which are empty
-abbrev no_call : Slot
-no_call = record { precedence = 0; list = 0 }
-
-none_tallied : (n k : ℕ) → Tallied n (replicate k no_call)
-none_tallied n k = record {
-  lengths = λ a. rw (none a, members_empty);
-  within = λ a w m. not_in_nil w (rw (none a, members_empty) at m);
-}
-  where
-    none : (a : ℕ) → slot_in (replicate k no_call) a ≡ no_call
-    none a = by_lt a k
-        (λ lt. get_or-replicate k a no_call no_call lt)
-        (λ ge. get_or-eq_default (replicate k no_call) no_call (rw (length-replicate {A = Slot} k no_call) ge))
-
 -- the way out of `emit_text`
-pub text_emitted : {prog : List ℕ} {n room end : ℕ} (text : List ℕ) {a : Emit} (text₁ : List ℕ) {slots₁ : List Slot} →
-    length text ≡ most_circuit → end ≡ usable room → Emits prog n (take end text) (replicate wire_count no_call) a (take end text₁) slots₁ →
-    EmitsText prog n room a text₁
-text_emitted {n = n} text text₁ {slots₁ = slots₁} long e A =
-    into_text text (replicate wire_count no_call) slots₁ long (rw (length-replicate {A = Slot} wire_count no_call) (le_refl wire_count))
-    (none_tallied n wire_count) (rw e at A)
+pub text_emitted : {prog : List ℕ} {n room end : ℕ} (text : List ℕ) {a : Emit} (text₁ : List ℕ) →
+    length text ≡ most_circuit → end ≡ usable room → Emits prog n (take end text) a (take end text₁) → EmitsText prog n room a text₁
+text_emitted text text₁ long e A = into_text text long (rw e at A)
 
 -- the ways out of `compile_emission`
 module _ {prog : List ℕ} {n : ℕ} {room : List ℕ} where
@@ -268,16 +249,16 @@ module _ {prog : List ℕ} {n : ℕ} {room : List ℕ} where
 module _ {prog : List ℕ} {n : ℕ} {room : List ℕ} {a : Emit} {text₁ : List ℕ} where
   pub text_refused : (o : Option Refusal) (why : Refusal) → header_length ≤ length room → EmitsText prog n (length room) a text₁ → refusal_number o ≡ a.status →
       o ≡ Some why → Compiles prog n room (Err why) room
-  text_refused o why h (into_text text slots slots₁ long space tallied A) is some = walks_once (λ checked small.
+  text_refused o why h (into_text text long A) is some = walks_once (λ checked small.
       let header : header_length ≤ usable (length room) = omega arith in
       let same : number_of why ≡ a.status = ap refusal_number (sym some) ∙ is in
-      refused_answer (program_at prog) n (number_of why) room header (same ∙ emitted_status room text text₁ long A checked small space tallied header)
+      refused_answer (program_at prog) n (number_of why) room header (same ∙ emitted_status room text text₁ long A checked small header)
       (λ z. some_refused o (ap is_some some) (ap refusal_number some ∙ z)))
 
   pub text_delivered : (o : Option Refusal) {room₁ : List ℕ} → header_length ≤ length room → EmitsText prog n (length room) a text₁ → refusal_number o ≡ a.status → o ≡ None →
       room₁ ≡ delivered n a text₁ room → Compiles prog n room (Ok a.used) room₁
-  text_delivered o {room₁ = room₁} h (into_text text slots slots₁ long space tallied A) is none e = walks_once (λ checked small.
+  text_delivered o {room₁ = room₁} h (into_text text long A) is none e = walks_once (λ checked small.
       let header : header_length ≤ usable (length room) = omega arith in
-      emitted_answer room text text₁ long A checked small space tallied header (sym is ∙ ap refusal_number none) room₁ e)
+      emitted_answer room text text₁ long A checked small header (sym is ∙ ap refusal_number none) room₁ e)
 
 pub ruleset delivering = (rules, no_header, text_refused, text_delivered, circuit_put, front_emitted, text_emitted)

@@ -13,8 +13,8 @@ ghost use Rattle.compile.specs.EmissionAnswer.{EmitsText, delivered, Compiles};
 use circuit::write::put_header;
 use decoded::{PROGRAM_LENGTH, Program};
 use emit::emit_main;
-use events::{NO_CALL, Slots, State, usable, wire};
-use limits::{HEADER_LENGTH, LEAST_WORKSPACE, MOST_CIRCUIT, Refusal, WIRE_COUNT};
+use events::{State, usable, wire};
+use limits::{HEADER_LENGTH, LEAST_WORKSPACE, MOST_CIRCUIT, Refusal};
 use verdict::check_table;
 
 // How many ancillas were in use at most? The highest wire is data where there was none.
@@ -42,20 +42,18 @@ fn put_circuit(n: u8, state: &State, text: &mut [u8; MOST_CIRCUIT], room: &mut [
 }
 
 // An emission into the front of a text.
-fn emit_front(program: &Program, n: u8, end: usize, text: &mut [u8], slots: &mut Slots) -> State
+fn emit_front(program: &Program, n: u8, end: usize, text: &mut [u8]) -> State
     requires { end ≤ length text.old }
-    ensures { Emits program.now n (take end text.old) slots.old
-        (emit_in result) (take end text.new) slots.new }
+    ensures { Emits program.now n (take end text.old) (emit_in result) (take end text.new) }
 {
-    emit_main(program, n, &mut text[0..end], slots)
+    emit_main(program, n, &mut text[0..end])
 }
 
-// An emission into a text, of which as much is used as a room of that length has of use. Its slots are its own: nobody reads them afterwards.
+// An emission into a text, of which as much is used as a room of that length has of use.
 fn emit_text(program: &Program, n: u8, room: usize, text: &mut [u8; MOST_CIRCUIT]) -> State
     ensures { EmitsText program.now n room (emit_in result) text.new }
 {
-    let mut slots = [NO_CALL; WIRE_COUNT];
-    emit_front(program, n, usable(room), &mut text[..], &mut slots)
+    emit_front(program, n, usable(room), &mut text[..])
 }
 
 // An emission goes into a text of its own, and from there into the room where it fits. "The room is written only on success, its rest unchanged."

@@ -265,7 +265,3 @@ module _ (ws : List Slot) {n : ℕ} (T : Tallied n ws) (base upto : ℕ) where
       -- behind it come those of its length from the next key on
       pub seek_below : Precedes (precedence_in ws d) long (key + 1)
       seek_below = let e = slot_precedence d in let b = slot_byte d in record { key = omega arith; below = omega arith }
-
--- precedence falls from body to body
-pub seek_falls : (ws : List Slot) (base last upto d p : ℕ) → NextSlot ws base last upto d → d < upto → p ≡ precedence_in ws d → p < last
-seek_falls ws base last upto d p N lt is = let w = N.waits.1 in omega arith

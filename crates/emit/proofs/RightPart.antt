@@ -204,6 +204,23 @@ module _ {prog : List ℕ} {k : ℕ} {st : Emit} {room : List ℕ} {ws : List Sl
       λ ok. none_before (Q ok) (count_not (chains_in prog k) (recursive (program_at prog) f) l cs first st.next (statement_at prog depth i) _ _ h),
     ))
 
+    -- a step that has no right part
+    pub right_else : (x : Step) → found ≡ x → ((a b : ℕ) → found ≡ step.Sequence a b → ⊥) → ((c a b : ℕ) → found ≡ step.Chooses c a b → ⊥) →
+        ((at a b : ℕ) → found ≡ step.Branches at a b → ⊥) → ((f at : ℕ) → found ≡ step.Calls f at → ⊥) →
+        Right prog k st room ws st room ws i depth l cs behind behind
+    right_else step.Nothing e s h b c = right_idle step.Nothing e tt
+    right_else (step.Touches at) e s h b c = right_touches e
+    right_else (step.Sequence x y) e s h b c = absurd (s x y e)
+    right_else (step.Chooses q x y) e s h b c = absurd (h q x y e)
+    right_else (step.Branches at x y) e s h b c = absurd (b at x y e)
+    right_else (step.Calls f at) e s h b c = absurd (c f at e)
+    right_else (step.Greater at) e s h b c = right_idle (step.Greater at) e tt
+    right_else (step.AtLeast at) e s h b c = right_idle (step.AtLeast at) e tt
+    right_else (step.Equal at) e s h b c = right_idle (step.Equal at) e tt
+    right_else (step.Both x y) e s h b c = right_idle (step.Both x y) e tt
+    right_else (step.Either x y) e s h b c = right_idle (step.Either x y) e tt
+    right_else (step.Negates x) e s h b c = right_idle (step.Negates x) e tt
+
     module _ {r : Emit} {room₁ : List ℕ} {given : ℕ} where
       pub right_recurs : {g at : ℕ} {rest : List ℕ} {b : Bool} → found ≡ step.Calls g at → b ≡ ltb 0 (width_in prog i) → not b ≡ false →
           rest ≡ remaining (removals_in prog at) l → given ≡ behind - length (invoked 0 rest 0) →

@@ -1,5 +1,5 @@
 -- The ways out of the walkers over statements: one law for each, its premises what the calls on that way promise, in their order.
-use mathlib.Core.Path.{◌≡◌, sym, ap, ◌∙◌}
+use mathlib.Core.Path.{◌≡◌, refl, sym, ap, ◌∙◌}
 use mathlib.Core.Bool.{Bool, true, false, cond}
 use mathlib.Core.List.{List, [], ◌∷◌, ◌++◌}
 use Prim.Native.Nat.{ℕ, ◌+◌, ◌-◌, ◌≤◌, ◌<◌}
@@ -93,6 +93,22 @@ module _ (prog : List ℕ) (k : ℕ) (l : List ℕ) (x y : Statement) (cs₁ cs�
   two_parts {st = st} R F G = follows_append F
       (follows_if (λ ok. ap (λ (n : ℕ). whole (chains_in prog k) y l cs₂ n)
       (follows_next F ok ∙ whole_next prog k x l cs₁ st.next R.some)) G)
+
+-- a step that is none of those that do something
+pub idle_else : (x : Step) → ((at : ℕ) → x ≡ step.Touches at → ⊥) → ((a b : ℕ) → x ≡ step.Sequence a b → ⊥) → ((c a b : ℕ) → x ≡ step.Chooses c a b → ⊥) →
+    ((at a b : ℕ) → x ≡ step.Branches at a b → ⊥) → ((f at : ℕ) → x ≡ step.Calls f at → ⊥) → Idle x
+idle_else step.Nothing t s h b c = tt
+idle_else (step.Touches at) t s h b c = t at refl
+idle_else (step.Sequence x y) t s h b c = s x y refl
+idle_else (step.Chooses q x y) t s h b c = h q x y refl
+idle_else (step.Branches at x y) t s h b c = b at x y refl
+idle_else (step.Calls f at) t s h b c = c f at refl
+idle_else (step.Greater at) t s h b c = tt
+idle_else (step.AtLeast at) t s h b c = tt
+idle_else (step.Equal at) t s h b c = tt
+idle_else (step.Both x y) t s h b c = tt
+idle_else (step.Either x y) t s h b c = tt
+idle_else (step.Negates x) t s h b c = tt
 
 -- the ways out of `emit_whole`
 pub whole_stopped : {prog : List ℕ} {k : ℕ} (s : State) {room : List ℕ} {ws : List Slot} {i depth : ℕ} {l : List ℕ} {cs : Controls} →

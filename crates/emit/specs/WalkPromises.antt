@@ -174,7 +174,6 @@ pub data Body (prog : List ℕ) (k : ℕ) (st : Emit) (room : List ℕ) (ws : Li
       Body prog k st room ws r room₁ ws₁ base last d
 
 -- main emitted, from its start
-pub data Emits (prog : List ℕ) (n : ℕ) (room : List ℕ) (ws : List Slot) (r : Emit) (room₁ : List ℕ) (ws₁ : List Slot) : Type 0 where
-  walks_main : (Checked prog → n ≤ most_qubits → wire_count ≤ length ws → Tallied n ws →
-      (progress r room₁ ≡ scan (emission (program_at prog) n) (progress (begun n) room)) × (length ws₁ ≡ length ws)) →
-      Emits prog n room ws r room₁ ws₁
+pub data Emits (prog : List ℕ) (n : ℕ) (room : List ℕ) (r : Emit) (room₁ : List ℕ) : Type 0 where
+  walks_main : (Checked prog → n ≤ most_qubits → progress r room₁ ≡ scan (emission (program_at prog) n) (progress (begun n) room)) →
+      Emits prog n room r room₁

@@ -1,5 +1,5 @@
 // "Emission" in code: one walk over the program places the gates. A walker is lent where its statement stands (its list, and the controls in force), the room for the
-// circuit's bytes, the slots of the ancillas, and where the emission is.
+// circuit's bytes, and the emission. The program is no field of that struct: each walker would have to promise that it stays. So the right part has eight parameters.
 #![tactic(auto)]
 
 ghost use Rattle.std.specs.Prelude.{◌≡◌};
@@ -12,8 +12,7 @@ ghost use Rattle.emit.specs.WalkPromises.{body_depth, Whole, Call, Left, Right, 
 use controls::Site;
 use decoded::{Program, Step, is_wide, procedures, root, step_at};
 use events::{
-    Slots, State, above_length, begin, emit_entries, emit_flip, finish, flip_again, invoke, seek,
-    slot_in, wire,
+    Emission, State, above_length, emit_entries, emit_flip, finish, flip_again, seek, slot_in, wire,
 };
 use limits::MOST_DEPTH;
 use sets::{QubitSet, size};
@@ -39,28 +38,31 @@ fn emit_whole(
     depth: u8,
     site: &Site,
     room: &mut [u8],
-    slots: &mut Slots,
-    state: &mut State,
+    emission: &mut Emission,
 )
-    ensures { Whole program.now k (emit_in state.old) room.old slots.old
-        (emit_in state.new) room.new slots.new i depth (list_from site.now) (controls_from site.now) }
+    ensures { Whole program.now k (emit_in emission.old.state) room.old emission.old.slots
+        (emit_in emission.new.state) room.new emission.new.slots i depth (list_from site.now) (controls_from site.now) }
 {
-    if state.refusal.is_some() {
+    if emission.state.refusal.is_some() {
         return;
     }
     if depth == 0 {
         return;
     }
-    let found = step_at(program, i);
-    match found {
-        Step::Touches(at) => emit_flip(site, touched(program, at, site.list), room, state),
+    match step_at(program, i) {
+        Step::Touches(at) => emit_flip(
+            site,
+            touched(program, at, site.list),
+            room,
+            &mut emission.state,
+        ),
         Step::Sequence(a, b) => {
-            emit_whole(program, k, a, depth - 1, site, room, slots, state);
-            emit_whole(program, k, b, depth - 1, site, room, slots, state);
+            emit_whole(program, k, a, depth - 1, site, room, emission);
+            emit_whole(program, k, b, depth - 1, site, room, emission);
         }
         Step::Chooses(c, a, b) => {
             let part = chosen(program, c, a, b, site.list, depth - 1);
-            emit_whole(program, k, part, depth - 1, site, room, slots, state);
+            emit_whole(program, k, part, depth - 1, site, room, emission);
         }
         Step::Branches(at, a, b) => {
             let q = touched(program, at, site.list);
@@ -71,8 +73,7 @@ fn emit_whole(
                 depth - 1,
                 &site.with_control(q, false),
                 room,
-                slots,
-                state,
+                emission,
             );
             emit_whole(
                 program,
@@ -81,8 +82,7 @@ fn emit_whole(
                 depth - 1,
                 &site.with_control(q, true),
                 room,
-                slots,
-                state,
+                emission,
             );
         }
         Step::Calls(f, at) => emit_call(
@@ -92,16 +92,10 @@ fn emit_whole(
             remaining(program, at, site.list),
             site,
             room,
-            slots,
-            state,
+            emission,
         ),
-        Step::Nothing => {}
-        Step::Greater(_) => {}
-        Step::AtLeast(_) => {}
-        Step::Equal(_) => {}
-        Step::Both(_, _) => {}
-        Step::Either(_, _) => {}
-        Step::Negates(_) => {}
+        // skip; and what is no statement
+        _ => {}
     }
 }
 
@@ -114,27 +108,26 @@ fn emit_call(
     list: QubitSet,
     site: &Site,
     room: &mut [u8],
-    slots: &mut Slots,
-    state: &mut State,
+    emission: &mut Emission,
 )
-    ensures { Call program.now k (emit_in state.old) room.old slots.old
-        (emit_in state.new) room.new slots.new f (members_of list) (controls_from site.now) }
+    ensures { Call program.now k (emit_in emission.old.state) room.old emission.old.slots
+        (emit_in emission.new.state) room.new emission.new.slots f (members_of list) (controls_from site.now) }
 {
-    if state.refusal.is_some() {
+    if emission.state.refusal.is_some() {
         return;
     }
     let m = size(list);
     if m == 0 {
         return;
     }
-    let base = state.next;
-    invoke(f, list, site, room, slots, state);
+    let base = emission.state.next;
+    emission.invoke(f, list, site, room);
     if k == 0 {
-        finish(base, site, room, state);
+        finish(base, site, room, &mut emission.state);
         return;
     }
-    emit_bodies(program, k - 1, base, above_length(m), room, slots, state);
-    finish(base, site, room, state);
+    emit_bodies(program, k - 1, base, above_length(m), room, emission);
+    finish(base, site, room, &mut emission.state);
 }
 
 // The bodies of a chain whose precedence is below `last`: the longest list goes first, and of equal lengths the lowest procedure.
@@ -145,18 +138,17 @@ fn emit_bodies(
     base: u16,
     last: u32,
     room: &mut [u8],
-    slots: &mut Slots,
-    state: &mut State,
+    emission: &mut Emission,
 )
-    ensures { Bodies program.now k (emit_in state.old) room.old slots.old
-        (emit_in state.new) room.new slots.new base last }
+    ensures { Bodies program.now k (emit_in emission.old.state) room.old emission.old.slots
+        (emit_in emission.new.state) room.new emission.new.slots base last }
 {
-    if state.refusal.is_some() {
+    if emission.state.refusal.is_some() {
         return;
     }
-    if let Some(d) = seek(slots, base, last, state.next) {
-        let precedence = slot_in(slots, d).precedence;
-        emit_body(program, k, base, precedence, d, room, slots, state);
+    if let Some(d) = seek(&emission.slots, base, last, emission.state.next) {
+        let precedence = slot_in(&emission.slots, d).precedence;
+        emit_body(program, k, base, precedence, d, room, emission);
     }
 }
 
@@ -169,19 +161,34 @@ fn emit_body(
     last: u32,
     d: u16,
     room: &mut [u8],
-    slots: &mut Slots,
-    state: &mut State,
+    emission: &mut Emission,
 )
-    ensures { Body program.now k (emit_in state.old) room.old slots.old
-        (emit_in state.new) room.new slots.new base last d }
+    ensures { Body program.now k (emit_in emission.old.state) room.old emission.old.slots
+        (emit_in emission.new.state) room.new emission.new.slots base last d }
 {
-    let upto = state.next;
+    let upto = emission.state.next;
     if upto <= d {
         return;
     }
-    emit_entries(slots, d, d + 1, upto, false, room, state);
-    emit_inner(program, k, base, last, d, room, slots, state);
-    emit_entries(slots, d, d + 1, upto, true, room, state);
+    emit_entries(
+        &emission.slots,
+        d,
+        d + 1,
+        upto,
+        false,
+        room,
+        &mut emission.state,
+    );
+    emit_inner(program, k, base, last, d, room, emission);
+    emit_entries(
+        &emission.slots,
+        d,
+        d + 1,
+        upto,
+        true,
+        room,
+        &mut emission.state,
+    );
 }
 
 // Its left part, then the rest.
@@ -193,14 +200,13 @@ fn emit_inner(
     last: u32,
     d: u16,
     room: &mut [u8],
-    slots: &mut Slots,
-    state: &mut State,
+    emission: &mut Emission,
 )
-    ensures { Inner program.now k (emit_in state.old) room.old slots.old
-        (emit_in state.new) room.new slots.new base last d }
+    ensures { Inner program.now k (emit_in emission.old.state) room.old emission.old.slots
+        (emit_in emission.new.state) room.new emission.new.slots base last d }
 {
-    emit_body_left(program, k, d, room, slots, state);
-    emit_rest(program, k, base, last, d, room, slots, state);
+    emit_body_left(program, k, d, room, emission);
+    emit_rest(program, k, base, last, d, room, emission);
 }
 
 // The bodies that follow, then its right part, whose recursive calls have the ancillas before the next wire.
@@ -212,31 +218,23 @@ fn emit_rest(
     last: u32,
     d: u16,
     room: &mut [u8],
-    slots: &mut Slots,
-    state: &mut State,
+    emission: &mut Emission,
 )
-    ensures { Rest program.now k (emit_in state.old) room.old slots.old
-        (emit_in state.new) room.new slots.new base last d }
+    ensures { Rest program.now k (emit_in emission.old.state) room.old emission.old.slots
+        (emit_in emission.new.state) room.new emission.new.slots base last d }
 {
-    let behind = state.next;
-    emit_bodies(program, k, base, last, room, slots, state);
-    emit_body_right(program, k, d, behind, room, slots, state);
+    let behind = emission.state.next;
+    emit_bodies(program, k, base, last, room, emission);
+    emit_body_right(program, k, d, behind, room, emission);
 }
 
 // The left part of the body of slot d.
 #[cycle(emitting)]
-fn emit_body_left(
-    program: &Program,
-    k: u8,
-    d: u16,
-    room: &mut [u8],
-    slots: &mut Slots,
-    state: &mut State,
-)
-    ensures { BodyLeft program.now k (emit_in state.old) room.old slots.old
-        (emit_in state.new) room.new slots.new d }
+fn emit_body_left(program: &Program, k: u8, d: u16, room: &mut [u8], emission: &mut Emission)
+    ensures { BodyLeft program.now k (emit_in emission.old.state) room.old emission.old.slots
+        (emit_in emission.new.state) room.new emission.new.slots d }
 {
-    let slot = slot_in(slots, d);
+    let slot = slot_in(&emission.slots, d);
     let f = slot.procedure();
     let site = Site::under(wire(d), slot.list);
     emit_left(
@@ -246,8 +244,7 @@ fn emit_body_left(
         body_depth(program, f),
         &site,
         room,
-        slots,
-        state,
+        emission,
     );
 }
 
@@ -259,13 +256,12 @@ fn emit_body_right(
     d: u16,
     behind: u16,
     room: &mut [u8],
-    slots: &mut Slots,
-    state: &mut State,
+    emission: &mut Emission,
 )
-    ensures { BodyRight program.now k (emit_in state.old) room.old slots.old
-        (emit_in state.new) room.new slots.new d behind }
+    ensures { BodyRight program.now k (emit_in emission.old.state) room.old emission.old.slots
+        (emit_in emission.new.state) room.new emission.new.slots d behind }
 {
-    let slot = slot_in(slots, d);
+    let slot = slot_in(&emission.slots, d);
     let f = slot.procedure();
     let site = Site::under(wire(d), slot.list);
     emit_right(
@@ -276,8 +272,7 @@ fn emit_body_right(
         &site,
         behind,
         room,
-        slots,
-        state,
+        emission,
     );
 }
 
@@ -290,32 +285,35 @@ fn emit_left(
     depth: u8,
     site: &Site,
     room: &mut [u8],
-    slots: &mut Slots,
-    state: &mut State,
+    emission: &mut Emission,
 )
-    ensures { Left program.now k (emit_in state.old) room.old slots.old
-        (emit_in state.new) room.new slots.new i depth (list_from site.now) (controls_from site.now) }
+    ensures { Left program.now k (emit_in emission.old.state) room.old emission.old.slots
+        (emit_in emission.new.state) room.new emission.new.slots i depth (list_from site.now) (controls_from site.now) }
 {
-    if state.refusal.is_some() {
+    if emission.state.refusal.is_some() {
         return;
     }
     if depth == 0 {
         return;
     }
-    let found = step_at(program, i);
-    match found {
-        Step::Touches(at) => emit_flip(site, touched(program, at, site.list), room, state),
+    match step_at(program, i) {
+        Step::Touches(at) => emit_flip(
+            site,
+            touched(program, at, site.list),
+            room,
+            &mut emission.state,
+        ),
         Step::Sequence(a, b) => {
             if is_wide(program, a) {
-                emit_left(program, k, a, depth - 1, site, room, slots, state);
+                emit_left(program, k, a, depth - 1, site, room, emission);
                 return;
             }
-            emit_whole(program, k, a, depth - 1, site, room, slots, state);
-            emit_left(program, k, b, depth - 1, site, room, slots, state);
+            emit_whole(program, k, a, depth - 1, site, room, emission);
+            emit_left(program, k, b, depth - 1, site, room, emission);
         }
         Step::Chooses(c, a, b) => {
             let part = chosen(program, c, a, b, site.list, depth - 1);
-            emit_left(program, k, part, depth - 1, site, room, slots, state);
+            emit_left(program, k, part, depth - 1, site, room, emission);
         }
         Step::Branches(at, a, b) => {
             let q = touched(program, at, site.list);
@@ -326,8 +324,7 @@ fn emit_left(
                 depth - 1,
                 &site.with_control(q, false),
                 room,
-                slots,
-                state,
+                emission,
             );
             emit_left(
                 program,
@@ -336,25 +333,19 @@ fn emit_left(
                 depth - 1,
                 &site.with_control(q, true),
                 room,
-                slots,
-                state,
+                emission,
             );
         }
         Step::Calls(g, at) => {
             let rest = remaining(program, at, site.list);
             if is_wide(program, i) {
-                invoke(g, rest, site, room, slots, state);
+                emission.invoke(g, rest, site, room);
                 return;
             }
-            emit_call(program, k, g, rest, site, room, slots, state);
+            emit_call(program, k, g, rest, site, room, emission);
         }
-        Step::Nothing => {}
-        Step::Greater(_) => {}
-        Step::AtLeast(_) => {}
-        Step::Equal(_) => {}
-        Step::Both(_, _) => {}
-        Step::Either(_, _) => {}
-        Step::Negates(_) => {}
+        // skip; and what is no statement
+        _ => {}
     }
 }
 
@@ -368,13 +359,12 @@ fn emit_right(
     site: &Site,
     behind: u16,
     room: &mut [u8],
-    slots: &mut Slots,
-    state: &mut State,
+    emission: &mut Emission,
 ) -> u16
-    ensures { Right program.now k (emit_in state.old) room.old slots.old
-        (emit_in state.new) room.new slots.new i depth (list_from site.now) (controls_from site.now) behind result }
+    ensures { Right program.now k (emit_in emission.old.state) room.old emission.old.slots
+        (emit_in emission.new.state) room.new emission.new.slots i depth (list_from site.now) (controls_from site.now) behind result }
 {
-    if state.refusal.is_some() {
+    if emission.state.refusal.is_some() {
         return behind;
     }
     if depth == 0 {
@@ -385,29 +375,18 @@ fn emit_right(
     if narrow {
         return behind;
     }
-    let found = step_at(program, i);
-    match found {
+    match step_at(program, i) {
         Step::Sequence(a, b) => {
             if is_wide(program, a) {
-                let first = emit_right(program, k, a, depth - 1, site, behind, room, slots, state);
-                emit_whole(program, k, b, depth - 1, site, room, slots, state);
+                let first = emit_right(program, k, a, depth - 1, site, behind, room, emission);
+                emit_whole(program, k, b, depth - 1, site, room, emission);
                 return first;
             }
-            emit_right(program, k, b, depth - 1, site, behind, room, slots, state)
+            emit_right(program, k, b, depth - 1, site, behind, room, emission)
         }
         Step::Chooses(c, a, b) => {
             let part = chosen(program, c, a, b, site.list, depth - 1);
-            emit_right(
-                program,
-                k,
-                part,
-                depth - 1,
-                site,
-                behind,
-                room,
-                slots,
-                state,
-            )
+            emit_right(program, k, part, depth - 1, site, behind, room, emission)
         }
         Step::Branches(at, a, b) => {
             let q = touched(program, at, site.list);
@@ -419,8 +398,7 @@ fn emit_right(
                 &site.with_control(q, true),
                 behind,
                 room,
-                slots,
-                state,
+                emission,
             );
             emit_right(
                 program,
@@ -430,8 +408,7 @@ fn emit_right(
                 &site.with_control(q, false),
                 second,
                 room,
-                slots,
-                state,
+                emission,
             )
         }
         Step::Calls(_, at) => flip_again(
@@ -439,25 +416,18 @@ fn emit_right(
             site,
             behind,
             room,
-            state,
+            &mut emission.state,
         ),
-        Step::Touches(_) => behind,
-        Step::Nothing => behind,
-        Step::Greater(_) => behind,
-        Step::AtLeast(_) => behind,
-        Step::Equal(_) => behind,
-        Step::Both(_, _) => behind,
-        Step::Either(_, _) => behind,
-        Step::Negates(_) => behind,
+        // what has no right part; and what is no statement
+        _ => behind,
     }
 }
 
-// "Wires 1 to n are data; ancillas follow": main is emitted whole, under no control.
-pub fn emit_main(program: &Program, n: u8, room: &mut [u8], slots: &mut Slots) -> State
-    ensures { Emits program.now n room.old slots.old
-        (emit_in result) room.new slots.new }
+// "Wires 1 to n are data; ancillas follow": main is emitted whole, under no control. Where the emission ends is given; nobody reads its slots afterwards.
+pub fn emit_main(program: &Program, n: u8, room: &mut [u8]) -> State
+    ensures { Emits program.now n room.old (emit_in result) room.new }
 {
-    let mut state = begin(n);
+    let mut emission = Emission::begin(n);
     emit_whole(
         program,
         procedures(program),
@@ -465,8 +435,7 @@ pub fn emit_main(program: &Program, n: u8, room: &mut [u8], slots: &mut Slots) -
         MOST_DEPTH,
         &Site::free(all(n)),
         room,
-        slots,
-        &mut state,
+        &mut emission,
     );
-    state
+    emission.state
 }

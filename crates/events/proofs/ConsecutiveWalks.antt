@@ -6,7 +6,7 @@ use Prim.Native.Nat.{ℕ, zero, suc, ◌+◌, ◌-◌, ◌*◌, ◌/◌, ◌%◌
 use native.Mathlib.Nat.{le_refl}
 use native.Mathlib.Omega.{arith}
 use borrow.Author.Tests.{eqb-true, le-ltb, ne_eqb}
-use lib.ListN.{length, length-set}
+use lib.ListN.{replicate, length-replicate, get_or-replicate, get_or-eq_default, length, length-set}
 use lib.Seq.{sets, get_or-set_same, get_or-set_other}
 use lib.Dec.{eqb}
 use mir.Syntax.{w8}
@@ -17,8 +17,10 @@ use Rattle.model.specs.Emission.{Event, takes, places, frees, invocation}
 use Rattle.model.specs.Circuit.{encode}
 use Rattle.model.specs.Answers.{usable}
 use Rattle.model.proofs.BooleanLaws.{by_bool, by_lt, by_eq}
+use Rattle.model.proofs.ListLaws.{not_in_nil}
 use Rattle.agreement.proofs.AncillaStack.{OnlyGates}
 use Rattle.sets.specs.Sets.{members_of}
+use Rattle.sets.proofs.Members.{members_empty}
 use Rattle.lookup.specs.Plans.{Within}
 use Rattle.events.specs.declared.Slot.{Slot}
 use Rattle.events.specs.Scan.{
@@ -28,6 +30,7 @@ use Rattle.events.specs.Scan.{
   emit_of,
   placed,
   scan,
+  no_call,
   slot_in,
   slot_list,
   slot_of,
@@ -142,10 +145,6 @@ held_append slots a (suc m) n =
     let z : a + suc m ≡ a + 1 + m = omega arith in
     rw (e, z) (ap (λ l. slot_of slots a ∷ l) (held_append slots (a + 1) m n))
 
--- past the slots
-abbrev no_call : Slot
-no_call = record { precedence = 0; list = 0 }
-
 -- a slot that was filled, and all before it
 module _ (slots : List Slot) (a f w : ℕ) where
   pub filled_length_lem : length (filled slots a f w) ≡ length slots
@@ -174,3 +173,15 @@ module _ (slots : List Slot) (a f w : ℕ) where
       where
         other : (j : ℕ) → j ≢ a → slot_in (filled slots a f w) j ≡ slot_in slots j
         other j x = get_or-set_other slots a j (called f w) no_call x
+
+-- slots of no calls have the lengths of their lists, which are empty
+pub none_tallied : (n k : ℕ) → Tallied n (replicate k no_call)
+none_tallied n k = record {
+  lengths = λ a. rw (none a, members_empty);
+  within = λ a w m. not_in_nil w (rw (none a, members_empty) at m);
+}
+  where
+    none : (a : ℕ) → slot_in (replicate k no_call) a ≡ no_call
+    none a = by_lt a k
+        (λ lt. get_or-replicate k a no_call no_call lt)
+        (λ ge. get_or-eq_default (replicate k no_call) no_call (rw (length-replicate {A = Slot} k no_call) ge))

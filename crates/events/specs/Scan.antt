@@ -95,8 +95,11 @@ emission_end P n = record {
 
 -- an ancilla's slot holds the invocation that took it: a number for the length of its list and the procedure, counted down from 255, and the set of the list. Past
 -- the slots there is none.
+abbrev pub no_call : Slot
+no_call = record { precedence = 0; list = 0 }
+
 abbrev pub slot_in : List Slot → ℕ → Slot
-slot_in slots a = get_or slots a (record { precedence = 0; list = 0 })
+slot_in slots a = get_or slots a no_call
 
 abbrev pub slot_procedure : List Slot → ℕ → ℕ
 slot_procedure slots a = 255 - (slot_in slots a).precedence % 256

@@ -2,14 +2,15 @@
 // the two ends of a call. Where an emission is (`State`) and the slots in which ancillas keep their invocations are lent; the next body is sought in the slots.
 #![tactic(auto)]
 
-ghost use Rattle.std.specs.Prelude.{◌≡◌, cond, [], ◌∷◌, reverse, ◌+◌, ◌-◌, ◌*◌, ◌%◌, ◌≤◌, length, leb, MatchOption};
+ghost use Rattle.std.specs.Prelude.{◌≡◌, cond, [], ◌∷◌, reverse, ◌+◌, ◌-◌, ◌*◌, ◌%◌, ◌≤◌, length, leb, replicate, MatchOption};
 ghost use Rattle.model.specs.Gates.{flip, swap_of};
 ghost use Rattle.model.specs.Emission as model;
 ghost use Rattle.model.specs.Emission.{places, frees, invoked, entry_gates, returns};
 ghost use Rattle.model.specs.Answers.{usable};
 ghost use Rattle.controls.specs.ControlWords.{controls_from};
 ghost use Rattle.sets.specs.Sets.{members_of};
-ghost use Rattle.events.specs.Scan.{emit_in, progress, with_gate, scan, begun, slot_in, slot_list, wire_of, slot_of};
+ghost use Rattle.limits.specs.Sizes.{wire_count};
+ghost use Rattle.events.specs.Scan.{no_call, emit_in, progress, with_gate, scan, begun, slot_in, slot_list, wire_of, slot_of};
 ghost use Rattle.events.specs.Slots.{filled, ancilla_taken, returned, NoneWaits, NextSlot, turned, Enters, EntryTouched, entry_at, entries_to};
 ghost use Rattle.lookup.specs.Plans.{swaps_along};
 ghost use Rattle.events.specs.FollowedEvents.{Invokes};
@@ -47,17 +48,61 @@ pub const NO_CALL: Slot = Slot {
 // The slots of all wires.
 pub type Slots = [Slot; WIRE_COUNT];
 
-// An emission on n qubits begins behind the header.
-pub fn begin(n: u8) -> State
-    ensures { emit_in result ≡ begun n }
-{
-    State {
-        refusal: None,
-        used: HEADER_LENGTH,
-        gates: 0,
-        next: n as u16 + 1,
-        highest: n as u16,
-        qubits: n,
+// An emission: where it is, and its slots.
+#[derive(Drop)]
+pub struct Emission {
+    pub state: State,
+    pub slots: Slots,
+}
+
+impl Emission {
+    // One on n qubits begins behind the header.
+    pub fn begin(n: u8) -> Self
+        ensures state { emit_in result.state ≡ begun n }
+        ensures slots { result.slots ≡ replicate wire_count no_call }
+    {
+        Emission {
+            state: State {
+                refusal: None,
+                used: HEADER_LENGTH,
+                gates: 0,
+                next: n as u16 + 1,
+                highest: n as u16,
+                qubits: n,
+            },
+            slots: [NO_CALL; WIRE_COUNT],
+        }
+    }
+
+    // The next ancilla is taken for a call of f with a list, or 22.
+    fn take(&mut self, f: u8, list: QubitSet)
+        ensures state { emit_in self.new.state ≡ (ancilla_taken f list (emit_in self.old.state) self.old.slots).0 }
+        ensures slots { self.new.slots ≡ (ancilla_taken f list (emit_in self.old.state) self.old.slots).1 }
+    {
+        if self.state.refusal.is_some() {
+            return;
+        }
+        let next = self.state.next;
+        if LAST_WIRE < next {
+            self.state.refusal = Some(Refusal::ManyWires);
+            return;
+        }
+        fill_slot(&mut self.slots, next, f, list);
+        self.state.next = next + 1;
+        self.state.highest = self.state.highest.max(next);
+    }
+
+    // A call that names a pair takes the next ancilla and flips it under the controls in force. "A call with an empty list emits nothing"
+    pub fn invoke(&mut self, f: u8, list: QubitSet, site: &Site, room: &mut [u8])
+        ensures { Invokes f (members_of list) (controls_from site.now) (emit_in self.old.state) room.old self.old.slots
+            (emit_in self.new.state) room.new self.new.slots }
+    {
+        if list == 0 {
+            return;
+        }
+        let a = wire(self.state.next);
+        self.take(f, list);
+        emit_flip(site, a, room, &mut self.state);
     }
 }
 
@@ -154,7 +199,7 @@ impl Slot {
     }
 }
 
-// An invocation is put into the slot of its ancilla.
+// An invocation is put into the slot of its ancilla. By index: of what `get_mut` lends out of an array, the proof does not know what comes back.
 fn fill_slot(slots: &mut Slots, a: u16, f: u8, list: QubitSet)
     ensures { slots.new ≡ filled slots.old a f list }
 {
@@ -165,24 +210,6 @@ fn fill_slot(slots: &mut Slots, a: u16, f: u8, list: QubitSet)
             list,
         };
     }
-}
-
-// The next ancilla is taken for a call of f with a list, or 22.
-fn take(f: u8, list: QubitSet, slots: &mut Slots, state: &mut State)
-    ensures state_after { emit_in state.new ≡ (ancilla_taken f list (emit_in state.old) slots.old).0 }
-    ensures slots_after { slots.new ≡ (ancilla_taken f list (emit_in state.old) slots.old).1 }
-{
-    if state.refusal.is_some() {
-        return;
-    }
-    let next = state.next;
-    if LAST_WIRE < next {
-        state.refusal = Some(Refusal::ManyWires);
-        return;
-    }
-    fill_slot(slots, next, f, list);
-    state.next = next + 1;
-    state.highest = state.highest.max(next);
 }
 
 // The least number above those of all lists of length m.
@@ -198,20 +225,21 @@ pub fn seek(slots: &Slots, base: u16, last: u32, upto: u16) -> Option<u16>
     ensures { MatchOption result (NoneWaits slots.now base last upto) (λ d. NextSlot slots.now base last upto d) }
 {
     let mut greatest = 255;
-    let mut best = None;
+    // no Option in the loop: it would be one more test for each slot
+    let mut best = upto;
     for a in base..upto {
         let number = slot_in(slots, a).precedence;
-        let waits = number < last;
-        let more = greatest < number;
-        if waits && more {
-            greatest = number;
-            best = Some(a);
+        if number < last {
+            if greatest < number {
+                greatest = number;
+                best = a;
+            }
         }
     }
-    best
+    (best < upto).then_some(best)
 }
 
-// Swaps of pairs of wires under an ancilla, in order or reversed.
+// Swaps of pairs of wires under an ancilla, in order or reversed. Two loops, here and below: a function over any iterator would have to be told which pairs it gives.
 fn emit_swaps(e: u8, pairs: &[(u8, u8)], reversed: bool, room: &mut [u8], state: &mut State)
     ensures { progress (emit_in state.new) room.new ≡
         scan (turned reversed (swaps_along e pairs.now)) (progress (emit_in state.old) room.old) }
@@ -298,26 +326,6 @@ pub fn emit_entries(
     for a in e..upto {
         emit_entry(slots, d, a, false, room, state);
     }
-}
-
-// A call that names a pair takes the next ancilla and flips it under the controls in force. "A call with an empty list emits nothing"
-pub fn invoke(
-    f: u8,
-    list: QubitSet,
-    site: &Site,
-    room: &mut [u8],
-    slots: &mut Slots,
-    state: &mut State,
-)
-    ensures { Invokes f (members_of list) (controls_from site.now) (emit_in state.old) room.old slots.old
-        (emit_in state.new) room.new slots.new }
-{
-    if list == 0 {
-        return;
-    }
-    let a = wire(state.next);
-    take(f, list, slots, state);
-    emit_flip(site, a, room, state);
 }
 
 // A chain's end: its first ancilla is flipped back, and all its ancillas are given back.

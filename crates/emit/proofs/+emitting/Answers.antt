@@ -1,8 +1,9 @@
 -- The walkers meet their contracts: each way out is one law.
 use borrow.Author.Rules.{rules}
-use Rattle.emit.proofs.WholeStatement.{wholes}
-use Rattle.emit.proofs.LeftPart.{lefts, left_stopped}
-use Rattle.emit.proofs.RightPart.{rights, right_stopped}
+use mathlib.Core.Path.{refl}
+use Rattle.emit.proofs.WholeStatement.{wholes, idle_else, whole_idle}
+use Rattle.emit.proofs.LeftPart.{lefts, left_stopped, left_idle}
+use Rattle.emit.proofs.RightPart.{rights, right_stopped, right_else}
 use Rattle.emit.proofs.ChainsAndBodies.{chaining, bodies_stopped, bodies_none, bodies_found}
 use Rattle.emit.proofs.+emitting.Goals as goal
 
@@ -66,27 +67,6 @@ emit_left-returns-in-Branches t c = search lefts
 pub emit_left-returns-else-is_wide-2 : goal.emit_left-returns-else-is_wide-2
 emit_left-returns-else-is_wide-2 t c = search lefts
 
-pub emit_left-returns-in-Nothing : goal.emit_left-returns-in-Nothing
-emit_left-returns-in-Nothing t c = search lefts
-
-pub emit_left-returns-in-Greater : goal.emit_left-returns-in-Greater
-emit_left-returns-in-Greater t c = search lefts
-
-pub emit_left-returns-in-AtLeast : goal.emit_left-returns-in-AtLeast
-emit_left-returns-in-AtLeast t c = search lefts
-
-pub emit_left-returns-in-Equal : goal.emit_left-returns-in-Equal
-emit_left-returns-in-Equal t c = search lefts
-
-pub emit_left-returns-in-Both : goal.emit_left-returns-in-Both
-emit_left-returns-in-Both t c = search lefts
-
-pub emit_left-returns-in-Either : goal.emit_left-returns-in-Either
-emit_left-returns-in-Either t c = search lefts
-
-pub emit_left-returns-in-Negates : goal.emit_left-returns-in-Negates
-emit_left-returns-in-Negates t c = search lefts
-
 pub emit_rest-returns : goal.emit_rest-returns
 emit_rest-returns t c = search chaining
 
@@ -114,30 +94,6 @@ emit_right-returns-in-Branches t c = search rights
 pub emit_right-returns-in-Calls : goal.emit_right-returns-in-Calls
 emit_right-returns-in-Calls t c = search rights
 
-pub emit_right-returns-in-Touches : goal.emit_right-returns-in-Touches
-emit_right-returns-in-Touches t c = search rights
-
-pub emit_right-returns-in-Nothing : goal.emit_right-returns-in-Nothing
-emit_right-returns-in-Nothing t c = search rights
-
-pub emit_right-returns-in-Greater : goal.emit_right-returns-in-Greater
-emit_right-returns-in-Greater t c = search rights
-
-pub emit_right-returns-in-AtLeast : goal.emit_right-returns-in-AtLeast
-emit_right-returns-in-AtLeast t c = search rights
-
-pub emit_right-returns-in-Equal : goal.emit_right-returns-in-Equal
-emit_right-returns-in-Equal t c = search rights
-
-pub emit_right-returns-in-Both : goal.emit_right-returns-in-Both
-emit_right-returns-in-Both t c = search rights
-
-pub emit_right-returns-in-Either : goal.emit_right-returns-in-Either
-emit_right-returns-in-Either t c = search rights
-
-pub emit_right-returns-in-Negates : goal.emit_right-returns-in-Negates
-emit_right-returns-in-Negates t c = search rights
-
 pub emit_whole-returns-then-is_some : goal.emit_whole-returns-then-is_some
 emit_whole-returns-then-is_some t c = search wholes
 
@@ -159,23 +115,14 @@ emit_whole-returns-in-Branches t c = search wholes
 pub emit_whole-returns-in-Calls : goal.emit_whole-returns-in-Calls
 emit_whole-returns-in-Calls t c = search wholes
 
-pub emit_whole-returns-in-Nothing : goal.emit_whole-returns-in-Nothing
-emit_whole-returns-in-Nothing t c = search wholes
+pub emit_whole-returns-in_default : goal.emit_whole-returns-in_default
+emit_whole-returns-in_default t c =
+    whole_idle c.if-depth-eq0.false c.step_at.ensures _ refl (idle_else _ c.in_default.not-Touches c.in_default.not-Sequence c.in_default.not-Chooses c.in_default.not-Branches c.in_default.not-Calls)
 
-pub emit_whole-returns-in-Greater : goal.emit_whole-returns-in-Greater
-emit_whole-returns-in-Greater t c = search wholes
+pub emit_left-returns-in_default : goal.emit_left-returns-in_default
+emit_left-returns-in_default t c =
+    left_idle c.if-depth-eq0.false c.step_at.ensures _ refl (idle_else _ c.in_default.not-Touches c.in_default.not-Sequence c.in_default.not-Chooses c.in_default.not-Branches c.in_default.not-Calls)
 
-pub emit_whole-returns-in-AtLeast : goal.emit_whole-returns-in-AtLeast
-emit_whole-returns-in-AtLeast t c = search wholes
-
-pub emit_whole-returns-in-Equal : goal.emit_whole-returns-in-Equal
-emit_whole-returns-in-Equal t c = search wholes
-
-pub emit_whole-returns-in-Both : goal.emit_whole-returns-in-Both
-emit_whole-returns-in-Both t c = search wholes
-
-pub emit_whole-returns-in-Either : goal.emit_whole-returns-in-Either
-emit_whole-returns-in-Either t c = search wholes
-
-pub emit_whole-returns-in-Negates : goal.emit_whole-returns-in-Negates
-emit_whole-returns-in-Negates t c = search wholes
+pub emit_right-returns-in_default : goal.emit_right-returns-in_default
+emit_right-returns-in_default t c =
+    right_else c.if-depth-eq0.false c.step_at.ensures _ refl c.in_default.not-Sequence c.in_default.not-Chooses c.in_default.not-Branches c.in_default.not-Calls

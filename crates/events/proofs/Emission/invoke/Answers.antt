@@ -1,6 +1,6 @@
 -- `invoke` meets its contract: each way out is one law.
 use Rattle.events.proofs.CallAncilla.{invoking}
-use Rattle.events.proofs.invoke.Goals as goal
+use Rattle.events.proofs.Emission.invoke.Goals as goal
 
 pub returns-then-list-eq0 : goal.returns-then-list-eq0
 returns-then-list-eq0 c = search invoking
