@@ -7,26 +7,23 @@ use Rattle.std.proofs.Common.{take_all, take-append-drop}
 use native.Mathlib.Omega.{arith}
 use borrow.Author.Rules.{rules}
 use borrow.Author.Tests.{le-leb, lt-leb, le-ltb}
-use lib.ListN.{length, set, take, drop, replicate, length-append, length-take, length-replicate, get_or-replicate, get_or-eq_default}
+use lib.ListN.{length, set, take, drop, length-append, length-take}
 use lib.Seq.{sets, sets-eq, length-sets, length-take-le, take-append-add, take-take, take-add, take_at, drop_at}
 use Rattle.std.specs.Prelude.{Option, Some, None, is_some, Ok, Err}
 use Rattle.limits.specs.declared.Refusal.{Refusal}
 use Rattle.limits.specs.declared.Refusal.TheVariants.{NoRoom}
 use Rattle.limits.specs.Refusals.{number_of}
-use Rattle.limits.specs.Sizes.{wire_count}
 use Rattle.model.specs.Limits.{most_wires, most_qubits, most_circuit, header_length}
 use Rattle.model.specs.Syntax.{Program}
 use Rattle.model.specs.Emission.{emission, gates, peak}
 use Rattle.model.specs.Circuit.{Circuit, encode_all, four_bytes, write}
 use Rattle.model.specs.Answers.{gives, refuses, after, require, fitted, fit, circuit, usable, room_after}
 use Rattle.model.proofs.BooleanLaws.{by_lt}
-use Rattle.model.proofs.ListLaws.{not_in_nil}
 use Rattle.model.proofs.RoundTrip.{write_length}
 use Rattle.agreement.proofs.FirstMisfit.{fits_wires}
 use Rattle.answers.specs.Structs.{given_length}
 use Rattle.circuit.proofs.GateBytes.{sets_past}
 use Rattle.circuit.specs.GatesToWrite.{header_bytes}
-use Rattle.sets.proofs.Members.{members_empty}
 use Rattle.decoded.specs.DecodedTable.{program_at}
 use Rattle.events.specs.Scan.{Emit, refusal_number, Progress, progress, emit_of, room_of, emission_end, wire_of}
 use Rattle.events.proofs.ScanOfEvents.{emission_status, emission_ends, emission_within}
