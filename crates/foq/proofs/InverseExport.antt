@@ -5,7 +5,6 @@ use Prim.Native.Nat.{ℕ}
 use native.Mathlib.Omega.{arith}
 use mir.Syntax.{w8}
 use mir.Val.{Fits}
-use borrow.Author.Rules.{rules}
 use lib.ListN.{length, get_or}
 use Rattle.model.specs.Answers.{Outcome, gives, refuses, after, inverse_table, room_after}
 use Rattle.model.specs.Undoing.{Undoes}
@@ -26,5 +25,3 @@ module _ (table room : List ℕ) (n : ℕ) (byte : (k : ℕ) → Fits w8 (get_or
   pub answer_inverts : (r : Answer) (room₁ : List ℕ) → r ≡ length_answer (inverse_table table n (length room)) →
       room₁ ≡ room_after (inverse_table table n (length room)) room → Inverted table n r room₁
   answer_inverts r room₁ a b = rw (a, b) (inverts (inverse_table table n (length room)) refl)
-
-pub ruleset undoing = (rules, answer_inverts)

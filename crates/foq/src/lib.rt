@@ -9,16 +9,23 @@ ghost use Rattle.model.specs.Page.{page_band, text_after};
 ghost use Rattle.answers.specs.Structs.{answer_of, length_answer, header_of, block_answer, band_answer, Delivered, Inverted};
 
 use answers::{Answer, CircuitBlock, CircuitHeader, PageBand};
-use compile::clear;
+use compile::compile;
+use inverse::inverse;
+use run::run;
+use verdict::verdict;
 
 // The verdict: 0 for an accepted table, otherwise the refusal's number.
+#[tactic(auto, unfolding(model::specs::Answers::number))]
 pub fn foq_verdict(table: &[u8], n: u32, workspace: &mut [u8]) -> u32
     ensures value { result ≡ model.number (model.verdict table.now n (length workspace.old)) }
     ensures workspace_after { workspace.new ≡ workspace_after workspace.old }
 {
-    let number = verdict::verdict(table, n, workspace.len());
-    clear(workspace);
-    number
+    let accepted = verdict(table, n, workspace.len());
+    workspace.fill(0);
+    match accepted {
+        Ok(()) => 0,
+        Err(why) => u32::from(why),
+    }
 }
 
 // The run: the end word, or the refusal's number and 0.
@@ -26,13 +33,14 @@ pub fn foq_run(table: &[u8], n: u32, word: u64, workspace: &mut [u8]) -> Answer
     ensures value { result ≡ answer_of (model.run table.now n word (length workspace.old)) }
     ensures workspace_after { workspace.new ≡ workspace_after workspace.old }
 {
-    let answer = run::run(table, n, word, workspace.len());
-    clear(workspace);
-    answer
+    let end = run(table, n, word, workspace.len());
+    workspace.fill(0);
+    Answer::from(end)
 }
 
 // Compile: the circuit's length, or the refusal's number and 0. The room is written only on success. Demand 3 holds of what is written there: the
 // circuit ends as the run does from every start word, and its bytes and counts are the emission's.
+#[tactic(auto, using(crate::proofs::CompileExport::answer_delivers))]
 pub fn foq_compile(table: &[u8], n: u32, room: &mut [u8], workspace: &mut [u8]) -> Answer
     ensures value { result ≡ length_answer (model.compile table.now n (length room.old) (length workspace.old)) }
     ensures room_after { room.new ≡
@@ -40,21 +48,18 @@ pub fn foq_compile(table: &[u8], n: u32, room: &mut [u8], workspace: &mut [u8]) 
     ensures workspace_after { workspace.new ≡ workspace_after workspace.old }
     ensures delivered { Delivered table.now n result room.new }
 {
-    let compiled = compile::compile(table, n, room, workspace);
-    Answer {
-        number: compiled.number as u32,
-        value: compiled.length as u64,
-    }
+    Answer::from(compile(table, n, room, workspace))
 }
 
 // The inverse: the length of the table that undoes this one, or the refusal's number and 0. The room is written only on success. What is written there
 // is accepted at the same n, running one after the other gives the start word, and inverting again gives the first table's bytes.
+#[tactic(auto, using(crate::proofs::InverseExport::answer_inverts))]
 pub fn foq_inverse(table: &[u8], n: u32, room: &mut [u8]) -> Answer
     ensures value { result ≡ length_answer (inverse_table table.now n (length room.old)) }
     ensures room_after { room.new ≡ room_after (inverse_table table.now n (length room.old)) room.old }
     ensures inverted { Inverted table.now n result room.new }
 {
-    inverse::inverse(table, n, room)
+    Answer::from(inverse(table, n, room))
 }
 
 // The circuit reader: n, ancillas and gate count, or the refusal's number and zeros.

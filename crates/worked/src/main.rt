@@ -27,20 +27,11 @@ fn digit(byte: u8) -> u8
 fn spelled(text: &[u8], bytes: &mut [u8]) -> usize
     ensures { IsPrefixLen result bytes.new }
 {
-    let mut count = 0;
-    let mut at = 0;
-    while count < bytes.len() {
-        if text.len() < 3 {
-            return count;
-        }
-        if text.len() - 3 < at {
-            return count;
-        }
-        bytes[count] = 16 * digit(text[at]) + digit(text[at + 1]);
-        count += 1;
-        at += 3;
+    let (spellings, _) = text.as_chunks::<3>();
+    for (byte, &[high, low, _]) in bytes.iter_mut().zip(spellings) {
+        *byte = 16 * digit(high) + digit(low);
     }
-    count
+    spellings.len().min(bytes.len())
 }
 
 fn print_answer(rt: &impl Print, name: &str, answer: Answer) -> io::Result<()> {
