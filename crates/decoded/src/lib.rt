@@ -30,7 +30,7 @@ const ROOT_COUNT: usize = 256;
 
 const REMOVAL_ROOM: usize = MOST_REMOVALS as usize;
 
-// The removals of a record: so many numbers, the first one first. There is room for the most that a record has.
+// The removals of a record: so many numbers, the first one first. There is room for the most that a record has: an array and a count, since there is no heap.
 #[derive(Clone, Copy)]
 struct Removals {
     count: u8,
@@ -81,10 +81,10 @@ impl Program {
     }
 }
 
-// A record by its number: a step hands it on.
+// A record by its number: a step hands it on. Records name one another so, since there is no heap.
 pub type Row = u32;
 
-pub mod write;
+mod write;
 
 // What a record does, whatever the list. Children go by their numbers, removals and numbers by the record's own.
 #[derive(Drop)]
@@ -128,50 +128,6 @@ fn layout() -> [usize; 3]
     [RECORD_COUNT, ROOT_COUNT, REMOVAL_ROOM]
 }
 
-// How many procedures has the program?
-pub fn procedures(program: &Program) -> u8
-    ensures { result ≡ procedure_count program.now }
-{
-    program.procedures
-}
-
-// The root of the body of f, main at 0.
-pub fn root(program: &Program, f: u8) -> u32
-    ensures { result ≡ root_of program.now f }
-{
-    program.roots[f as usize] as u32
-}
-
-// Where record i begins in the table.
-pub fn start(program: &Program, i: u32) -> usize
-    ensures { result ≡ start_of program.now i }
-{
-    program
-        .entries
-        .get(i as usize)
-        .map_or(0, |entry| entry.place as usize)
-}
-
-// Is the statement at record i wide? Is the call there recursive?
-pub fn is_wide(program: &Program, i: u32) -> bool
-    ensures { result ≡ ltb 0 (width_in program.now i) }
-{
-    program
-        .entries
-        .get(i as usize)
-        .map_or(false, |entry| 0 < entry.width)
-}
-
-// The record behind the subtree of record i.
-fn subtree_end(program: &Program, i: u32) -> u32
-    ensures { result ≡ end_of program.now i }
-{
-    program
-        .entries
-        .get(i as usize)
-        .map_or(0, |entry| entry.end as u32)
-}
-
 // A constant as it is taken from the program: no table has one above 16 bits, and one that had counts as 0.
 fn constant_kept(z: i32) -> i32
     ensures { result ≡ constant_kept z }
@@ -191,88 +147,6 @@ fn kept(a: Number) -> Number
     }
 }
 
-// Number a of record i.
-#[tactic(auto, unfolding(crate::specs::DecodedTable::number_a, crate::specs::DecodedTable::kept_record))]
-pub fn first_number(program: &Program, at: Row) -> Number
-    ensures { result ≡ first_number program.now at }
-{
-    let Some(entry) = program.entries.get(at as usize) else {
-        return Number::Constant(0);
-    };
-    match entry.read {
-        Record::Not(_, a) | Record::Qcase(_, a) => kept(a),
-        Record::Greater(a, _) | Record::AtLeast(a, _) | Record::Equal(a, _) => kept(a),
-        _ => Number::Constant(0),
-    }
-}
-
-// Number b of a comparison.
-#[tactic(auto, unfolding(crate::specs::DecodedTable::number_b, crate::specs::DecodedTable::kept_record))]
-pub fn second_number(program: &Program, at: Row) -> Number
-    ensures { result ≡ second_number program.now at }
-{
-    let Some(entry) = program.entries.get(at as usize) else {
-        return Number::Constant(0);
-    };
-    match entry.read {
-        Record::Greater(_, b) | Record::AtLeast(_, b) | Record::Equal(_, b) => kept(b),
-        _ => Number::Constant(0),
-    }
-}
-
-// How many removals has record i?
-#[tactic(auto, using(crate::proofs::RecordsOfAProgram::removals_length))]
-pub fn removal_count(program: &Program, at: Row) -> u32
-    ensures { result ≡ length (removals_in program.now at) }
-{
-    program
-        .entries
-        .get(at as usize)
-        .map_or(0, |entry| entry.removals.count as u32)
-}
-
-// One of its removals; the first is number 0.
-#[tactic(auto, unfolding(crate::specs::DecodedTable::kept))]
-pub fn removal(program: &Program, at: Row, k: u32) -> Number
-    ensures { result ≡ removal_number program.now at k }
-{
-    let Some(entry) = program.entries.get(at as usize) else {
-        return Number::Constant(0);
-    };
-    match entry.removals.numbers.get(k as usize) {
-        Some(a) => kept(*a),
-        None => Number::Constant(0),
-    }
-}
-
-// What record i does: one match over the kinds. Past the last record there is none.
-#[tactic(auto, unfolding(crate::specs::Steps::step_of, crate::specs::DecodedTable::kept_record))]
-pub fn step_at(program: &Program, i: u32) -> Step
-    ensures { result ≡ step_at program.now i }
-{
-    let Some(entry) = program.entries.get(i as usize) else {
-        return Step::Nothing;
-    };
-    let first = i + 1;
-    match entry.read {
-        Record::Skip => Step::Nothing,
-        Record::Not(_, _) => Step::Touches(i),
-        Record::Sequence => Step::Sequence(first, subtree_end(program, first)),
-        Record::If => {
-            let second = subtree_end(program, first);
-            Step::Chooses(first, second, subtree_end(program, second))
-        }
-        Record::Qcase(_, _) => Step::Branches(i, first, subtree_end(program, first)),
-        Record::Call(_, f) => Step::Calls(f, i),
-        Record::Greater(_, _) => Step::Greater(i),
-        Record::AtLeast(_, _) => Step::AtLeast(i),
-        Record::Equal(_, _) => Step::Equal(i),
-        Record::And => Step::Both(first, subtree_end(program, first)),
-        Record::Or => Step::Either(first, subtree_end(program, first)),
-        Record::Negation => Step::Negates(first),
-    }
-}
-
 // What a step is for calls.
 #[tactic(auto, unfolding(crate::specs::Steps::parts_of))]
 fn parts_of(found: Step) -> Parts
@@ -287,9 +161,133 @@ fn parts_of(found: Step) -> Parts
     }
 }
 
-// What record i is for calls.
-pub fn parts_at(program: &Program, i: u32) -> Parts
-    ensures { result ≡ parts_at program.now i }
-{
-    parts_of(step_at(program, i))
+impl Program {
+    // How many procedures has the program?
+    pub fn procedures(&self) -> u8
+        ensures { result ≡ procedure_count self.now }
+    {
+        self.procedures
+    }
+
+    // The root of the body of f, main at 0.
+    pub fn root(&self, f: u8) -> u32
+        ensures { result ≡ root_of self.now f }
+    {
+        self.roots[f as usize] as u32
+    }
+
+    // Where record i begins in the table.
+    pub fn start(&self, i: u32) -> usize
+        ensures { result ≡ start_of self.now i }
+    {
+        self.entries
+            .get(i as usize)
+            .map_or(0, |entry| entry.place as usize)
+    }
+
+    // Is the statement at record i wide? Is the call there recursive?
+    pub fn is_wide(&self, i: u32) -> bool
+        ensures { result ≡ ltb 0 (width_in self.now i) }
+    {
+        self.entries
+            .get(i as usize)
+            .map_or(false, |entry| 0 < entry.width)
+    }
+
+    // The record behind the subtree of record i.
+    fn subtree_end(&self, i: u32) -> u32
+        ensures { result ≡ end_of self.now i }
+    {
+        self.entries
+            .get(i as usize)
+            .map_or(0, |entry| entry.end as u32)
+    }
+
+    // Number a of record i.
+    #[tactic(auto, unfolding(crate::specs::DecodedTable::number_a, crate::specs::DecodedTable::kept_record))]
+    pub fn first_number(&self, at: Row) -> Number
+        ensures { result ≡ first_number self.now at }
+    {
+        let Some(entry) = self.entries.get(at as usize) else {
+            return Number::Constant(0);
+        };
+        match entry.read {
+            Record::Not(_, a) | Record::Qcase(_, a) => kept(a),
+            Record::Greater(a, _) | Record::AtLeast(a, _) | Record::Equal(a, _) => kept(a),
+            _ => Number::Constant(0),
+        }
+    }
+
+    // Number b of a comparison.
+    #[tactic(auto, unfolding(crate::specs::DecodedTable::number_b, crate::specs::DecodedTable::kept_record))]
+    pub fn second_number(&self, at: Row) -> Number
+        ensures { result ≡ second_number self.now at }
+    {
+        let Some(entry) = self.entries.get(at as usize) else {
+            return Number::Constant(0);
+        };
+        match entry.read {
+            Record::Greater(_, b) | Record::AtLeast(_, b) | Record::Equal(_, b) => kept(b),
+            _ => Number::Constant(0),
+        }
+    }
+
+    // How many removals has record i?
+    #[tactic(auto, using(crate::proofs::RecordsOfAProgram::removals_length))]
+    pub fn removal_count(&self, at: Row) -> u32
+        ensures { result ≡ length (removals_in self.now at) }
+    {
+        self.entries
+            .get(at as usize)
+            .map_or(0, |entry| entry.removals.count as u32)
+    }
+
+    // One of its removals; the first is number 0.
+    #[tactic(auto, unfolding(crate::specs::DecodedTable::kept))]
+    pub fn removal(&self, at: Row, k: u32) -> Number
+        ensures { result ≡ removal_number self.now at k }
+    {
+        let Some(entry) = self.entries.get(at as usize) else {
+            return Number::Constant(0);
+        };
+        match entry.removals.numbers.get(k as usize) {
+            Some(a) => kept(*a),
+            None => Number::Constant(0),
+        }
+    }
+
+    // What record i does: one match over the kinds. Past the last record there is none.
+    #[tactic(auto, unfolding(crate::specs::Steps::step_of, crate::specs::DecodedTable::kept_record))]
+    pub fn step_at(&self, i: u32) -> Step
+        ensures { result ≡ step_at self.now i }
+    {
+        let Some(entry) = self.entries.get(i as usize) else {
+            return Step::Nothing;
+        };
+        let first = i + 1;
+        match entry.read {
+            Record::Skip => Step::Nothing,
+            Record::Not(_, _) => Step::Touches(i),
+            Record::Sequence => Step::Sequence(first, self.subtree_end(first)),
+            Record::If => {
+                let second = self.subtree_end(first);
+                Step::Chooses(first, second, self.subtree_end(second))
+            }
+            Record::Qcase(_, _) => Step::Branches(i, first, self.subtree_end(first)),
+            Record::Call(_, f) => Step::Calls(f, i),
+            Record::Greater(_, _) => Step::Greater(i),
+            Record::AtLeast(_, _) => Step::AtLeast(i),
+            Record::Equal(_, _) => Step::Equal(i),
+            Record::And => Step::Both(first, self.subtree_end(first)),
+            Record::Or => Step::Either(first, self.subtree_end(first)),
+            Record::Negation => Step::Negates(first),
+        }
+    }
+
+    // What record i is for calls.
+    pub fn parts_at(&self, i: u32) -> Parts
+        ensures { result ≡ parts_at self.now i }
+    {
+        parts_of(self.step_at(i))
+    }
 }

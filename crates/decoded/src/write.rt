@@ -8,7 +8,7 @@ use crate::{Entry, NO_REMOVALS, Program, RECORD_COUNT, ROOT_COUNT, Removals};
 use limits::{MOST_REMOVALS, PLACE_COUNT};
 use records::{Record, byte, written_at};
 
-// The place of a record's removals in the table, 0 where there are none.
+// The place of a record's removals in the table, 0 where there are none, as `records::Record` has it.
 #[tactic(auto, unfolding(crate::specs::RecordsPutDown::removals_place))]
 fn removals_place(read: Record) -> u16
     ensures { result ≡ removals_place read }
@@ -45,56 +45,58 @@ fn place_kept(at: usize) -> u16
     u16::try_from(at).unwrap_or(0)
 }
 
-// Record i, which stands at a place of the table. The record behind its subtree is not known yet.
-pub fn put_record(table: &[u8], read: Record, at: usize, i: usize, program: &mut Program)
-    ensures { program.new ≡ recorded table.now read at i program.old }
-{
-    let removals = removals_read(table, removals_place(read));
-    if i < RECORD_COUNT {
-        program.entries[i] = Entry {
-            read,
-            removals,
-            place: place_kept(at),
-            end: 0,
-            width: 0,
-        };
+impl Program {
+    // Record i, which stands at a place of the table. The record behind its subtree is not known yet.
+    pub fn put_record(&mut self, table: &[u8], read: Record, at: usize, i: usize)
+        ensures { self.new ≡ recorded table.now read at i self.old }
+    {
+        let removals = removals_read(table, removals_place(read));
+        if i < RECORD_COUNT {
+            self.entries[i] = Entry {
+                read,
+                removals,
+                place: place_kept(at),
+                end: 0,
+                width: 0,
+            };
+        }
     }
-}
 
-// The root of the body of f, main at 0. A value past 65535 would be passed over: reading comes to none.
-#[tactic(auto, unfolding(crate::specs::DecodedTable::with_root))]
-pub fn note_root(program: &mut Program, f: usize, i: usize)
-    ensures { program.new ≡ with_root f i program.old }
-{
-    if f < ROOT_COUNT && i < PLACE_COUNT {
-        program.roots[f] = i as u16;
+    // The root of the body of f, main at 0. A value past 65535 would be passed over: reading comes to none.
+    #[tactic(auto, unfolding(crate::specs::DecodedTable::with_root))]
+    pub fn note_root(&mut self, f: usize, i: usize)
+        ensures { self.new ≡ with_root f i self.old }
+    {
+        if f < ROOT_COUNT && i < PLACE_COUNT {
+            self.roots[f] = i as u16;
+        }
     }
-}
 
-// The record behind the subtree of record i.
-#[tactic(auto, unfolding(crate::specs::DecodedTable::with_end))]
-pub fn note_end(program: &mut Program, i: usize, end: usize)
-    ensures { program.new ≡ with_end i end program.old }
-{
-    if i < RECORD_COUNT && end < PLACE_COUNT {
-        program.entries[i].end = end as u16;
+    // The record behind the subtree of record i.
+    #[tactic(auto, unfolding(crate::specs::DecodedTable::with_end))]
+    pub fn note_end(&mut self, i: usize, end: usize)
+        ensures { self.new ≡ with_end i end self.old }
+    {
+        if i < RECORD_COUNT && end < PLACE_COUNT {
+            self.entries[i].end = end as u16;
+        }
     }
-}
 
-// How many procedures there are is put down, before all else.
-pub fn put_count(program: &mut Program, p: u8)
-    ensures program_after { program.new ≡ with_count p program.old }
-    ensures whole { Whole program.new }
-{
-    program.procedures = p;
-}
+    // How many procedures there are is put down, before all else.
+    pub fn put_count(&mut self, p: u8)
+        ensures program_after { self.new ≡ with_count p self.old }
+        ensures whole { Whole self.new }
+    {
+        self.procedures = p;
+    }
 
-// The width of record i is kept.
-pub fn note_width(program: &mut Program, i: u32, width: u8)
-    ensures { program.new ≡ with_width i width program.old }
-{
-    let i = i as usize;
-    if i < RECORD_COUNT {
-        program.entries[i].width = width;
+    // The width of record i is kept.
+    pub fn note_width(&mut self, i: u32, width: u8)
+        ensures { self.new ≡ with_width i width self.old }
+    {
+        let i = i as usize;
+        if i < RECORD_COUNT {
+            self.entries[i].width = width;
+        }
     }
 }

@@ -10,7 +10,7 @@ ghost use Rattle.events.specs.Scan.{emit_in};
 ghost use Rattle.emit.specs.WalkPromises.{body_depth, Whole, Call, Left, Right, BodyLeft, BodyRight, Bodies, Rest, Inner, Body, Emits};
 
 use controls::Site;
-use decoded::{Program, Step, is_wide, procedures, root, step_at};
+use decoded::{Program, Step};
 use events::{
     Emission, State, above_length, emit_entries, emit_flip, finish, flip_again, seek, slot_in, wire,
 };
@@ -22,7 +22,7 @@ use step::{all, chosen, remaining, touched};
 fn body_depth(program: &Program, f: u8) -> u8
     ensures { result ≡ body_depth (procedure_count program.now) f }
 {
-    if procedures(program) < f {
+    if program.procedures() < f {
         0
     } else {
         MOST_DEPTH
@@ -49,7 +49,7 @@ fn emit_whole(
     if depth == 0 {
         return;
     }
-    match step_at(program, i) {
+    match program.step_at(i) {
         Step::Touches(at) => emit_flip(
             site,
             touched(program, at, site.list),
@@ -240,7 +240,7 @@ fn emit_body_left(program: &Program, k: u8, d: u16, room: &mut [u8], emission: &
     emit_left(
         program,
         k,
-        root(program, f),
+        program.root(f),
         body_depth(program, f),
         &site,
         room,
@@ -267,7 +267,7 @@ fn emit_body_right(
     emit_right(
         program,
         k,
-        root(program, f),
+        program.root(f),
         body_depth(program, f),
         &site,
         behind,
@@ -296,7 +296,7 @@ fn emit_left(
     if depth == 0 {
         return;
     }
-    match step_at(program, i) {
+    match program.step_at(i) {
         Step::Touches(at) => emit_flip(
             site,
             touched(program, at, site.list),
@@ -304,7 +304,7 @@ fn emit_left(
             &mut emission.state,
         ),
         Step::Sequence(a, b) => {
-            if is_wide(program, a) {
+            if program.is_wide(a) {
                 emit_left(program, k, a, depth - 1, site, room, emission);
                 return;
             }
@@ -338,7 +338,7 @@ fn emit_left(
         }
         Step::Calls(g, at) => {
             let rest = remaining(program, at, site.list);
-            if is_wide(program, i) {
+            if program.is_wide(i) {
                 emission.invoke(g, rest, site, room);
                 return;
             }
@@ -371,13 +371,13 @@ fn emit_right(
         return behind;
     }
     // without a recursive call all of it went left
-    let narrow = !is_wide(program, i);
+    let narrow = !program.is_wide(i);
     if narrow {
         return behind;
     }
-    match step_at(program, i) {
+    match program.step_at(i) {
         Step::Sequence(a, b) => {
-            if is_wide(program, a) {
+            if program.is_wide(a) {
                 let first = emit_right(program, k, a, depth - 1, site, behind, room, emission);
                 emit_whole(program, k, b, depth - 1, site, room, emission);
                 return first;
@@ -430,8 +430,8 @@ pub fn emit_main(program: &Program, n: u8, room: &mut [u8]) -> State
     let mut emission = Emission::begin(n);
     emit_whole(
         program,
-        procedures(program),
-        root(program, 0),
+        program.procedures(),
+        program.root(0),
         MOST_DEPTH,
         &Site::free(all(n)),
         room,

@@ -1,6 +1,6 @@
 -- The lengths that calls can lead to: a removal takes one entry away or empties the list, so a call leaves as many entries less as it carries
 -- removals, or none. From main's n entries calls lead to n less a sum of such numbers.
-use Rattle.std.specs.Prelude.{ℕ, zero, suc, ◌*◌, ◌%◌, ◌^◌, cond, List, length}
+use Rattle.std.specs.Prelude.{ℕ, zero, suc, ◌*◌, ◌%◌, ◌^◌, cond, length}
 use Rattle.std.specs.Int.Bits.{bit_or}
 use Rattle.model.specs.Limits.{most_qubits}
 use Rattle.model.specs.Syntax.{Statement, skip, NOT, sequence, if, qcase, call}

@@ -13,7 +13,7 @@ ghost use Rattle.faults.specs.CallLengths.{removal_counts, counts_below, sums_be
 ghost use Rattle.faults.specs.RowTable.{from_in, rank_in, ranks_in, rank_at};
 ghost use Rattle.faults.specs.RowTable.{filled_row, filled_if, filled_rank, filled_length, filled_asked, filled, faults_at};
 
-use decoded::{Parts, Program, Step, parts_at, procedures, removal_count, root, step_at};
+use decoded::{Parts, Program, Step};
 use limits::{BODIES, BODY_COUNT, LENGTH_COUNT, MOST_DEPTH, MOST_QUBITS, ROW_COUNT};
 use reach::{Matrix, recursive};
 use sets::{QubitSet, carried, size};
@@ -84,7 +84,7 @@ fn touches(program: &Program, i: u32, depth: u8, m: u8, known: &[u64; ROW_COUNT]
         return 0;
     }
     let list = all(m);
-    match step_at(program, i) {
+    match program.step_at(i) {
         Step::Nothing => 0,
         Step::Touches(at) => mark(0, touched(program, at, list) as u32),
         Step::Sequence(first, second) => {
@@ -121,10 +121,10 @@ fn counts(program: &Program, i: u32, depth: u8) -> u64
     if depth == 0 {
         return 0;
     }
-    match parts_at(program, i) {
+    match program.parts_at(i) {
         Parts::Neither => 0,
         Parts::Two(a, b, _) => counts(program, a, depth - 1) | counts(program, b, depth - 1),
-        Parts::Call(_, at) => mark(0, removal_count(program, at)),
+        Parts::Call(_, at) => mark(0, program.removal_count(at)),
     }
 }
 
@@ -132,10 +132,10 @@ fn counts(program: &Program, i: u32, depth: u8) -> u64
 fn all_counts(program: &Program) -> u64
     ensures { result ≡ counts_below program.now (suc (procedure_count program.now)) }
 {
-    let p = procedures(program);
+    let p = program.procedures();
     let mut all = 0;
     for f in 0..=p {
-        all |= counts(program, root(program, f), MOST_DEPTH);
+        all |= counts(program, program.root(f), MOST_DEPTH);
     }
     all
 }
@@ -204,7 +204,7 @@ fn store(known: &mut [u64; ROW_COUNT], f: u8, m: u8, row: u64)
 fn fill_row(program: &Program, f: u8, m: u8, known: &mut [u64; ROW_COUNT])
     ensures { known.new ≡ filled_row program.now f m known.old }
 {
-    let row = touches(program, root(program, f), MOST_DEPTH, m, known);
+    let row = touches(program, program.root(f), MOST_DEPTH, m, known);
     store(known, f, m, row);
 }
 
@@ -219,7 +219,7 @@ fn fill_rank(
 )
     ensures { known.new ≡ filled_rank program.now ranks.now (procedure_count program.now) k m known.old }
 {
-    for f in 1..=procedures(program) {
+    for f in 1..=program.procedures() {
         if rank_at(ranks, f) == k {
             fill_row(program, f, m, known);
         }
@@ -230,7 +230,7 @@ fn fill_rank(
 fn fill_length(program: &Program, m: u8, ranks: &[usize; BODY_COUNT], known: &mut [u64; ROW_COUNT])
     ensures { known.new ≡ filled_length program.now ranks.now (procedure_count program.now) m known.old }
 {
-    for k in 1..=procedures(program) as usize {
+    for k in 1..=program.procedures() as usize {
         fill_rank(program, k, m, ranks, known);
     }
 }
@@ -240,7 +240,7 @@ fn fill(program: &Program, n: u8, matrix: &Matrix, known: &mut [u64; ROW_COUNT])
     ensures { known.new ≡ filled program.now (ranks_in matrix.now (procedure_count program.now))
         (sums_in program.now) n n known.old }
 {
-    let ranks = all_ranks(matrix, procedures(program));
+    let ranks = all_ranks(matrix, program.procedures());
     let sums = sums_of(all_counts(program));
     for m in 1..=n {
         if contains(sums, n - m) {
@@ -255,5 +255,5 @@ pub fn faults(program: &Program, n: u8, matrix: &Matrix) -> bool
 {
     let mut known = [0; ROW_COUNT];
     fill(program, n, matrix, &mut known);
-    contains(touches(program, root(program, 0), MOST_DEPTH, n, &known), 0)
+    contains(touches(program, program.root(0), MOST_DEPTH, n, &known), 0)
 }

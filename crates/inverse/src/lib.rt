@@ -10,7 +10,7 @@ ghost use Rattle.table.specs.ReadTable.{piece, body_end};
 ghost use Rattle.text.specs.AppendedBytes.{puts};
 ghost use Rattle.inverse.specs.TurnedRecords.{turned_at, turned_body, turned_below, turned_table};
 
-use decoded::{Parts, Program, parts_at, procedures, root, start};
+use decoded::{Parts, Program};
 use limits::{MOST_DEPTH, Refusal};
 use text::Writer;
 use verdict::check_table;
@@ -24,20 +24,21 @@ fn put_piece(table: &[u8], from: usize, to: usize, writer: &mut Writer)
     writer.put_all(&table[from.min(end)..end]);
 }
 
+// Table, program and writer stay parameters: each promise on a struct of them would have to say that two of the three stay.
 // The statement at record i, whose bytes stand up to `end`, turned round: what stands before its own statements, and then these.
 fn put_turned(table: &[u8], program: &Program, i: u32, end: usize, depth: u8, writer: &mut Writer)
     ensures { writer.new ≡ puts (turned_at table.now program.now depth i end) writer.old }
 {
-    let from = start(program, i);
+    let from = program.start(i);
     if depth == 0 {
         put_piece(table, from, end, writer);
         return;
     }
-    match parts_at(program, i) {
+    match program.parts_at(i) {
         Parts::Neither | Parts::Call(_, _) => put_piece(table, from, end, writer),
         Parts::Two(first, second, in_turn) => {
-            let middle = start(program, second);
-            put_piece(table, from, start(program, first), writer);
+            let middle = program.start(second);
+            put_piece(table, from, program.start(first), writer);
             if in_turn {
                 put_turned(table, program, second, end, depth - 1, writer);
                 put_turned(table, program, first, middle, depth - 1, writer);
@@ -53,8 +54,8 @@ fn put_turned(table: &[u8], program: &Program, i: u32, end: usize, depth: u8, wr
 fn body_end(table: &[u8], program: &Program, f: u8) -> usize
     ensures { result ≡ body_end table.now program.now f }
 {
-    if f < procedures(program) {
-        return start(program, root(program, f + 1));
+    if f < program.procedures() {
+        return program.start(program.root(f + 1));
     }
     table.len()
 }
@@ -64,7 +65,7 @@ fn put_body(table: &[u8], program: &Program, f: u8, writer: &mut Writer)
     ensures { writer.new ≡ puts (turned_body table.now program.now f) writer.old }
 {
     let end = body_end(table, program, f);
-    put_turned(table, program, root(program, f), end, MOST_DEPTH, writer);
+    put_turned(table, program, program.root(f), end, MOST_DEPTH, writer);
 }
 
 // The bodies of main and each procedure, one behind the other, each turned round.
@@ -72,7 +73,7 @@ fn put_bodies(table: &[u8], program: &Program, writer: &mut Writer)
     ensures { writer.new ≡
         puts (turned_below table.now program.now (suc (procedure_count program.now))) writer.old }
 {
-    for f in 0..=procedures(program) {
+    for f in 0..=program.procedures() {
         put_body(table, program, f, writer);
     }
 }

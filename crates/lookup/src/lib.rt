@@ -54,7 +54,7 @@ impl Lookup {
         self.qubits[w as usize] = q;
     }
 
-    // Each qubit up to the last on its own wire. The entries of 0, which is no qubit and no wire, are 0 as they are.
+    // Each qubit up to the last on its own wire: q + 1, since a range that ends with its last number has a second way out to prove. The entries of 0, which is no qubit and no wire, are 0 as they are.
     fn build(last: u8) -> Self
         ensures { result ≡ built empty last }
     {

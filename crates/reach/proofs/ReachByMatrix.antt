@@ -1,7 +1,6 @@
 -- The matrix that `fill_reach` leaves, and what is read off it: the model's reach, recursive calls, and refusal 10.
 use mathlib.Core.Path.{◌≡◌, sym, ap, ◌∙◌, fun_ext}
 use mathlib.Core.Bool.{Bool, true, false}
-use mathlib.Core.List.{List}
 use Prim.Native.Nat.{ℕ, suc, ◌≤◌}
 use native.Mathlib.Nat.{le_trans, le_of_suc-le-suc, lt_irrefl, lt_of_le_of_lt}
 use borrow.Author.Tests.{le-ltb}

@@ -7,7 +7,7 @@ ghost use Rattle.decoded.specs.DecodedTable.{statement_at, body_at};
 ghost use Rattle.reach.specs.Matrix.{row_in, has, recursive_in, mark, joined, through, closed};
 ghost use Rattle.reach.specs.CallsInATable.{marked, marked_below, reach_at, lacks_in, any_lacks_in};
 
-use decoded::{Parts, Program, parts_at, procedures, removal_count, root};
+use decoded::{Parts, Program};
 use limits::{BODY_COUNT, MOST_DEPTH, MOST_PROCEDURES};
 
 // Which procedure reaches which: a row for each body, main at 0, in which bit g stands where the body reaches g.
@@ -76,7 +76,7 @@ fn mark_calls(program: &Program, i: u32, depth: u8, f: u8, matrix: &mut Matrix)
     if depth == 0 {
         return;
     }
-    match parts_at(program, i) {
+    match program.parts_at(i) {
         Parts::Neither => {}
         Parts::Two(a, b, _) => {
             mark_calls(program, a, depth - 1, f, matrix);
@@ -90,7 +90,7 @@ fn mark_calls(program: &Program, i: u32, depth: u8, f: u8, matrix: &mut Matrix)
 fn mark_body(program: &Program, f: u8, matrix: &mut Matrix)
     ensures { matrix.new ≡ marked f (body_at program.now f) matrix.old }
 {
-    mark_calls(program, root(program, f), MOST_DEPTH, f, matrix);
+    mark_calls(program, program.root(f), MOST_DEPTH, f, matrix);
 }
 
 // The rows of main and procedures 1 to p are marked, each for every call in its body.
@@ -107,7 +107,7 @@ pub fn fill_reach(program: &Program, matrix: &mut Matrix)
     ensures { matrix.new ≡ reach_at program.now }
 {
     *matrix = [0; BODY_COUNT];
-    let p = procedures(program);
+    let p = program.procedures();
     if MOST_PROCEDURES < p {
         return;
     }
@@ -122,13 +122,13 @@ fn lacks_removal(program: &Program, i: u32, depth: u8, f: u8, matrix: &Matrix) -
     if depth == 0 {
         return false;
     }
-    match parts_at(program, i) {
+    match program.parts_at(i) {
         Parts::Neither => false,
         Parts::Two(a, b, _) => {
             lacks_removal(program, a, depth - 1, f, matrix)
                 || lacks_removal(program, b, depth - 1, f, matrix)
         }
-        Parts::Call(g, at) => removal_count(program, at) == 0 && recursive(matrix, f, g),
+        Parts::Call(g, at) => program.removal_count(at) == 0 && recursive(matrix, f, g),
     }
 }
 
@@ -136,14 +136,14 @@ fn lacks_removal(program: &Program, i: u32, depth: u8, f: u8, matrix: &Matrix) -
 fn body_lacks_removal(program: &Program, f: u8, matrix: &Matrix) -> bool
     ensures { result ≡ lacks_in matrix.now program.now f }
 {
-    lacks_removal(program, root(program, f), MOST_DEPTH, f, matrix)
+    lacks_removal(program, program.root(f), MOST_DEPTH, f, matrix)
 }
 
-// Refusal 10: does a recursive call in one of the bodies lack a removal?
+// Refusal 10: does a recursive call in one of the bodies lack a removal? A loop: of `any` over a range std says nothing that a proof can use.
 pub fn any_lacks_removal(program: &Program, matrix: &Matrix) -> bool
     ensures { result ≡ any_lacks_in matrix.now program.now }
 {
-    for f in 0..=procedures(program) {
+    for f in 0..=program.procedures() {
         if body_lacks_removal(program, f, matrix) {
             return true;
         }

@@ -136,7 +136,8 @@ pub fn written_at(table: &[u8], at: usize) -> Number
     based(table[at], signed(byte(table, at + 1), byte(table, at + 2)))
 }
 
-// Each reader of a field gives the field and the place behind it.
+// Each reader of a field gives the field and the place behind it. Table and place stay two parameters: a struct of them would have to be handed back, or lent, and
+// said to stay on its table.
 // "A number is a base byte and a signed 16-bit constant"; a base byte is tested as it comes.
 #[tactic(auto, unfolding(crate::specs::Fields::number_at))]
 fn read_number(table: &[u8], at: usize) -> Result<(Number, usize), Refusal>

@@ -9,7 +9,7 @@ ghost use Rattle.run.specs.RunOnWords.{flipped_word, bit_of, walked, called, ran
 ghost use Rattle.answers.specs.Structs.{outcome_of};
 ghost use Rattle.model.specs.Answers as model;
 
-use decoded::{Program, Step, procedures, root, step_at};
+use decoded::{Program, Step};
 use limits::{LEAST_WORKSPACE, MOST_DEPTH, MOST_QUBITS, Refusal};
 use sets::{QubitSet, size};
 use step::{all, chosen, remaining, touched};
@@ -43,6 +43,7 @@ fn taken(word: u64, q: u8, zero: u32, one: u32) -> u32
     if bit(word, q) { one } else { zero }
 }
 
+// The program stays a parameter here and in crates step, reach and compile: it is what is asked, and with nothing else always.
 // What the statement at record i makes of a word, on the whole list of its procedure. It is followed `depth` records down, and its calls
 // `fuel` deep. An if, a qcase and the second statement of a sequence go on in place.
 #[cycle(walking)]
@@ -50,12 +51,9 @@ fn walk(program: &Program, i: u32, depth: u8, list: QubitSet, fuel: u16, word: u
     ensures { result ≡ walked program.now depth i (members_of list) fuel word }
 {
     let mut at = i;
-    let mut left = depth;
     let mut current = word;
-    while 0 < left {
-        let step = step_at(program, at);
-        left -= 1;
-        match step {
+    for left in (0..depth).rev() {
+        match program.step_at(at) {
             Step::Touches(record) => {
                 let q = touched(program, record, list);
                 return flip(current, q);
@@ -99,10 +97,10 @@ fn call(program: &Program, f: u8, list: QubitSet, fuel: u16, word: u64) -> u64
     if fuel == 0 || list == 0 {
         return word;
     }
-    if procedures(program) < f {
+    if program.procedures() < f {
         return word;
     }
-    walk(program, root(program, f), MOST_DEPTH, list, fuel - 1, word)
+    walk(program, program.root(f), MOST_DEPTH, list, fuel - 1, word)
 }
 
 // What main makes of a word on n qubits; past the limit there are no more.
@@ -112,10 +110,10 @@ fn end_word(program: &Program, n: u8, word: u64) -> u64
     let list = all(n);
     walk(
         program,
-        root(program, 0),
+        program.root(0),
         MOST_DEPTH,
         list,
-        procedures(program) as u16 + size(list) as u16,
+        program.procedures() as u16 + size(list) as u16,
         word,
     )
 }

@@ -18,7 +18,7 @@ pub fn size(set: QubitSet) -> u8
     set.count_ones() as u8
 }
 
-// Qubits 1 to n.
+// Qubits 1 to n. (A shift of all ones to the right would be by 64 for n = 0, which is no shift.)
 pub fn full(n: u8) -> QubitSet
     ensures { members_of result ≡ qubits (min n 64) }
 {

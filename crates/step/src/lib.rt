@@ -10,7 +10,7 @@ ghost use Rattle.decoded.specs.DecodedTable.{removals_in, test_at};
 ghost use Rattle.decoded.specs.Steps.{touched_by};
 ghost use Rattle.step.specs.Values.{sum_of, value_of, nothing_removed};
 
-use decoded::{Program, Row, Step, first_number, removal, removal_count, second_number, step_at};
+use decoded::{Program, Row, Step};
 use limits::{MOST_CONSTANT, MOST_QUBITS};
 use records::Number;
 use sets::{QubitSet, entry, full, remove, size};
@@ -55,7 +55,7 @@ pub fn remaining(program: &Program, at: Row, list: QubitSet) -> QubitSet
     ensures { members_of result ≡ remaining (removals_in program.now at) (members_of list) }
 {
     let mut rest = list;
-    for k in 0..removal_count(program, at) {
+    for k in 0..program.removal_count(at) {
         // nothing is left to remove
         if rest == 0 {
             break;
@@ -64,7 +64,7 @@ pub fn remaining(program: &Program, at: Row, list: QubitSet) -> QubitSet
             whole: list,
             left: rest,
         };
-        rest = remove(rest, value(removal(program, at, k), lists));
+        rest = remove(rest, value(program.removal(at, k), lists));
     }
     rest
 }
@@ -79,7 +79,7 @@ pub fn touched(program: &Program, at: Row, list: QubitSet) -> u8
         whole: list,
         left: rest,
     };
-    entry(rest, value(first_number(program, at), lists))
+    entry(rest, value(program.first_number(at), lists))
 }
 
 // The value of a number of a comparison: nothing is removed.
@@ -100,15 +100,15 @@ fn holds(program: &Program, i: u32, list: QubitSet, depth: u8) -> bool
     if depth == 0 {
         return true;
     }
-    match step_at(program, i) {
+    match program.step_at(i) {
         Step::Greater(at) => {
-            compared(first_number(program, at), list) > compared(second_number(program, at), list)
+            compared(program.first_number(at), list) > compared(program.second_number(at), list)
         }
         Step::AtLeast(at) => {
-            compared(first_number(program, at), list) >= compared(second_number(program, at), list)
+            compared(program.first_number(at), list) >= compared(program.second_number(at), list)
         }
         Step::Equal(at) => {
-            compared(first_number(program, at), list) == compared(second_number(program, at), list)
+            compared(program.first_number(at), list) == compared(program.second_number(at), list)
         }
         Step::Both(first, second) => {
             holds(program, first, list, depth - 1) && holds(program, second, list, depth - 1)

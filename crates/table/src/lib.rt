@@ -10,7 +10,6 @@ ghost use Rattle.table.specs.ReadTable.{outcome_read, PlacedRead};
 ghost use Rattle.table.specs.TreeReading.{ran, WantedKind, parts, contents_at, many, children_at, tree_at, bodies_at};
 
 use decoded::Program;
-use decoded::write::{note_end, note_root, put_count, put_record};
 use limits::{MOST_DEPTH, MOST_PROCEDURES, MOST_RECORDS, Refusal, TABLE_EDITION};
 use records::{Kind, Record, next_byte, permitted, read_fields, removes};
 
@@ -84,7 +83,7 @@ impl Source<'_> {
             return Err(Refusal::TooDeep);
         }
         let (record, next) = self.read_contents(from.at + 2, map, kind)?;
-        put_record(self.table, record, from.at, from.records, program);
+        program.put_record(self.table, record, from.at, from.records);
         self.read_children(Come { at: next, ..from }, depth - 1, kind, program)
     }
 
@@ -106,12 +105,12 @@ impl Source<'_> {
             records: from.records + 1,
         };
         if conditions == 0 && statements == 0 {
-            note_end(program, from.records, first.records);
+            program.note_end(from.records, first.records);
             return Ok(first);
         }
         let middle = self.read_many(first, depth, conditions, true, program)?;
         let end = self.read_many(middle, depth, statements, false, program)?;
-        note_end(program, from.records, end.records);
+        program.note_end(from.records, end.records);
         Ok(end)
     }
 
@@ -140,7 +139,7 @@ impl Source<'_> {
     {
         let mut come = Come { at: 2, records: 0 };
         for f in 0..self.p as usize + 1 {
-            note_root(program, f, come.records);
+            program.note_root(f, come.records);
             come = self.read_tree(come, MOST_DEPTH, false, program)?;
         }
         Ok(come)
@@ -163,7 +162,7 @@ pub fn read_table(table: &[u8], program: &mut Program) -> Result<(), Refusal>
     if MOST_PROCEDURES < p {
         return Err(Refusal::ManyProcedures);
     }
-    put_count(program, p);
+    program.put_count(p);
     let end = Source { table, p }.read_bodies(program)?;
     if end.at < table.len() {
         return Err(Refusal::BytesLeft);

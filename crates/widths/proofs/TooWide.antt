@@ -1,7 +1,6 @@
 -- Refusal 11 of the program, by the matrix.
 use mathlib.Core.Path.{◌≡◌}
-use mathlib.Core.List.{List}
-use Prim.Native.Nat.{ℕ, ◌≤◌}
+use Prim.Native.Nat.{◌≤◌}
 use lib.Dec.{ltb}
 use Rattle.model.specs.Limits.{most_procedures}
 use Rattle.model.specs.Reach.{width, any_too_wide}

@@ -1,5 +1,5 @@
 -- The widths that are kept with a program: what is promised of them, and that nothing else of the program changes.
-use Rattle.std.specs.Prelude.{ℕ, zero, suc, ◌+◌, ◌≤◌, ◌<◌, min, max, ◌≡◌, Bool, true, false, List, length, ltb}
+use Rattle.std.specs.Prelude.{ℕ, zero, suc, ◌+◌, ◌≤◌, ◌<◌, min, max, ◌≡◌, Bool, true, false, List, ltb}
 use Rattle.model.specs.Limits.{most_records, most_depth}
 use Rattle.model.specs.Reach.{recursive, width, any_below}
 use Rattle.decoded.specs.declared.Program as decoded

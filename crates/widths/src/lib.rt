@@ -6,8 +6,7 @@ ghost use Rattle.decoded.specs.DecodedTable.{procedure_count};
 ghost use Rattle.reach.specs.Matrix.{recursive_in};
 ghost use Rattle.widths.specs.KeptWidths.{joined_width, Noted, Judged};
 
-use decoded::write::note_width;
-use decoded::{Parts, Program, parts_at, procedures, root};
+use decoded::{Parts, Program};
 use limits::MOST_DEPTH;
 use reach::{Matrix, recursive};
 
@@ -28,24 +27,24 @@ fn note_widths(program: &mut Program, i: u32, depth: u8, f: u8, matrix: &Matrix)
     ensures { Noted (recursive_in matrix.now f) depth i program.old result program.new }
 {
     if depth == 0 {
-        note_width(program, i, 0);
+        program.note_width(i, 0);
         return 0;
     }
-    match parts_at(program, i) {
+    match program.parts_at(i) {
         Parts::Neither => {
-            note_width(program, i, 0);
+            program.note_width(i, 0);
             0
         }
         Parts::Two(a, b, in_turn) => {
             let first = note_widths(program, a, depth - 1, f, matrix);
             let second = note_widths(program, b, depth - 1, f, matrix);
             let width = joined(in_turn, first, second);
-            note_width(program, i, width);
+            program.note_width(i, width);
             width
         }
         Parts::Call(g, _) => {
             let width = u8::from(recursive(matrix, f, g));
-            note_width(program, i, width);
+            program.note_width(i, width);
             width
         }
     }
@@ -55,8 +54,8 @@ fn note_widths(program: &mut Program, i: u32, depth: u8, f: u8, matrix: &Matrix)
 pub fn any_too_wide(program: &mut Program, matrix: &Matrix) -> bool
     ensures { Judged matrix.now program.old (suc (procedure_count program.old)) result program.new }
 {
-    for f in 0..=procedures(program) {
-        let top = root(program, f);
+    for f in 0..=program.procedures() {
+        let top = program.root(f);
         if 1 < note_widths(program, top, MOST_DEPTH, f, matrix) {
             return true;
         }

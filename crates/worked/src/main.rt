@@ -12,7 +12,7 @@ use limits::LEAST_WORKSPACE;
 use std::rt::{Env, Files};
 use std::{fs, io, str};
 
-// What a hexadecimal digit stands for; no other byte is in the files.
+// What a hexadecimal digit stands for; no other byte is in the files. std reads a text, and no byte.
 fn digit(byte: u8) -> u8
     ensures { result < 16 }
 {

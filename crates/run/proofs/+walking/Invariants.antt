@@ -15,6 +15,3 @@ abbrev pub invariant-walk-loop-left : goal.invariant-walk-loop-left
 invariant-walk-loop-left l =
     (l.left ≤ l.depth) ×
     (walked l.program l.left l.at (members_of l.list) l.fuel l.current ≡ walked l.program l.depth l.i (members_of l.list) l.fuel l.word)
-
-abbrev pub decreases-walk-loop-left : goal.decreases-walk-loop-left
-decreases-walk-loop-left l = l.left
