@@ -50,12 +50,10 @@ fn emit_whole(
         return;
     }
     match program.step_at(i) {
-        Step::Touches(at) => emit_flip(
-            site,
-            touched(program, at, site.list),
-            room,
-            &mut emission.state,
-        ),
+        Step::Touches(at) => {
+            let q = touched(program, at, site.list);
+            emit_flip(site, q, room, &mut emission.state);
+        }
         Step::Sequence(a, b) => {
             emit_whole(program, k, a, depth - 1, site, room, emission);
             emit_whole(program, k, b, depth - 1, site, room, emission);
@@ -66,34 +64,15 @@ fn emit_whole(
         }
         Step::Branches(at, a, b) => {
             let q = touched(program, at, site.list);
-            emit_whole(
-                program,
-                k,
-                a,
-                depth - 1,
-                &site.with_control(q, false),
-                room,
-                emission,
-            );
-            emit_whole(
-                program,
-                k,
-                b,
-                depth - 1,
-                &site.with_control(q, true),
-                room,
-                emission,
-            );
+            let zero = site.with_control(q, false);
+            emit_whole(program, k, a, depth - 1, &zero, room, emission);
+            let one = site.with_control(q, true);
+            emit_whole(program, k, b, depth - 1, &one, room, emission);
         }
-        Step::Calls(f, at) => emit_call(
-            program,
-            k,
-            f,
-            remaining(program, at, site.list),
-            site,
-            room,
-            emission,
-        ),
+        Step::Calls(f, at) => {
+            let rest = remaining(program, at, site.list);
+            emit_call(program, k, f, rest, site, room, emission);
+        }
         // skip; and what is no statement
         _ => {}
     }
@@ -297,12 +276,10 @@ fn emit_left(
         return;
     }
     match program.step_at(i) {
-        Step::Touches(at) => emit_flip(
-            site,
-            touched(program, at, site.list),
-            room,
-            &mut emission.state,
-        ),
+        Step::Touches(at) => {
+            let q = touched(program, at, site.list);
+            emit_flip(site, q, room, &mut emission.state);
+        }
         Step::Sequence(a, b) => {
             if program.is_wide(a) {
                 emit_left(program, k, a, depth - 1, site, room, emission);
@@ -317,24 +294,10 @@ fn emit_left(
         }
         Step::Branches(at, a, b) => {
             let q = touched(program, at, site.list);
-            emit_left(
-                program,
-                k,
-                a,
-                depth - 1,
-                &site.with_control(q, false),
-                room,
-                emission,
-            );
-            emit_left(
-                program,
-                k,
-                b,
-                depth - 1,
-                &site.with_control(q, true),
-                room,
-                emission,
-            );
+            let zero = site.with_control(q, false);
+            emit_left(program, k, a, depth - 1, &zero, room, emission);
+            let one = site.with_control(q, true);
+            emit_left(program, k, b, depth - 1, &one, room, emission);
         }
         Step::Calls(g, at) => {
             let rest = remaining(program, at, site.list);
@@ -390,34 +353,15 @@ fn emit_right(
         }
         Step::Branches(at, a, b) => {
             let q = touched(program, at, site.list);
-            let second = emit_right(
-                program,
-                k,
-                b,
-                depth - 1,
-                &site.with_control(q, true),
-                behind,
-                room,
-                emission,
-            );
-            emit_right(
-                program,
-                k,
-                a,
-                depth - 1,
-                &site.with_control(q, false),
-                second,
-                room,
-                emission,
-            )
+            let one = site.with_control(q, true);
+            let second = emit_right(program, k, b, depth - 1, &one, behind, room, emission);
+            let zero = site.with_control(q, false);
+            emit_right(program, k, a, depth - 1, &zero, second, room, emission)
         }
-        Step::Calls(_, at) => flip_again(
-            remaining(program, at, site.list),
-            site,
-            behind,
-            room,
-            &mut emission.state,
-        ),
+        Step::Calls(_, at) => {
+            let rest = remaining(program, at, site.list);
+            flip_again(rest, site, behind, room, &mut emission.state)
+        }
         // what has no right part; and what is no statement
         _ => behind,
     }
