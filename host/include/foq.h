@@ -57,10 +57,10 @@
  * FOQ_ENOUGH_STACK bytes of stack are enough for a call. That is not proved but
  * measured, on x86-64, at the deepest tables that could be made:
  *
- *     foq_verdict       64 KiB
- *     foq_run          134 KiB
- *     foq_compile      193 KiB
- *     foq_inverse       64 KiB
+ *     foq_verdict       40 KiB
+ *     foq_run          109 KiB
+ *     foq_compile      169 KiB
+ *     foq_inverse       40 KiB
  *     foq_circuit_read   1 KiB
  *     foq_circuit_run    1 KiB
  *     foq_circuit_list   1 KiB

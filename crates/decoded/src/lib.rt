@@ -31,9 +31,11 @@ const ROOT_COUNT: usize = 256;
 const REMOVAL_ROOM: usize = MOST_REMOVALS as usize;
 
 // The removals of a record: so many numbers, the first one first. There is room for the most that a record has: an array and a count, since there is no heap.
+// The count is as wide as a number's constant: with no gap before the numbers a program of blank entries is cleared in one go, where a gap has it cleared, filled and
+// copied.
 #[derive(Clone, Copy)]
 struct Removals {
-    count: u8,
+    count: u32,
     numbers: [Number; REMOVAL_ROOM],
 }
 
@@ -61,7 +63,7 @@ const BLANK: Entry = Entry {
 };
 
 // How many procedures there are, the root of each body, and what was put down of each record.
-#[derive(Drop)]
+#[derive(Clone, Copy)]
 pub struct Program {
     procedures: u8,
     roots: [u16; ROOT_COUNT],
@@ -239,7 +241,7 @@ impl Program {
     {
         self.entries
             .get(at as usize)
-            .map_or(0, |entry| entry.removals.count as u32)
+            .map_or(0, |entry| entry.removals.count)
     }
 
     // One of its removals; the first is number 0.

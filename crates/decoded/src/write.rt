@@ -34,7 +34,10 @@ fn removals_read(table: &[u8], at: u16) -> Removals
     for k in 0..count as usize {
         numbers[k] = written_at(table, at + 1 + 3 * k);
     }
-    Removals { count, numbers }
+    Removals {
+        count: u32::from(count),
+        numbers,
+    }
 }
 
 // A place in the table. Reading comes to none past 16 bits.
