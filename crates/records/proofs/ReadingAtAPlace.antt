@@ -2,7 +2,7 @@
 use Prim.Native.Nat.{ℕ, zero, suc, ◌+◌, ◌*◌, ◌≤◌, ◌<◌}
 use native.Mathlib.Numerals.{add-one}
 use native.Mathlib.Omega.{arith}
-use mathlib.Core.Path.{◌≡◌, refl, sym}
+use mathlib.Core.Path.{◌≡◌, refl, sym, ap}
 use mathlib.Core.Bool.{Bool, true, false, ◌||◌}
 use mathlib.Core.List.{List, [], ◌∷◌}
 use borrow.Author.Tests.{lt-ltb, le-ltb, le-leb, lt-leb, ne_eqb, eqb-true}
@@ -26,6 +26,7 @@ use Rattle.records.specs.declared.Record.{Record}
 use Rattle.records.specs.declared.Record.TheVariants as kind
 use Rattle.records.specs.Fields.{byte_at, and_then_field, based, written_at, number_at, numbers_at, removals_at, procedure_at, touched_at, compared_at, called_at}
 use Rattle.records.specs.Fields.{maybe_removals_at, place_of, after_removals, plain_record, touch_record, comparison_record, call_record, with_number, with_numbers, with_procedure}
+use Rattle.records.proofs.FieldLaws.{plain_last, required_none}
 use Rattle.records.specs.Fields.{
   fields_at,
   record_of,
@@ -376,3 +377,10 @@ removals_read p j map bs at r next l t e q =
 pub fields_are_read : (p kind : ℕ) (removes : Bool) (bs : List ℕ) (at : ℕ) (r : Result (Record × ℕ) Refusal) → r ≡ fields_at p kind removes bs at → FieldsRead p kind removes bs at r
 unfolding FieldsRead
 fields_are_read p kind removes bs at r e map k t m l z s h = rw (e, ← m) (sym (fields_read p kind map bs at k z s h l t))
+
+-- behind a byte that is no kind stands no field
+pub fields_of_none : (p k : ℕ) (removes : Bool) (bs : List ℕ) (at : ℕ) → kind_count ≤ k → Ok (kind.Skip, at) ≡ fields_at p k removes bs at
+unfolding fields_at
+fields_of_none p k removes bs at l =
+    rw (← required_none k k refl l)
+    (ap (λ r. Ok (r, at)) (plain_last k (λ e. omega arith) (λ e. omega arith) (λ e. omega arith) (λ e. omega arith) (λ e. omega arith)))

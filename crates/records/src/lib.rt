@@ -248,17 +248,16 @@ fn with_procedure(
     Ok(((place(removes, at), called), end))
 }
 
-// "then only the fields whose bit stands in the map, lowest bit first": the record of this kind, whose map has bit 0 or not.
-#[tactic(auto, using(crate::proofs::ReadingAtAPlace::fields_are_read), unfolding(crate::specs::Fields::fields_at, crate::specs::Fields::with_number, crate::specs::Fields::with_numbers, crate::specs::Fields::with_procedure, crate::specs::Fields::plain_record, crate::specs::Fields::touch_record, crate::specs::Fields::comparison_record))]
-pub fn read_fields(
+// The fields of a record of this kind, whose map has bit 0 or not.
+#[tactic(auto, unfolding(crate::specs::Fields::fields_at, crate::specs::Fields::with_number, crate::specs::Fields::with_numbers, crate::specs::Fields::with_procedure, crate::specs::Fields::plain_record, crate::specs::Fields::touch_record, crate::specs::Fields::comparison_record))]
+fn fields_of_kind(
     table: &[u8],
     at: usize,
     kind: Kind,
     removes: bool,
     p: u8,
 ) -> Result<(Record, usize), Refusal>
-    ensures value { result ≡ fields_at p (kind_number kind) removes table.now at }
-    ensures fields_read { FieldsRead p (kind_number kind) removes table.now at result }
+    ensures { result ≡ fields_at p (kind_number kind) removes table.now at }
 {
     match kind {
         Kind::Skip => Ok((Record::Skip, at)),
@@ -294,11 +293,31 @@ pub fn read_fields(
     }
 }
 
-// Is this the map of a record of this kind? "Bit 0 is optional for kinds 1, 4 and 5; every other bit is required or forbidden."
-pub fn permitted(kind: Kind, map: u8) -> bool
-    ensures { result ≡ model.permitted (kind_number kind) map }
+// "then only the fields whose bit stands in the map, lowest bit first": the record of the kind that a byte stands for, whose map has bit 0 or not. Behind a byte that
+// is no kind stands no field.
+#[tactic(auto, using(crate::proofs::ReadingAtAPlace::fields_are_read, crate::proofs::ReadingAtAPlace::fields_of_none))]
+pub fn read_fields(
+    table: &[u8],
+    at: usize,
+    kind: u8,
+    removes: bool,
+    p: u8,
+) -> Result<(Record, usize), Refusal>
+    ensures value { result ≡ fields_at p kind removes table.now at }
+    ensures fields_read { FieldsRead p kind removes table.now at result }
 {
-    let bits = MAPS[kind as usize];
+    match Kind::try_from(kind) {
+        Ok(kind) => fields_of_kind(table, at, kind, removes, p),
+        Err(_) => Ok((Record::Skip, at)),
+    }
+}
+
+// Is this the map of a record of this kind? "Bit 0 is optional for kinds 1, 4 and 5; every other bit is required or forbidden."
+// Of a byte that is no kind only the empty map is.
+pub fn permitted(kind: u8, map: u8) -> bool
+    ensures { result ≡ model.permitted kind map }
+{
+    let bits = MAPS.get(kind as usize).copied().unwrap_or(0);
     let required = bits % 16;
     map == required || map == required + bits / 16
 }

@@ -60,6 +60,7 @@ impl Source<'_> {
     fn read_contents(self, at: usize, map: u8, kind: Kind) -> Result<(Record, usize), Refusal>
         ensures { result ≡ contents_at self.entry.p map (kind_number kind) self.entry.table.now at }
     {
+        let kind = kind as u8;
         if !permitted(kind, map) {
             return Err(Refusal::WrongMap);
         }
