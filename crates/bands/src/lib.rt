@@ -14,7 +14,7 @@ ghost use Rattle.bands.specs.Starts.{drawn_from, started};
 use answers::PageBand;
 use circuit::read_whole;
 use limits::{BAND_GATES, HEADER_LENGTH, MOST_CIRCUIT, Refusal, WIRE_COUNT};
-use marks::{Column, mark_band};
+use marks::{Column, Columns, mark_band};
 use text::Writer;
 
 // "a mark and three dashes"
@@ -113,8 +113,8 @@ fn draw(bytes: &[u8], gates: &[u8], most: u8, text: &mut [u8]) -> PageBand
     ensures value { result ≡ band_answer (drawn_from bytes.now gates.now most) }
     ensures text_after { text.new ≡ text_after (drawn_from bytes.now gates.now most) text.old }
 {
-    let mut columns = [[b'-'; WIRE_COUNT]; BAND_GATES as usize];
-    let Some((count, left)) = mark_band(&mut columns, gates, most) else {
+    let mut columns: Columns = [[b'-'; WIRE_COUNT]; BAND_GATES as usize];
+    let Some((count, left)) = mark_band(&mut columns[..], gates, most) else {
         return refused();
     };
     // On each row the wire number's four columns, four for each gate, and a newline.

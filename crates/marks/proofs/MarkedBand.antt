@@ -1,7 +1,6 @@
 -- The gates of a band, one column for each: what the loop of `mark_band` keeps.
 use Rattle.std.proofs.Common.{◌≡◌, ℕ, zero, suc, ◌+◌, ◌-◌, ◌≤◌, ◌<◌, List, length, get_or, set, refl, arith, add-one, eq-eqb, rules}
 use Rattle.std.specs.Prelude.{[], None}
-use Rattle.std.proofs.lemmas.List.{set-get_or}
 use borrow.Author.Tests.{ne_eqb}
 use Rattle.model.specs.Limits.{not_well_formed}
 use Rattle.model.specs.Reading.{Input, Parsed, parsed, refused, and_then}
@@ -32,10 +31,9 @@ module _ (most column : ℕ) (left : List ℕ) (kept : List (List ℕ)) (whole :
   unfolding mark_from settled
   band_full h = let z : band_gates - column ≡ 0 = omega arith in rw (inv, z)
 
-  -- the column that was lent is as it was
-  pub band_ended : length left ≡ 0 → parsed (record { count = column; columns = set kept column (get_or kept column []) }) (input_of left) ≡ settled whole
+  pub band_ended : length left ≡ 0 → parsed (record { count = column; columns = kept }) (input_of left) ≡ settled whole
   unfolding settled
-  band_ended e = rw (inv, from_end_lem most (band_gates - column) column (input_of left) kept e, set-get_or kept column [])
+  band_ended e = rw (inv, from_end_lem most (band_gates - column) column (input_of left) kept e)
 
   module _ (l : column < band_gates) (f : length left ≡ 0 → ⊥) where
     pub band_none : refused not_well_formed ≡ settled (read_gate most (input_of left)) → band_parsed None kept ≡ settled whole

@@ -1,7 +1,7 @@
 // Document 02, S-1: the marks of the gates of one band, a column for each gate and in it a byte for each number of a wire. Each gate is decoded once.
 #![tactic(auto)]
 
-ghost use Rattle.std.specs.Prelude.{◌≡◌, ◌≤◌, MatchOption, ⊤};
+ghost use Rattle.std.specs.Prelude.{◌≡◌, ◌≤◌, MatchOption, ⊤, [], set, get_or};
 ghost use Rattle.model.specs.Circuit.{wires};
 ghost use Rattle.model.specs.Page.{band_gates, bar};
 ghost use Rattle.circuit.specs.GatesInBytes.{input_of, settled, gate_in, controls_in};
@@ -91,20 +91,32 @@ fn mark_gate(column: &mut Column, gate: &Gate<'_>)
     }
 }
 
-// The marks of at most nineteen gates over wires 1 to `most`, as many as the input has: how many, and the input behind them.
+// A gate's marks in its column, where there is one.
+#[tactic(auto, using(std::proofs::lemmas::List::set_past))]
+fn mark_column(columns: &mut [Column], at: usize, gate: &Gate<'_>)
+    ensures { columns.new ≡ set columns.old at (mark_gate (gate_in gate.now) (get_or columns.old at [])) }
+{
+    if at < columns.len() {
+        mark_gate(&mut columns[at], gate);
+    }
+}
+
+// The marks of at most nineteen gates over wires 1 to `most`, as many as the input has: how many, and the input behind them. By index: a gate past the last column
+// is read too.
 #[tactic(auto, using(crate::proofs::MarkedBand::banding))]
-pub fn mark_band<'a>(columns: &mut Columns, input: &'a [u8], most: u8) -> Option<(usize, &'a [u8])>
+pub fn mark_band<'a>(columns: &mut [Column], input: &'a [u8], most: u8) -> Option<(usize, &'a [u8])>
     ensures value { band_parsed result columns.new ≡ settled (mark_from most band_gates 0 (input_of input.now) columns.old) }
     ensures few { MatchOption result ⊤ (λ band. band.0 ≤ band_gates) }
 {
+    let most_gates = BAND_GATES as usize;
     let mut left = input;
-    for (count, column) in columns.iter_mut().enumerate() {
+    for count in 0..most_gates {
         if left.is_empty() {
             return Some((count, left));
         }
         let (gate, rest) = read_gate(left, most)?;
-        mark_gate(column, &gate);
+        mark_column(columns, count, &gate);
         left = rest;
     }
-    Some((columns.len(), left))
+    Some((most_gates, left))
 }
