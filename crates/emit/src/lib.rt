@@ -125,7 +125,7 @@ fn emit_bodies(
     if emission.state.refusal.is_some() {
         return;
     }
-    if let Some(d) = seek(&emission.slots, base, last, emission.state.next) {
+    if let Some(d) = seek(&emission.slots, base, last as u64, emission.state.next) {
         let precedence = slot_in(&emission.slots, d).precedence;
         emit_body(program, k, base, precedence, d, room, emission);
     }

@@ -221,14 +221,14 @@ pub fn above_length(m: u8) -> u32
 
 // The slot that opens the next body: of the slots from `base` on and before `upto` with a nonempty list, the first of the greatest precedence below `last`; none where
 // no slot has one. One look over the slots.
-pub fn seek(slots: &Slots, base: u16, last: u32, upto: u16) -> Option<u16>
+pub fn seek(slots: &Slots, base: u16, last: u64, upto: u16) -> Option<u16>
     ensures { MatchOption result (NoneWaits slots.now base last upto) (λ d. NextSlot slots.now base last upto d) }
 {
     let mut greatest = 255;
     // no Option in the loop: it would be one more test for each slot
     let mut best = upto;
     for a in base..upto {
-        let number = slot_in(slots, a).precedence;
+        let number = slot_in(slots, a).precedence as u64;
         if number < last {
             if greatest < number {
                 greatest = number;
