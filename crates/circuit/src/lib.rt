@@ -1,7 +1,7 @@
 // "The circuit": a circuit's bytes are read and checked (refusal 14).
 #![tactic(auto)]
 
-ghost use Rattle.std.specs.Prelude.{◌≡◌, ◌<◌, []};
+ghost use Rattle.std.specs.Prelude.{◌≡◌, ◌<◌, [], drop, MatchOption, ⊤};
 ghost use Rattle.model.specs.Circuit.{wire_list, read_gate, read_gates, gate_is_well_formed};
 ghost use Rattle.model.specs.Reading.{optional, stands};
 ghost use Rattle.model.specs.Answers.{circuit_read};
@@ -9,7 +9,7 @@ ghost use Rattle.circuit.specs.GatesInBytes.{input_of, settled, fills, list_read
 ghost use Rattle.circuit.specs.GateChecks.{misfits, list_fits, set_of, any_in, placed, own_wires};
 ghost use Rattle.circuit.specs.Header.{counts_fit, circuit_after, header_given};
 ghost use Rattle.answers.specs.Structs.{header_of, refused_header};
-ghost use Rattle.model.specs.Limits.{not_well_formed};
+ghost use Rattle.model.specs.Limits.{header_length, not_well_formed};
 
 use answers::CircuitHeader;
 use limits::{CIRCUIT_EDITION, MOST_CIRCUIT, MOST_QUBITS, MOST_WIRES, Refusal, WIRE_COUNT};
@@ -216,12 +216,13 @@ fn counts_fit(qubits: u8, ancillas: u8) -> bool
 // which no reading of gates gives a circuit. Either way whoever reads on from the answer ends as the definition does, in 14.
 #[tactic(auto, using(crate::proofs::CircuitReading::headers))]
 pub fn read_header(bytes: &[u8]) -> Option<(Header, &[u8])>
-    ensures { circuit_after result ≡ circuit_read bytes.now }
+    ensures circuit { circuit_after result ≡ circuit_read bytes.now }
+    ensures gates { MatchOption result ⊤ (λ p. p.1.now ≡ drop header_length bytes.now) }
 {
     if MOST_CIRCUIT < bytes.len() {
         return None;
     }
-    let [edition, qubits, ancillas, a, b, c, d, gates @ ..] = bytes else {
+    let [edition, qubits, ancillas, a, b, c, d, behind @ ..] = bytes else {
         return None;
     };
     if *edition != CIRCUIT_EDITION {
@@ -236,7 +237,7 @@ pub fn read_header(bytes: &[u8]) -> Option<(Header, &[u8])>
         wires: *qubits + *ancillas,
         gates: u32::from_le_bytes([*a, *b, *c, *d]),
     };
-    Some((header, gates))
+    Some((header, behind))
 }
 
 // "14 circuit not well formed": "A refusal gives its number and otherwise zeros."
@@ -255,6 +256,7 @@ pub fn refused() -> CircuitHeader
 pub fn read_whole(bytes: &[u8]) -> Option<(Header, &[u8])>
     ensures circuit { circuit_after result ≡ circuit_read bytes.now }
     ensures header { header_given result ≡ header_of (circuit_read bytes.now) }
+    ensures gates { MatchOption result ⊤ (λ p. p.1.now ≡ drop header_length bytes.now) }
 {
     let (header, gates) = read_header(bytes)?;
     if !gates_fill(gates, header.wires, header.gates) {
