@@ -7,14 +7,15 @@ use native.Mathlib.Omega.{arith}
 use mir.Syntax.{w8}
 use mir.Val.{Fits}
 use borrow.Author.Tests.{eq-eqb, ne_eqb}
-use lib.ListN.{length, length-append}
+use lib.ListN.{length, length-append, take}
+use Rattle.std.proofs.lemmas.List.{take_all}
 use lib.Seq.{append_snoc}
 use Rattle.std.specs.Prelude.{Option, Some, None}
 use Rattle.limits.specs.Sizes.{set_length}
 use Rattle.model.specs.Limits.{most_wires}
 use Rattle.model.specs.Gates.{swap_of, exchange}
 use Rattle.model.specs.Emission.{Event, places, under, swaps}
-use Rattle.model.proofs.BooleanLaws.{by_eq}
+use Rattle.model.proofs.BooleanLaws.{by_eq, by_lt}
 use Rattle.model.proofs.ListLaws.{member_head, member_tail}
 use Rattle.sets.specs.Sets.{members_of}
 use Rattle.sets.proofs.Members.{members_length}
@@ -23,7 +24,7 @@ use Rattle.lookup.specs.declared.plan.Plan.{Plan}
 use Rattle.lookup.specs.Entries.{counted, wire_at, kept, empty, built, moved, tracked, accesses}
 use Rattle.lookup.specs.Plans.{pairs_of, swaps_along, Within, PlansSwaps, same_swaps, holder, Names, pair_of, PlansSwap, names_again, swap_count}
 use Rattle.lookup.proofs.CountedEntries.{counted_sum, goes_from, stays_there, tracked_count}
-use Rattle.lookup.proofs.TrackedWires.{holder_next, names_built, names_stays, names_goes}
+use Rattle.lookup.proofs.TrackedWires.{holder_next, names_begun, names_stays, names_goes}
 
 along_next : (e : ℕ) (ps : List (ℕ × ℕ)) (u v : ℕ) → swaps_along e (ps ++ ((u, v) ∷ [])) ≡ swaps_along e ps ++ (places (swap_of (under e) u v) ∷ [])
 unfolding swaps_along
@@ -152,7 +153,7 @@ plan_starts n f t l ps ks ws fits e p fk fw = rw (fk, fw)
     let none : length ps ≡ 0 = rw p in
     let count : l.count ≡ 2 * n = rw e (built_count n few) in
     record {
-      before_k = λ df dl. record { names = rw (e, p) (names_built n few); wires = df; qubits = dl; tracking = λ a. rw (p, holders_none (members_of t)) };
+      before_k = λ df dl. record { names = rw (e, p) (names_begun n few); wires = df; qubits = dl; tracking = λ a. rw (p, holders_none (members_of t)) };
       few = few;
       short = omega (arith, members_length f);
       pairs = omega arith;
@@ -199,3 +200,9 @@ module _ (n : ℕ) (first later : List ℕ) (l : Lookup) (r : Plan) (ks ws : Lis
     (none : min (length ks) (length ws) ≡ 0) where
   pub plan_ends : PlansSwaps n first later r
   plan_ends = same_swaps (λ df dl e. let B = P.before_k df dl in sym (B.tracking e ∙ rw (nothing_left e (pairs_of r) ks ws none) (append-nil (swaps_along e (pairs_of r)))))
+
+-- where there is room for no more, the first of them are all
+pub few_pairs : (xs : List (ℕ × ℕ)) (n k : ℕ) → length xs ≡ n → take (min n k) xs ≡ take k xs
+few_pairs xs n k e = by_lt k n
+    (λ l. let m : min n k ≡ k = omega arith in rw m)
+    (λ l. let m : min n k ≡ n = omega arith in rw m (take_all n xs (omega arith) ∙ sym (take_all k xs (omega arith))))

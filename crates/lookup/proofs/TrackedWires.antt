@@ -91,34 +91,40 @@ module _ (l : Lookup) (q w : ℕ) where
   unfolding kept
   qubit_other y n = get_or-set_other l.qubits w y q 0 n
 
--- a lookup as it is built: each qubit on its own wire
-built_sized : (last : ℕ) → Sized (built empty last)
-unfolding built empty
-built_sized zero = record { wires = refl; qubits = refl }
-built_sized (suc last) = kept_sized (built empty last) (suc last) (suc last) (built_sized last)
+-- a lookup that was sized and in which 0 is no qubit and no wire, as it is built: each qubit on its own wire
+module _ (l : Lookup) (sized : Sized l) (none : wire_at l 0 ≡ 0) (no_qubit : qubit_at l 0 ≡ 0) where
+  built_sized : (last : ℕ) → Sized (built l last)
+  unfolding built
+  built_sized zero = sized
+  built_sized (suc last) = kept_sized (built l last) (suc last) (suc last) (built_sized last)
 
-built_wire : (last q : ℕ) → last ≤ most_wires → q ≤ last → wire_at (built empty last) q ≡ q
-unfolding built empty
-built_wire zero q h k = let e : q ≡ 0 = omega arith in rw e
-built_wire (suc last) q h k = by_eq q (suc last)
-    (λ e. rw e (wire_same (built empty last) (suc last) (suc last) (built_sized last) h))
-    (λ n. wire_other (built empty last) (suc last) (suc last) q n ∙ built_wire last q (omega arith) (omega arith))
+  built_wire : (last q : ℕ) → last ≤ most_wires → q ≤ last → wire_at (built l last) q ≡ q
+  unfolding built
+  built_wire zero q h k = let e : q ≡ 0 = omega arith in rw e none
+  built_wire (suc last) q h k = by_eq q (suc last)
+      (λ e. rw e (wire_same (built l last) (suc last) (suc last) (built_sized last) h))
+      (λ n. wire_other (built l last) (suc last) (suc last) q n ∙ built_wire last q (omega arith) (omega arith))
 
-built_qubit : (last w : ℕ) → last ≤ most_wires → w ≤ last → qubit_at (built empty last) w ≡ w
-unfolding built empty
-built_qubit zero w h k = let e : w ≡ 0 = omega arith in rw e
-built_qubit (suc last) w h k = by_eq w (suc last)
-    (λ e. rw e (qubit_same (built empty last) (suc last) (suc last) (built_sized last) h))
-    (λ n. qubit_other (built empty last) (suc last) (suc last) w n ∙ built_qubit last w (omega arith) (omega arith))
+  built_qubit : (last w : ℕ) → last ≤ most_wires → w ≤ last → qubit_at (built l last) w ≡ w
+  unfolding built
+  built_qubit zero w h k = let e : w ≡ 0 = omega arith in rw e no_qubit
+  built_qubit (suc last) w h k = by_eq w (suc last)
+      (λ e. rw e (qubit_same (built l last) (suc last) (suc last) (built_sized last) h))
+      (λ n. qubit_other (built l last) (suc last) (suc last) w n ∙ built_qubit last w (omega arith) (omega arith))
 
-pub names_built : (last : ℕ) → last ≤ most_wires → Names last (built empty last) []
-unfolding holder held
-names_built last h = record {
-  wires = λ q k. built_wire last q h k;
-  qubits = λ w k. built_qubit last w h k;
-  inside = inside_none last;
-  sized = built_sized last;
-}
+  pub names_built : (last : ℕ) → last ≤ most_wires → Names last (built l last) []
+  unfolding holder held
+  names_built last h = record {
+    wires = λ q k. built_wire last q h k;
+    qubits = λ w k. built_qubit last w h k;
+    inside = inside_none last;
+    sized = built_sized last;
+  }
+
+-- so one that was empty
+pub names_begun : (last : ℕ) → last ≤ most_wires → Names last (built empty last) []
+unfolding empty
+names_begun = names_built empty (record { wires = refl; qubits = refl }) refl refl
 
 -- a lookup after one swap more: qubit q goes to wire `to`, and the qubit that it pushes away to the wire where q was
 module _ (last : ℕ) (l : Lookup) (ps : List (ℕ × ℕ)) (q from to : ℕ) (few : last ≤ most_wires) (N : Names last l ps) (hq : q ≤ last) (ht : to ≤ last) (is : from ≡ wire_at l q) (apart : from ≢ to) where

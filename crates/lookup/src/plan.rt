@@ -1,6 +1,6 @@
 // The swaps of an entry, as they are planned.
 
-ghost use Rattle.std.specs.Prelude.{◌≡◌, ◌≤◌, ◌<◌, ◌++◌, [], ◌∷◌, length};
+ghost use Rattle.std.specs.Prelude.{◌≡◌, ◌<◌, ◌++◌, [], ◌∷◌, length};
 ghost use Rattle.limits.specs.Sizes.{set_length};
 
 use limits::SET_LENGTH;
@@ -9,10 +9,9 @@ use limits::SET_LENGTH;
 // were read and written for them.
 #[derive(Clone, Copy)]
 pub struct Plan {
-    pairs: [(u8, u8); SET_LENGTH],
-    len: u8,
+    pub pairs: [(u8, u8); SET_LENGTH],
+    pub len: u8,
     pub touched: u16,
-    ghost fits: { len ≤ set_length },
 }
 
 impl Plan {
@@ -29,11 +28,12 @@ impl Plan {
         }
     }
 
-    // The pairs, in order.
+    // The pairs, in order. There are no more than there is room for.
+    #[tactic(auto, using(crate::proofs::PlannedSwaps::few_pairs))]
     pub fn pairs(&self) -> &[(u8, u8)]
         ensures { result.now ≡ pairs_of self.now }
     {
-        &self.pairs[..self.len as usize]
+        &self.pairs[..SET_LENGTH.min(self.len as usize)]
     }
 
     // A pair more, behind the others.
