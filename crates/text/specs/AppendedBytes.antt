@@ -19,6 +19,10 @@ next_place at = place_after at 1
 abbrev pub nothing_put : MutBor (List ℕ) → Writer
 nothing_put text = record { text = text; at = 0 }
 
+-- a writer that puts its next byte at this place
+abbrev pub put_up_to : ℕ → MutBor (List ℕ) → Writer
+put_up_to at text = record { text = text; at = at }
+
 -- one byte more
 abbrev pub put_one : ℕ → Writer → Writer
 put_one b w = record { text = record w.text { now = set w.text.now w.at b }; at = next_place w.at }

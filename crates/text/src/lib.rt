@@ -3,7 +3,7 @@
 
 ghost use Rattle.std.specs.Prelude.{◌≡◌, [], ◌∷◌, length};
 ghost use Rattle.model.specs.Listing.{decimal, refusal_line};
-ghost use Rattle.text.specs.AppendedBytes.{nothing_put, last_two, puts};
+ghost use Rattle.text.specs.AppendedBytes.{nothing_put, put_up_to, last_two, puts};
 
 // How many decimal digits a number has.
 #[tactic(auto, using(crate::proofs::DecimalText::digits_between, crate::proofs::DecimalText::decimal_low))]
@@ -29,7 +29,14 @@ impl<'a> Writer<'a> {
         Writer { text, at: 0 }
     }
 
-    // How many bytes were put: how long a text takes them all.
+    // A writer that puts its first byte at a place of the text, past its end too.
+    pub fn from_place(text: &'a mut [u8], at: usize) -> Writer<'a>
+        ensures { result ≡ put_up_to at text.entry }
+    {
+        Writer { text, at }
+    }
+
+    // The place behind the bytes that were put. From the text's beginning that is how many they are: how long a text takes them all.
     pub fn length(&self) -> usize
         ensures { result ≡ self.now.at }
     {
