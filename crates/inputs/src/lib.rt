@@ -49,7 +49,7 @@ pub fn argument(rt: &impl Env, i: usize, room: &mut [u8]) -> usize
 }
 
 // The input that argument i names. Where it cannot be opened there is none, and the error is printed.
-fn open<R: Env + Files + Input + Eprint + AllocGlobal>(
+pub fn open<R: Env + Files + Input + Eprint + AllocGlobal>(
     rt: &R,
     i: usize,
 ) -> Option<Source<R::Reader, R::File>> {
@@ -70,6 +70,9 @@ fn open<R: Env + Files + Input + Eprint + AllocGlobal>(
         }
     }
 }
+
+// Standard input stays open.
+pub fn close<S: Drop, F: Drop>(_source: Source<S, F>) {}
 
 // Visits each input of a program in turn: standard input where no argument names one, otherwise the named ones that can be opened. Which these are no clause can say.
 pub fn each<R, V>(rt: &R, mut visit: V)
