@@ -146,7 +146,7 @@ module _ (g : decoded.Program) where
     call_spent (q ∷ l) fuel word e = rw e
 
     -- so does one with an empty list
-    call_empty : (list fuel word : ℕ) → list ≡ 0 → word ≡ called g f (members_of list) fuel word
+    pub call_empty : (list fuel word : ℕ) → list ≡ 0 → word ≡ called g f (members_of list) fuel word
     unfolding call_words
     call_empty list fuel word e = rw (e, members_empty)
 

@@ -9,7 +9,9 @@ use Rattle.model.specs.Lists.{value}
 use Rattle.model.specs.Lists as model
 use Rattle.model.proofs.BooleanLaws.{by_bool}
 use Rattle.records.specs.declared.Number.{Number}
-use Rattle.records.specs.Fields.{number_of}
+use Rattle.records.specs.Fields.{based, number_of}
+use Rattle.model.specs.Reading.{signed16}
+use Rattle.decoded.proofs.RecordsOfAProgram.{number_kept}
 use Rattle.sets.specs.Sets.{members_of}
 use Rattle.records.specs.declared.Number.TheVariants as base
 use Rattle.records.specs.declared.Record.{Record}
@@ -33,6 +35,10 @@ unfolding kept sum_of value_of number_of
 kept_fair (base.Constant z) s = refl
 kept_fair (base.SizePlus z) s = by_bool (lt_z (pos most_constant) z) (λ t. rw t) (λ t. rw (t, t))
 kept_fair (base.LeftPlus z) s = by_bool (lt_z (pos most_constant) z) (λ t. rw t) (λ t. rw (t, t))
+
+-- so a number of the table
+pub fair : (b low high : ℕ) → Fair (based b (signed16 low high))
+fair b low high = rw (number_kept b low high) at (kept_fair (based b (signed16 low high)))
 
 none_fair : Fair no_number
 unfolding value_of number_of
