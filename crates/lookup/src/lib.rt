@@ -91,6 +91,7 @@ impl Lookup {
         ensures plans_swap { PlansSwap q wire self.old (pairs_of plan.old) self.new (pairs_of plan.new) }
         ensures pairs_after { length (pairs_of plan.new) ≡ length (pairs_of plan.old) + swap_count (wire_at self.old q) wire }
         ensures count_after { self.new.count ≡ counted self.old.count (accesses self.old q wire) }
+        ensures fits { plan.new.len ≤ set_length }
     {
         if let Some(from) = self.track(q, wire) {
             plan.push(from, wire);
@@ -104,6 +105,7 @@ pub fn plan_swaps(n: u8, first: QubitSet, later: QubitSet) -> Plan
     ensures plans_swaps { PlansSwaps n (members_of first) (members_of later) result }
     ensures touched_value { result.touched ≡ entries_touched n (members_of first) (members_of later) (length (pairs_of result)) }
     ensures touched_bound { result.touched ≤ 4 * n + 8 * length (members_of later) }
+    ensures fits { result.len ≤ set_length }
 {
     let mut lookup = Lookup::build(n);
     let mut plan = Plan::new();

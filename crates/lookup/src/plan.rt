@@ -1,6 +1,6 @@
 // The swaps of an entry, as they are planned.
 
-ghost use Rattle.std.specs.Prelude.{◌≡◌, ◌<◌, ◌++◌, [], ◌∷◌, length};
+ghost use Rattle.std.specs.Prelude.{◌≡◌, ◌≤◌, ◌<◌, ◌++◌, [], ◌∷◌, length, min};
 ghost use Rattle.limits.specs.Sizes.{set_length};
 
 use limits::SET_LENGTH;
@@ -19,7 +19,8 @@ impl Plan {
 
     // No swap yet.
     pub(crate) fn new() -> Self
-        ensures { pairs_of result ≡ [] }
+        ensures pairs { pairs_of result ≡ [] }
+        ensures fits { result.len ≤ set_length }
     {
         Plan {
             pairs: [(0, 0); SET_LENGTH],
@@ -31,7 +32,8 @@ impl Plan {
     // The pairs, in order. There are no more than there is room for.
     #[tactic(auto, using(crate::proofs::PlannedSwaps::few_pairs))]
     pub fn pairs(&self) -> &[(u8, u8)]
-        ensures { result.now ≡ pairs_of self.now }
+        ensures value { result.now ≡ pairs_of self.now }
+        ensures count { length result.now ≡ min self.now.len set_length }
     {
         &self.pairs[..SET_LENGTH.min(self.len as usize)]
     }
@@ -39,7 +41,8 @@ impl Plan {
     // A pair more, behind the others.
     pub(crate) fn push(&mut self, from: u8, to: u8)
         requires { length (pairs_of self.old) < set_length }
-        ensures { pairs_of self.new ≡ pairs_of self.old ++ ((from, to) ∷ []) }
+        ensures pairs { pairs_of self.new ≡ pairs_of self.old ++ ((from, to) ∷ []) }
+        ensures fits { self.new.len ≤ set_length }
     {
         self.pairs[self.len as usize] = (from, to);
         self.len += 1;

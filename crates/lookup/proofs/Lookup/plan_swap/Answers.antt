@@ -4,10 +4,10 @@ use Rattle.lookup.proofs.PlannedSwaps.{swap_counted, swap_planned, one_more, swa
 use Rattle.lookup.proofs.Lookup.plan_swap.Goals as goal
 
 pub returns-in-Some-clause-plans_swap : goal.returns-in-Some-clause-plans_swap
-returns-in-Some-clause-plans_swap c = swap_planned _ _ _ _ _ _ _ c.track.ensures.value c.track.ensures.after _ c.in-Some.is c.push.ensures
+returns-in-Some-clause-plans_swap c = swap_planned _ _ _ _ _ _ _ c.track.ensures.value c.track.ensures.after _ c.in-Some.is c.push.ensures.pairs
 
 pub returns-in-Some-clause-pairs_after : goal.returns-in-Some-clause-pairs_after
-returns-in-Some-clause-pairs_after c = one_more _ _ _ _ _ _ _ c.track.ensures.value c.track.ensures.after _ c.in-Some.is c.push.ensures
+returns-in-Some-clause-pairs_after c = one_more _ _ _ _ _ _ _ c.track.ensures.value c.track.ensures.after _ c.in-Some.is c.push.ensures.pairs
 
 pub returns-in-Some-clause-count_after : goal.returns-in-Some-clause-count_after
 returns-in-Some-clause-count_after c = swap_counted _ _ _ _ [] [] _ c.track.ensures.value c.track.ensures.after
