@@ -100,7 +100,7 @@ impl Lookup {
 }
 
 // "for k = 1 up to the length, swap, under the entry ancilla, the wire now holding the k-th qubit of the later list with the k-th wire of the first list,
-// unless equal": the pairs of wires, for lists of qubits 1 to n. The lookup covers exactly these.
+// unless equal": the pairs of wires, for lists of qubits 1 to n. The lookup covers exactly these. No more are planned than a plan has room for.
 pub fn plan_swaps(n: u8, first: QubitSet, later: QubitSet) -> Plan
     ensures plans_swaps { PlansSwaps n (members_of first) (members_of later) result }
     ensures touched_value { result.touched ≡ entries_touched n (members_of first) (members_of later) (length (pairs_of result)) }
